@@ -48,7 +48,8 @@ upto_are_bytes zero bits = All-nil (λ byte. byte < 2 ^ 8)
 upto_are_bytes (suc n) [] = All-nil (λ byte. byte < 2 ^ 8)
 upto_are_bytes (suc n) (b ∷ bits) =
     let long : length (take 8 (b ∷ bits ++ replicate 7 false)) ≡ 8 = length-take-le 8 (b ∷ bits ++ replicate 7 false) (omega (arith, length-append bits (replicate 7 false))) in
-    All-cons (λ byte. byte < 2 ^ 8) (number (take 8 (b ∷ bits ++ replicate 7 false))) (bytes_upto n (drop 7 bits)) (eight_below (take 8 (b ∷ bits ++ replicate 7 false)) long) (upto_are_bytes n (drop 7 bits))
+    All-cons (λ byte. byte < 2 ^ 8) (number (take 8 (b ∷ bits ++ replicate 7 false))) (bytes_upto n (drop 7 bits))
+    (eight_below (take 8 (b ∷ bits ++ replicate 7 false)) long) (upto_are_bytes n (drop 7 bits))
 
 -- bits as bytes
 pub bits_are_bytes : (bits : Bits) → AreBytes (as_bytes bits)

@@ -50,14 +50,16 @@ bits_of_high (suc k) n =
 -- the first bytes have the first bits
 begins_bytes : (k : ℕ) (bytes : List ℕ) → Begins (bits_of (take k bytes)) (bits_of bytes)
 begins_bytes k bytes =
-    subst (Begins (bits_of (take k bytes))) (sym (ap bits_of (sym (take-append-drop k bytes)) ∙ bits_of_append (take k bytes) (drop k bytes))) (begins_append (bits_of (take k bytes)) (bits_of (drop k bytes)))
+    subst (Begins (bits_of (take k bytes))) (sym (ap bits_of (sym (take-append-drop k bytes)) ∙ bits_of_append (take k bytes) (drop k bytes)))
+    (begins_append (bits_of (take k bytes)) (bits_of (drop k bytes)))
 
 -- eight bytes and the bits of the number that they are
 pub bits_of_word : (bytes : List ℕ) (n : ℕ) → length bytes ≡ 8 → ((i : ℕ) → slice_index bytes i < 256) → n ≡ from_be_bytes w64 bytes → digits 64 n ≡ bits_of bytes
 bits_of_word bytes n long small is = sym (bits_of_high 8 n) ∙ ap bits_of (be_bytes_8 bytes n long small is)
 
 -- the eight bytes from an index on
-pub word_within : (bytes eight : List ℕ) (index end word : ℕ) → end ≡ index + 8 → end ≤ length bytes → eight ≡ take 8 (slice_range bytes index end) → digits 64 word ≡ bits_of eight → IsWordIn bytes index word
+pub word_within : (bytes eight : List ℕ) (index end word : ℕ) → end ≡ index + 8 → end ≤ length bytes → eight ≡ take 8 (slice_range bytes index end) →
+    digits 64 word ≡ bits_of eight → IsWordIn bytes index word
 word_within bytes eight index end word e long is bits =
     let all : end - index ≡ 8 = omega arith in
     let same : eight ≡ take 8 (drop index bytes) = is ∙ ap (λ n. take 8 (take n (drop index bytes))) all ∙ take-take 8 8 (drop index bytes) (omega arith) in
@@ -90,7 +92,9 @@ page_word size held page file at index word some is offset agrees found =
     let place : size * (at / size) + index ≡ at = rw offset (div-add-mod at size) in
     let same : drop index page ≡ take (size - index) (drop at file) = ap (drop index) here ∙ page_from size (at / size) index at file below place in
     let first : Begins (digits 64 word) (bits_of (take (size - index) (drop at file))) = subst (λ b. Begins (digits 64 word) (bits_of b)) same found.bits in
-    subst (Begins (digits 64 word)) (sym (drop_bits at file)) (begins_through (digits 64 word) (bits_of (take (size - index) (drop at file))) (bits_of (drop at file)) first (begins_bytes (size - index) (drop at file)))
+    subst (Begins (digits 64 word)) (sym (drop_bits at file))
+    (begins_through (digits 64 word) (bits_of (take (size - index) (drop at file))) (bits_of (drop at file)) first
+    (begins_bytes (size - index) (drop at file)))
 
 -- eight bytes on one page
 pub holds_word : (f : Feeding) (at : ℕ) → f.held ≡ Some (at / f.page) → (at + 7) / f.page ≡ at / f.page → HoldsBits f (8 * at) 64
@@ -109,10 +113,13 @@ pub word_middle : (word skip : ℕ) (s : Bits) → skip ≤ 7 → Begins (digits
 word_middle word skip s few begins =
     let e : skip + (57 + (7 - skip)) ≡ 64 = omega arith in
     let low : ℕ = word / 2 ^ (7 - skip) in
-    let first : Begins (digits skip (word / 2 ^ (57 + (7 - skip))) ++ digits (57 + (7 - skip)) word) s = subst (λ d. Begins d s) (ap (λ n. digits n word) (sym e) ∙ digits_split skip (57 + (7 - skip)) word) begins in
+    let first : Begins (digits skip (word / 2 ^ (57 + (7 - skip))) ++ digits (57 + (7 - skip)) word) s =
+    subst (λ d. Begins d s) (ap (λ n. digits n word) (sym e) ∙ digits_split skip (57 + (7 - skip)) word) begins in
     let second : Begins (digits (57 + (7 - skip)) word) (drop skip s) =
-    subst (λ n. Begins (digits (57 + (7 - skip)) word) (drop n s)) (length_digits skip (word / 2 ^ (57 + (7 - skip)))) (begins_second (digits skip (word / 2 ^ (57 + (7 - skip)))) (digits (57 + (7 - skip)) word) s first) in
-    let third : Begins (digits 57 low) (drop skip s) = begins_first (digits 57 low) (digits (7 - skip) word) (drop skip s) (subst (λ d. Begins d (drop skip s)) (digits_split 57 (7 - skip) word) second) in
+    subst (λ n. Begins (digits (57 + (7 - skip)) word) (drop n s)) (length_digits skip (word / 2 ^ (57 + (7 - skip))))
+    (begins_second (digits skip (word / 2 ^ (57 + (7 - skip)))) (digits (57 + (7 - skip)) word) s first) in
+    let third : Begins (digits 57 low) (drop skip s) = begins_first (digits 57 low) (digits (7 - skip) word) (drop skip s)
+    (subst (λ d. Begins d (drop skip s)) (digits_split 57 (7 - skip) word) second) in
     subst (λ d. Begins d (drop skip s)) (sym (digits_mod 57 57 low (omega arith))) third
 
 -- the first of them
@@ -133,7 +140,8 @@ holds_inside f a p n m some from more to holds =
 pub read_held : (f : Feeding) (d : Device) (place count : ℕ) → 0 < count → HoldsBits f place count → Read f f d d place (place + count)
 read_held f d place count some holds =
     let lt : place < place + count = omega arith in
-    let none : to_read f.page f.held place (place + count) ≡ 0 = to_read_some f.page f.held place (place + count) lt ∙ omega (arith, holds.last, lacks_held f.held (page_of f.page place) holds.first) in
+    let none : to_read f.page f.held place (place + count) ≡ 0 = to_read_some f.page f.held place (place + count) lt
+    ∙ omega (arith, holds.last, lacks_held f.held (page_of f.page place) holds.first) in
     record {
       calm = calm_none f d;
       pages = record { device = λ part own. omega (arith, none); feed = omega (arith, none) };
@@ -148,7 +156,8 @@ told_word size held page name at index (Some n) None some is offset word agrees 
 told_word size held page name at index (Some n) (Some f) some is offset word agrees = page_word size held page (bytes_at (Some f) name) at index n some is offset (agrees refl) word
 
 -- they lie on the page
-pub held_word : (f : Feeding) (at index : ℕ) (page : List ℕ) (found : Option ℕ) → f.held ≡ Some (at / f.page) → (index + 8 ≤ length page → (at + 7) / f.page ≡ at / f.page) → IfSome found (IsWordIn page index) → IfSome found (λ word. HoldsBits f (8 * at) 64)
+pub held_word : (f : Feeding) (at index : ℕ) (page : List ℕ) (found : Option ℕ) → f.held ≡ Some (at / f.page) →
+    (index + 8 ≤ length page → (at + 7) / f.page ≡ at / f.page) → IfSome found (IsWordIn page index) → IfSome found (λ word. HoldsBits f (8 * at) 64)
 held_word f at index page None held last word = tt
 held_word f at index page (Some n) held last word = holds_word f at held (last word.within)
 
@@ -158,7 +167,8 @@ told_in_memory bytes at None word = tt
 told_in_memory bytes at (Some n) word = subst (Begins (digits 64 n)) (sym (drop_bits at bytes)) word.bits
 
 -- what is told of the bits within eight bytes
-pub told_middle : (told : Option (List ℕ)) (at skip place word : ℕ) → skip ≤ 7 → place ≡ 8 * at + skip → FromPlace told (8 * at) (Begins (digits 64 word)) → FromPlace told place (Begins (digits 57 (word / 2 ^ (7 - skip) % 2 ^ 57)))
+pub told_middle : (told : Option (List ℕ)) (at skip place word : ℕ) → skip ≤ 7 → place ≡ 8 * at + skip → FromPlace told (8 * at) (Begins (digits 64 word)) →
+    FromPlace told place (Begins (digits 57 (word / 2 ^ (7 - skip) % 2 ^ 57)))
 told_middle None at skip place word few is begins = tt
 told_middle (Some bytes) at skip place word few is begins =
     let e : drop skip (drop (8 * at) (bits_of bytes)) ≡ drop place (bits_of bytes) = drop-drop skip (8 * at) (bits_of bytes) ∙ ap (λ n. drop n (bits_of bytes)) (sym is) in

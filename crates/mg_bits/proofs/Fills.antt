@@ -17,14 +17,17 @@ use Rattle.mg_bits.proofs.Places.{slice_get-drop}
 use Rattle.mg_bits.proofs.Ranges.{within_piece, held_piece, read_more, part_more, part_wider}
 
 -- one byte more
-pub filled_more : (buf bytes : List ℕ) (at i byte : ℕ) → i < length buf → take i buf ≡ take i (drop at bytes) → Some byte ≡ slice_get bytes (at + i) → take (i + 1) (set buf i byte) ≡ take (i + 1) (drop at bytes)
+pub filled_more : (buf bytes : List ℕ) (at i byte : ℕ) → i < length buf → take i buf ≡ take i (drop at bytes) → Some byte ≡ slice_get bytes (at + i) →
+    take (i + 1) (set buf i byte) ≡ take (i + 1) (drop at bytes)
 filled_more buf bytes at i byte within before is =
     let there : slice_get (drop at bytes) i ≡ Some byte = slice_get-drop at bytes i ∙ sym is in
     let short : i < length (drop at bytes) = slice_get_within (drop at bytes) i byte there in
-    take_more_set buf i byte within ∙ ap (λ r. r ++ byte ∷ []) before ∙ ap (λ b. take i (drop at bytes) ++ b ∷ []) (sym (get_or_from_slice_get (drop at bytes) i byte byte there)) ∙ sym (take_more (drop at bytes) i byte short)
+    take_more_set buf i byte within ∙ ap (λ r. r ++ byte ∷ []) before ∙ ap (λ b. take i (drop at bytes) ++ b ∷ [])
+    (sym (get_or_from_slice_get (drop at bytes) i byte byte there)) ∙ sym (take_more (drop at bytes) i byte short)
 
 -- bytes of a page, copied behind the first ones of a buffer
-pub page_copied : (size : ℕ) (held : Option ℕ) (items buf piece file : List ℕ) (kept at index from count : ℕ) → 0 < size → held ≡ Some (at / size) → index ≡ at % size → IsPageIn size held (take kept items) file →
+pub page_copied : (size : ℕ) (held : Option ℕ) (items buf piece file : List ℕ) (kept at index from count : ℕ) → 0 < size → held ≡ Some (at / size) →
+    index ≡ at % size → IsPageIn size held (take kept items) file →
     kept ≤ size → kept ≤ length items → index + count ≤ kept → from + count ≤ length buf → piece ≡ slice_range items index (index + count) →
     take (from + count) (put_mid from (from + count - from) buf piece) ≡ take from buf ++ take count (drop at file)
 page_copied size held items buf piece file kept at index from count some is offset agrees short long within room copied =
@@ -42,7 +45,8 @@ page_copied size held items buf piece file kept at index from count some is offs
     take-put_mid from (from + count - from) buf piece (from + count) (omega arith) (omega arith) ∙ ap (λ l. take from buf ++ l) piece_is
 
 -- what was copied behind the first bytes
-pub filled_on : (old buf bytes : List ℕ) (at i n p q : ℕ) → p ≡ at + i → q ≡ i + n → take q buf ≡ take i old ++ take n (drop p bytes) → take i old ≡ take i (drop at bytes) → take q buf ≡ take q (drop at bytes)
+pub filled_on : (old buf bytes : List ℕ) (at i n p q : ℕ) → p ≡ at + i → q ≡ i + n → take q buf ≡ take i old ++ take n (drop p bytes) →
+    take i old ≡ take i (drop at bytes) → take q buf ≡ take q (drop at bytes)
 filled_on old buf bytes at i n p q here next copied before =
     copied ∙ ap (λ l. l ++ take n (drop p bytes)) before ∙ ap (λ k. take i (drop at bytes) ++ take n (drop k bytes)) here
     ∙ ap (λ l. take i (drop at bytes) ++ take n l) (sym (drop-drop i at bytes)) ∙ sym (take-add i n (drop at bytes)) ∙ ap (λ k. take k (drop at bytes)) (sym next)

@@ -37,15 +37,26 @@ grown-grown : (files : Option Files) (name a b : List ℕ) → grown (grown file
 grown-grown files name a b = written-grown files name (bytes_at files name ++ a) b ∙ ap (λ p. written files name p) (append_assoc (bytes_at files name) a b)
 
 -- then a piece behind them
-pub grew_through : {E : Type 0} (old mid new : Option Files) (name own held piece : List ℕ) (r : Result (Unit {0}) E) → mid ≡ grown old own held → name ≡ own → AfterAppend mid new name piece r → GrewInPart old new own (held ++ piece)
+pub grew_through : {E : Type 0} (old mid new : Option Files) (name own held piece : List ℕ) (r : Result (Unit {0}) E) → mid ≡ grown old own held → name ≡ own →
+    AfterAppend mid new name piece r → GrewInPart old new own (held ++ piece)
 grew_through old mid new name own held piece r e same after = by_case r (subst (λ n. AfterAppend mid new n piece r) same after)
   where
     by_case : {E : Type 0} (r : Result (Unit {0}) E) → AfterAppend mid new own piece r → GrewInPart old new own (held ++ piece)
     by_case (Ok u) out =
-        inr (length (held ++ piece), omega arith, out ∙ ap (λ f. grown f own piece) e ∙ grown-grown old own held piece ∙ ap (λ p. grown old own p) (sym (take_all (length (held ++ piece)) (held ++ piece) (omega arith))))
+        inr (
+          length (held ++ piece),
+          omega arith,
+          out ∙ ap (λ f. grown f own piece) e ∙ grown-grown old own held piece
+              ∙ ap (λ p. grown old own p) (sym (take_all (length (held ++ piece)) (held ++ piece) (omega arith))),
+        )
     by_case (Err x) (inl still) = grew_held old new own held piece (still ∙ e)
     by_case (Err x) (inr (k, within, grew)) =
-        inr (length held + k, omega (arith, length-append held piece), grew ∙ ap (λ f. grown f own (take k piece)) e ∙ grown-grown old own held (take k piece) ∙ ap (λ p. grown old own p) (sym (take-append-add held piece k)))
+        inr (
+          length held + k,
+          omega (arith, length-append held piece),
+          grew ∙ ap (λ f. grown f own (take k piece)) e ∙ grown-grown old own held (take k piece)
+              ∙ ap (λ p. grown old own p) (sym (take-append-add held piece k)),
+        )
 
 -- ---- bits
 
@@ -76,11 +87,13 @@ by_bytes before now name bytes bits more (inr (k, within, e)) is told =
     let out : Bits = bits_of (take k bytes) in
     let halves : bits_of bytes ≡ out ++ bits_of (drop k bytes) = ap bits_of (sym (take-append-drop k bytes)) ∙ bits_of_append (take k bytes) (drop k bytes) in
     let all : bits ≡ out ++ (bits_of (drop k bytes) ++ more) = is ∙ ap (λ l. l ++ more) halves ∙ append_assoc out (bits_of (drop k bytes)) more in
-    let file : bytes_at now name ≡ bytes_at before name ++ take k bytes = ap (λ f. bytes_at f name) e ∙ ap (λ o. unwrap_or o []) (file_at-written before name (bytes_at before name ++ take k bytes) told) in
+    let file : bytes_at now name ≡ bytes_at before name ++ take k bytes = ap (λ f. bytes_at f name) e
+    ∙ ap (λ o. unwrap_or o []) (file_at-written before name (bytes_at before name ++ take k bytes) told) in
     record {
       count = length out;
       within = omega (arith, ap length all, length-append out (bits_of (drop k bytes) ++ more));
-      is = ap bits_of file ∙ bits_of_append (bytes_at before name) (take k bytes) ∙ ap (λ l. bits_of (bytes_at before name) ++ l) (sym (ap (λ l. take (length out) l) all ∙ take-append_seam out (bits_of (drop k bytes) ++ more)));
+      is = ap bits_of file ∙ bits_of_append (bytes_at before name) (take k bytes) ∙ ap (λ l. bits_of (bytes_at before name) ++ l)
+          (sym (ap (λ l. take (length out) l) all ∙ take-append_seam out (bits_of (drop k bytes) ++ more)));
     }
 
 -- a byte sent to the bytes that are written
@@ -102,14 +115,16 @@ held_few bytes count rest few small = omega (arith, length-append (bits_of bytes
 -- ---- calls one after the other
 
 -- bits behind bits that were written
-pub bits_through : (w0 w1 : BitWriting) (f0 f1 f2 : Option Files) (s p : Bits) → is_some f1 ≡ is_some f0 → GrewBits w0.name f0 f1 (w0.buffered ++ s) → WroteBits w0 w1 f0 f1 s → GrewBits w1.name f1 f2 (w1.buffered ++ p) → GrewBits w0.name f0 f2 (w0.buffered ++ (s ++ p))
+pub bits_through : (w0 w1 : BitWriting) (f0 f1 f2 : Option Files) (s p : Bits) → is_some f1 ≡ is_some f0 → GrewBits w0.name f0 f1 (w0.buffered ++ s) →
+    WroteBits w0 w1 f0 f1 s → GrewBits w1.name f1 f2 (w1.buffered ++ p) → GrewBits w0.name f0 f2 (w0.buffered ++ (s ++ p))
 bits_through w0 w1 f0 f1 f2 s p same one wrote two told =
     by_more (bits_of (bytes_at f0 w0.name)) (bits_of (bytes_at f1 w0.name)) (bits_of (bytes_at f2 w0.name)) w0.buffered w1.buffered s p (one told)
     (ap (λ n. bits_of (bytes_at f1 n) ++ w1.buffered) (sym wrote.name) ∙ wrote.told told)
     (subst (λ n. GrewBy (bits_of (bytes_at f1 n)) (bits_of (bytes_at f2 n)) (w1.buffered ++ p)) wrote.name (two (same ∙ told)))
 
 -- then what is held goes out
-pub bits_out : (w0 w1 : BitWriting) (f0 f1 f2 : Option Files) (s : Bits) → is_some f1 ≡ is_some f0 → GrewBits w0.name f0 f1 (w0.buffered ++ s) → WroteBits w0 w1 f0 f1 s → GrewBits w1.name f1 f2 w1.buffered → GrewBits w0.name f0 f2 (w0.buffered ++ s)
+pub bits_out : (w0 w1 : BitWriting) (f0 f1 f2 : Option Files) (s : Bits) → is_some f1 ≡ is_some f0 → GrewBits w0.name f0 f1 (w0.buffered ++ s) →
+    WroteBits w0 w1 f0 f1 s → GrewBits w1.name f1 f2 w1.buffered → GrewBits w0.name f0 f2 (w0.buffered ++ s)
 bits_out w0 w1 f0 f1 f2 s same one wrote two told =
     let whole : GrewBits w1.name f1 f2 (w1.buffered ++ []) = λ t. subst (λ l. GrewBy (bits_of (bytes_at f1 w1.name)) (bits_of (bytes_at f2 w1.name)) l) (sym (append-nil w1.buffered)) (two t) in
     subst (λ l. GrewBy (bits_of (bytes_at f0 w0.name)) (bits_of (bytes_at f2 w0.name)) (w0.buffered ++ l)) (append-nil s) (bits_through w0 w1 f0 f1 f2 s [] same one wrote whole told)
@@ -121,7 +136,8 @@ first_digits count left value within =
     sym (digits_append (count - left) left (value / 2 ^ left) (value % 2 ^ left) (mod_below value (2 ^ left) (pow_pos left)))
     ∙ ap (digits (count - left + left)) (shr_split value left) ∙ ap (λ m. digits m value) n
 
-pub bits_front : (name : List ℕ) (f0 f1 : Option Files) (held : Bits) (count left value : ℕ) → left ≤ count → GrewBits name f0 f1 (held ++ digits (count - left) (value / 2 ^ left)) → GrewBits name f0 f1 (held ++ digits count value)
+pub bits_front : (name : List ℕ) (f0 f1 : Option Files) (held : Bits) (count left value : ℕ) → left ≤ count →
+    GrewBits name f0 f1 (held ++ digits (count - left) (value / 2 ^ left)) → GrewBits name f0 f1 (held ++ digits count value)
 bits_front name f0 f1 held count left value within grew told =
     let rest : Bits = digits left (value % 2 ^ left) in
     let first : Bits = digits (count - left) (value / 2 ^ left) in

@@ -19,25 +19,29 @@ on_page bytes n at index is small =
     (q, omega arith)
 
 -- a place that is kept is on the page that is held
-pub kept_at : (bytes : ℕ) (held : Option ℕ) (first count at : ℕ) → IsFirst held bytes first count → count ≤ bytes → first ≤ at → at - first < count → (held ≡ Some (at / bytes)) × (at - first ≡ at % bytes)
+pub kept_at : (bytes : ℕ) (held : Option ℕ) (first count at : ℕ) → IsFirst held bytes first count → count ≤ bytes → first ≤ at → at - first < count →
+    (held ≡ Some (at / bytes)) × (at - first ≡ at % bytes)
 kept_at bytes None first count at is within low high = absurd (omega (arith, is.0 refl, high))
 kept_at bytes (Some n) first count at is within low high =
     let found = on_page bytes n at (at - first) (omega (arith, is.1 n refl)) (omega arith) in
     (ap Some (sym found.0), sym found.1)
 
 -- a place on the page that is held, with so many bytes from it on
-has_bytes : (count bytes : ℕ) (held : Option ℕ) (page file : List ℕ) (at : ℕ) → 0 < count → 0 < bytes → held ≡ Some (at / bytes) → (at + count - 1) / bytes ≡ at / bytes → IsPageIn bytes held page file → at + count ≤ length file → at % bytes + count ≤ length page
+has_bytes : (count bytes : ℕ) (held : Option ℕ) (page file : List ℕ) (at : ℕ) → 0 < count → 0 < bytes → held ≡ Some (at / bytes) →
+    (at + count - 1) / bytes ≡ at / bytes → IsPageIn bytes held page file → at + count ≤ length file → at % bytes + count ≤ length page
 has_bytes count bytes held page file at one some is last agrees long =
     let here : page ≡ take bytes (drop (bytes * (at / bytes)) file) = subst (λ h. IsPageIn bytes h page file) is agrees in
     let place : bytes * (at / bytes) + at % bytes ≡ at = div-add-mod at bytes in
     let end : bytes * ((at + count - 1) / bytes) + (at + count - 1) % bytes ≡ at + count - 1 = div-add-mod (at + count - 1) bytes in
     let same : bytes * ((at + count - 1) / bytes) ≡ bytes * (at / bytes) = ap (λ n. bytes * n) last in
     let small : (at + count - 1) % bytes < bytes = omega arith in
-    let size : length page ≡ min bytes (length file - bytes * (at / bytes)) = ap length here ∙ (length-take bytes (drop (bytes * (at / bytes)) file) ∙ ap (λ n. min bytes n) (length-drop (bytes * (at / bytes)) file)) in
+    let size : length page ≡ min bytes (length file - bytes * (at / bytes)) = ap length here
+    ∙ (length-take bytes (drop (bytes * (at / bytes)) file) ∙ ap (λ n. min bytes n) (length-drop (bytes * (at / bytes)) file)) in
     omega (arith, place, end, same, small, size, long)
 
 -- where the page that is held has so many bytes from a place on, the window keeps them
-must_have : (count bytes : ℕ) (held : Option ℕ) (first at reads : ℕ) (page name : List ℕ) (part : Part) (files : Option Files) → 0 < count → 0 < bytes → ((number : ℕ) → held ≡ Some number → first ≡ bytes * number) →
+must_have : (count bytes : ℕ) (held : Option ℕ) (first at reads : ℕ) (page name : List ℕ) (part : Part) (files : Option Files) → 0 < count → 0 < bytes →
+    ((number : ℕ) → held ≡ Some number → first ≡ bytes * number) →
     (IsSome files → IsPageIn bytes held page (bytes_at files name)) → HasBits (over_file name part bytes held reads) files (8 * at) (8 * count) → (first ≤ at) × (at - first + count ≤ length page)
 must_have count bytes None first at reads page name part files one some is agrees has =
     let h : None ≡ Some (page_of bytes (8 * at)) = has.holds.first in absurd cc
@@ -68,7 +72,8 @@ must_have_byte bytes held first count at reads page name part files some is agre
     (have.0, omega (arith, have.1))
 
 -- a byte that is kept is the file's, where the files are told
-pub told_here : (bytes : ℕ) (held : Option ℕ) (page name : List ℕ) (at index : ℕ) (found : Option ℕ) (files : Option Files) → 0 < bytes → held ≡ Some (at / bytes) → index ≡ at % bytes → found ≡ slice_get page index →
+pub told_here : (bytes : ℕ) (held : Option ℕ) (page name : List ℕ) (at index : ℕ) (found : Option ℕ) (files : Option Files) → 0 < bytes →
+    held ≡ Some (at / bytes) → index ≡ at % bytes → found ≡ slice_get page index →
     (IsSome files → IsPageIn bytes held page (bytes_at files name)) → IfSome found (λ byte. IfSome (told_at files name) (λ all. Some byte ≡ slice_get all at))
 told_here bytes held page name at index None files some is offset get agrees = tt
 told_here bytes held page name at index (Some byte) None some is offset get agrees = tt

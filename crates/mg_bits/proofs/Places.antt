@@ -33,7 +33,16 @@ slice_get-take (suc n) (x ∷ xs) (suc i) h = slice_get-take n xs i (omega arith
 
 -- the part of a number
 part_at : ℕ → Part
-part_at n = cond (nat_eq n 0) Head (cond (nat_eq n 1) Words (cond (nat_eq n 2) Nonwords (cond (nat_eq n 3) Text (cond (nat_eq n 4) Places (cond (nat_eq n 5) Lex (cond (nat_eq n 6) LexAt (cond (nat_eq n 7) Post (cond (nat_eq n 8) Skip (cond (nat_eq n 9) Weights (cond (nat_eq n 10) Run (cond (nat_eq n 11) MergeA (cond (nat_eq n 12) MergeB (Plain)))))))))))))
+part_at n =
+    cond (nat_eq n 0) Head
+    (cond (nat_eq n 1) Words
+    (cond (nat_eq n 2) Nonwords
+    (cond (nat_eq n 3) Text
+    (cond (nat_eq n 4) Places
+    (cond (nat_eq n 5) Lex
+    (cond (nat_eq n 6) LexAt
+    (cond (nat_eq n 7) Post
+    (cond (nat_eq n 8) Skip (cond (nat_eq n 9) Weights (cond (nat_eq n 10) Run (cond (nat_eq n 11) MergeA (cond (nat_eq n 12) MergeB (Plain)))))))))))))
 
 part_at-number : (p : Part) → part_at (number p) ≡ p
 unfolding part_at
@@ -127,7 +136,8 @@ pub to_read_byte : (page : ℕ) (held : Option ℕ) (at : ℕ) → to_read page 
 to_read_byte page held at = to_read_here page held (8 * at) ∙ ap (lacks held) (page_of_byte page at)
 
 -- a held page has the byte
-pub paged_byte : (bytes : ℕ) (page : List ℕ) (held : Option ℕ) (file : List ℕ) (at : ℕ) → 0 < bytes → held ≡ Some (at / bytes) → IsPageIn bytes held page file → slice_get page (at % bytes) ≡ slice_get file at
+pub paged_byte : (bytes : ℕ) (page : List ℕ) (held : Option ℕ) (file : List ℕ) (at : ℕ) → 0 < bytes → held ≡ Some (at / bytes) → IsPageIn bytes held page file →
+    slice_get page (at % bytes) ≡ slice_get file at
 paged_byte bytes page None file at some is agrees = absurd cc
 paged_byte bytes page (Some number) file at some is agrees =
     let n : number ≡ at / bytes = cc in
@@ -156,7 +166,8 @@ to_read_place page held place =
     to_read_here page held (8 * (place / 8)) ∙ ap (lacks held) (page_of_place page place) ∙ sym (to_read_here page held place)
 
 -- what is told of a file of a store
-pub told_file : (files : Option Files) (name : List ℕ) (got : Option ℕ) (at : ℕ) → (IsSome files → got ≡ slice_get (bytes_at files name) at) → IfSome (told_at files name) (λ bytes. got ≡ slice_get bytes at)
+pub told_file : (files : Option Files) (name : List ℕ) (got : Option ℕ) (at : ℕ) → (IsSome files → got ≡ slice_get (bytes_at files name) at) →
+    IfSome (told_at files name) (λ bytes. got ≡ slice_get bytes at)
 told_file None name got at told = tt
 told_file (Some f) name got at told = told refl
 

@@ -17,7 +17,8 @@ wrote_written name x files now reads reads_now e same = record {
   reads = same;
 }
 
-pub wrote_reset : (name : List ℕ) (files now : Option Files) (reads reads_now : Reads) → (now ≡ files) ⊎ (now ≡ written files name []) → SameReads reads reads_now → WroteTo name files now reads reads_now
+pub wrote_reset : (name : List ℕ) (files now : Option Files) (reads reads_now : Reads) → (now ≡ files) ⊎ (now ≡ written files name []) →
+    SameReads reads reads_now → WroteTo name files now reads reads_now
 wrote_reset name files now reads reads_now (inl e) same = wrote_nothing name files now reads reads_now e same
 wrote_reset name files now reads reads_now (inr e) same = wrote_written name [] files now reads reads_now e same
 
@@ -25,10 +26,12 @@ wrote_reset name files now reads reads_now (inr e) same = wrote_written name [] 
 pub whole_page : (page : List ℕ) (used byte : ℕ) → used < length page → length page ≤ used + 1 → set page used byte ≡ take used page ++ byte ∷ []
 whole_page page used byte within last = sym (take_all (used + 1) (set page used byte) (omega (arith, length-set page used byte))) ∙ take_more_set page used byte within
 
-pub full_page : (files now : Option Files) (name page piece : List ℕ) (used byte : ℕ) → piece ≡ set page used byte → used < length page → length page ≤ used + 1 → now ≡ grown files name piece → IsSome files →
+pub full_page : (files now : Option Files) (name page piece : List ℕ) (used byte : ℕ) → piece ≡ set page used byte → used < length page →
+    length page ≤ used + 1 → now ≡ grown files name piece → IsSome files →
     bytes_at now name ++ [] ≡ (bytes_at files name ++ take used page) ++ byte ∷ []
 full_page files now name page piece used byte same within last e told =
-    append-nil (bytes_at now name) ∙ ap (λ f. bytes_at f name) e ∙ ap (λ o. unwrap_or o []) (file_at-written files name (bytes_at files name ++ piece) told) ∙ ap (λ t. bytes_at files name ++ t) (same ∙ whole_page page used byte within last)
+    append-nil (bytes_at now name) ∙ ap (λ f. bytes_at f name) e ∙ ap (λ o. unwrap_or o []) (file_at-written files name (bytes_at files name ++ piece) told)
+    ∙ ap (λ t. bytes_at files name ++ t) (same ∙ whole_page page used byte within last)
     ∙ sym (append_assoc (bytes_at files name) (take used page) (byte ∷ []))
 
 -- bytes that were appended once those before them were
@@ -38,13 +41,16 @@ wrote_through old mid files between now name piece (Ok u) before empty same is a
   name = before.name;
   bytes = λ told.
       let there : IsSome between = subst (λ b. b ≡ true) (sym same) told in
-      ap (λ b. bytes_at now mid.name ++ b) empty ∙ append-nil (bytes_at now mid.name) ∙ ap (λ f. bytes_at f mid.name) (after ∙ ap (λ n. grown between n piece) is) ∙ ap (λ o. unwrap_or o []) (file_at-written between mid.name (bytes_at between mid.name ++ piece) there)
+      ap (λ b. bytes_at now mid.name ++ b) empty ∙ append-nil (bytes_at now mid.name) ∙ ap (λ f. bytes_at f mid.name)
+      (after ∙ ap (λ n. grown between n piece) is) ∙ ap (λ o. unwrap_or o []) (file_at-written between mid.name (bytes_at between mid.name ++ piece) there)
       ∙ ap (λ b. b ++ piece) (sym (append-nil (bytes_at between mid.name)) ∙ ap (λ b. bytes_at between mid.name ++ b) (sym empty) ∙ before.bytes told ∙ append-nil (put_to old files));
 }
 wrote_through old mid files between now name piece (Err e) before empty same is after = tt
 
 -- an append after other writes
-pub wrote_behind : {E : Type 0} (files mid now : Option Files) (reads reads_mid reads_now : Reads) (name own piece : List ℕ) (r : Result (Unit {0}) E) → WroteTo own files mid reads reads_mid → name ≡ own → AfterAppend mid now name piece r → SameReads reads_mid reads_now → WroteTo own files now reads reads_now
+pub wrote_behind : {E : Type 0} (files mid now : Option Files) (reads reads_mid reads_now : Reads) (name own piece : List ℕ) (r : Result (Unit {0}) E) →
+    WroteTo own files mid reads reads_mid → name ≡ own → AfterAppend mid now name piece r → SameReads reads_mid reads_now →
+    WroteTo own files now reads reads_now
 wrote_behind files mid now reads reads_mid reads_now name own piece r wrote same after still = record {
   told = append-told mid now name piece r after ∙ wrote.told;
   others = λ n apart. append-others mid now name n piece r after (λ e. apart (e ∙ same)) ∙ wrote.others n apart;

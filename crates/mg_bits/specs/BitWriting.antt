@@ -39,4 +39,5 @@ pub record GrewBy (old new bits : Bits) : Type 0 where
 
 -- the bits of the file grew by the first of these
 abbrev pub GrewBits : List ℕ → Option Files → Option Files → Bits → Type 0
-GrewBits name files_before files_now bits = IsSome files_before → GrewBy (bits_of (bytes_at files_before name)) (bits_of (bytes_at files_now name)) bits
+GrewBits name files_before files_now bits = IsSome files_before →
+    GrewBy (bits_of (bytes_at files_before name)) (bits_of (bytes_at files_now name)) bits

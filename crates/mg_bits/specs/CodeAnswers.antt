@@ -17,7 +17,8 @@ abbrev pub AnswersCode : Result ℕ CodeErr → (ℕ → Type 0) → (ℕ → Bi
 AnswersCode (Ok x) within code limit place bits = Answers within code bits (value x)
 AnswersCode (Err Device) within code limit place bits = Unit {0}
 AnswersCode (Err (End at)) within code limit place bits = (at ≡ place) × Answers within code bits end
-AnswersCode (Err (Over at most)) within code limit place bits = (at ≡ place) × (most ≡ limit) × Answers within code bits over
+AnswersCode (Err (Over at most)) within code limit place bits = (at ≡ place) × (most ≡ limit)
+    × Answers within code bits over
 
 -- the number that stands there, or a device's failure
 abbrev pub IsGot : Result ℕ CodeErr → ℕ → Type 0
@@ -32,7 +33,8 @@ OnlyPagesOf within code old new before now place bits =
     (x : ℕ) → within x → Begins (code x) bits → ReadsWithin old new before now place (place + length (code x))
 
 -- where the code of a value stands at a reader's place, only pages on which it lies are read
-abbrev pub OnlyCodePages : {Fed Dev : Type 0} → (Fed → Feeding) → (Dev → Seen) → Reading Fed → Reading Fed → Dev → Dev → (ℕ → Type 0) → (ℕ → Bits) → Type 0
+abbrev pub OnlyCodePages : {Fed Dev : Type 0} → (Fed → Feeding) → (Dev → Seen) → Reading Fed → Reading Fed → Dev → Dev →
+    (ℕ → Type 0) → (ℕ → Bits) → Type 0
 OnlyCodePages feeding device old new before now within code = FromNext feeding device old before
     (OnlyPagesOf within code (feeding old.feed) (feeding new.feed) (device before) (device now) old.place)
 

@@ -59,7 +59,8 @@ pub record ReadsOwn (own : Option Part) (before now : Reads) : Type 0 where
 -- The device's count of the feed's part rose exactly as often as the feed counted a read, unless the feed's count stands at its end.
 pub record Counted (old new : Feeding) (before now : Reads) : Type 0 where
   pub later : old.count ≤ new.count
-  pub exact : (part : Part) → old.part ≡ Some part → new.count < 2 ^ 64 - 1 → now part ≡ raised (before part) (new.count - old.count)
+  pub exact : (part : Part) → old.part ≡ Some part → new.count < 2 ^ 64 - 1 →
+      now part ≡ raised (before part) (new.count - old.count)
 
 -- what every reading call keeps
 pub record Calm (old new : Feeding) (before now : Device) : Type 0 where
@@ -73,7 +74,8 @@ pub record Calm (old new : Feeding) (before now : Device) : Type 0 where
 
 -- The own count, the device's and the feed's, rises by at most the pages that have a bit of a range, less the first of them where it is held.
 pub record ReadsWithin (old new : Feeding) (before now : Device) (from to : ℕ) : Type 0 where
-  pub device : (part : Part) → old.part ≡ Some part → now.reads part ≤ before.reads part + to_read old.page old.held from to
+  pub device : (part : Part) → old.part ≡ Some part → now.reads part
+      ≤ before.reads part + to_read old.page old.held from to
   pub feed : new.count ≤ old.count + to_read old.page old.held from to
 
 -- the page that is held has all bits of a range that begins at a place
@@ -113,11 +115,13 @@ KeepsPage old new place = old.held ≡ Some (page_of old.page place) → new.hel
 
 -- whatever files a feed agrees with, its bytes are as an answer says
 abbrev pub ToldBytes : {T : Type 0} → Feeding → (Option Files → Type 0) → Option T → (T → List ℕ → Type 0) → Type 0
-ToldBytes feed fits result says = (files : Option Files) → fits files → IfSome result (λ answer. IfSome (feed.source files) (says answer))
+ToldBytes feed fits result says = (files : Option Files) → fits files →
+    IfSome result (λ answer. IfSome (feed.source files) (says answer))
 
 -- whatever files a feed agrees with, its bits from a place on are as an answer says
 abbrev pub ToldBits : {T : Type 0} → Feeding → (Option Files → Type 0) → ℕ → Option T → (T → Bits → Type 0) → Type 0
-ToldBits feed fits place result says = (files : Option Files) → fits files → IfSome result (λ answer. FromPlace (feed.source files) place (says answer))
+ToldBits feed fits place result says = (files : Option Files) → fits files →
+    IfSome result (λ answer. FromPlace (feed.source files) place (says answer))
 
 -- the bytes of a file, where the store tells its files; a missing file has none
 abbrev pub told_at : Option Files → List ℕ → Option (List ℕ)
@@ -134,7 +138,13 @@ device_of files reads faults store = of_store (files store) (faults store) (read
 
 -- a feed over a file of a store
 abbrev pub over_file : List ℕ → Part → ℕ → Option ℕ → ℕ → Feeding
-over_file name part page held count = record { source = λ files. told_at files name; part = Some part; page = page; held = held; count = count }
+over_file name part page held count = record {
+  source = λ files. told_at files name;
+  part = Some part;
+  page = page;
+  held = held;
+  count = count;
+}
 
 -- a feed over bytes in memory
 abbrev pub over_slice : List ℕ → Feeding

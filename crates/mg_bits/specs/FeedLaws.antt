@@ -6,7 +6,8 @@ use Rattle.mg_bits.specs.Feed.{told_at}
 use Rattle.mg_bits.specs.Pages.{IsPageIn}
 
 -- a page agrees with each told store that holds the same bytes of its file
-pub same_page : (bytes : ℕ) (held : Option ℕ) (page name : List ℕ) (f g : Option Files) → told_at f name ≡ told_at g name →
+pub same_page : (bytes : ℕ) (held : Option ℕ) (page name : List ℕ) (f g : Option Files) →
+    told_at f name ≡ told_at g name →
     (IsSome f → IsPageIn bytes held page (bytes_at f name)) → IsSome g → IsPageIn bytes held page (bytes_at g name)
 same_page bytes held page name None None same agrees told = absurd cc
 same_page bytes held page name None (Some g) same agrees told = absurd cc

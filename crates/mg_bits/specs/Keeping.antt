@@ -9,7 +9,8 @@ use Rattle.mg_bits.specs.declared.kept_bits.KeptBits.{KeptBits}
 -- the page that is held has these bits at their place, whatever files the feed agrees with
 pub record AreKept (feed : Feeding) (fits : Option Files → Type 0) (kept : KeptBits) : Type 0 where
   pub held : HoldsBits feed kept.start kept.count
-  pub told : (files : Option Files) → fits files → FromPlace (feed.source files) kept.start (Begins (digits kept.count kept.word))
+  pub told : (files : Option Files) → fits files →
+      FromPlace (feed.source files) kept.start (Begins (digits kept.count kept.word))
 
 -- at most 64 bits are kept, and if there are any, they are bits of the page that is held
 pub record Keeps (feed : Feeding) (fits : Option Files → Type 0) (kept : KeptBits) : Type 0 where

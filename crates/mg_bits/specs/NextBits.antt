@@ -8,20 +8,24 @@ use Rattle.mg_bits.specs.Reader.{EndHolds}
 use Rattle.mg_bits.specs.declared.bit_err.BitErr.{BitErr}
 
 -- so many bits were read from the reader's place on
-abbrev pub ReadNext : {Fed Dev : Type 0} → (Fed → Feeding) → (Dev → Device) → Reading Fed → Reading Fed → Dev → Dev → ℕ → Type 0
+abbrev pub ReadNext : {Fed Dev : Type 0} → (Fed → Feeding) → (Dev → Device) → Reading Fed → Reading Fed → Dev → Dev →
+    ℕ → Type 0
 ReadNext feeding device old new before now count =
     Read (feeding old.feed) (feeding new.feed) (device before) (device now) old.place (old.place + count)
 
 -- some of so many bits were read from the reader's place on, and then the call was refused
-abbrev pub ReadNextPart : {Fed Dev : Type 0} → (Fed → Feeding) → (Dev → Device) → Reading Fed → Reading Fed → Dev → Dev → ℕ → Type 0
+abbrev pub ReadNextPart : {Fed Dev : Type 0} → (Fed → Feeding) → (Dev → Device) → Reading Fed → Reading Fed → Dev →
+    Dev → ℕ → Type 0
 ReadNextPart feeding device old new before now count =
     ReadPart (feeding old.feed) (feeding new.feed) (device before) (device now) old.place (old.place + count)
 
 -- a fact on the bits from the reader's place on, where the bytes are told
-abbrev pub FromNext : {Fed Dev : Type 0} → (Fed → Feeding) → (Dev → Device) → Reading Fed → Dev → (Bits → Type 0) → Type 0
+abbrev pub FromNext : {Fed Dev : Type 0} → (Fed → Feeding) → (Dev → Device) → Reading Fed → Dev → (Bits → Type 0) →
+    Type 0
 FromNext feeding device reader dev fact = FromPlace ((feeding reader.feed).source (device dev).files) reader.place fact
 
 -- where the bits end after the first of so many, and all of them lie on one page, that page is held
-abbrev pub NextEndHolds : {Fed Dev : Type 0} → (Fed → Feeding) → (Dev → Device) → Reading Fed → Reading Fed → Dev → ℕ → Result ℕ BitErr → Type 0
+abbrev pub NextEndHolds : {Fed Dev : Type 0} → (Fed → Feeding) → (Dev → Device) → Reading Fed → Reading Fed → Dev → ℕ →
+    Result ℕ BitErr → Type 0
 NextEndHolds feeding device old new before count result =
     FromNext feeding device old before (EndHolds result (feeding old.feed).page old.place count (feeding new.feed).held)

@@ -21,9 +21,11 @@ abbrev pub feeding_of : ℕ → Paging → Feeding
 feeding_of bytes feed = over_file feed.name feed.part bytes feed.held feed.count
 
 -- a step of a feed and its device, by a reader of pages of 4,096 bytes and its store
-abbrev pub AsFeed : {X : Type 0} → (X → Option Files) → (X → Reads) → (X → ℕ) → Paging → Paging → X → X → FeedStep → Type 0
+abbrev pub AsFeed : {X : Type 0} → (X → Option Files) → (X → Reads) → (X → ℕ) → Paging → Paging → X → X → FeedStep →
+    Type 0
 AsFeed files reads faults old new before now step =
-    step (feeding_of 4096 old) (feeding_of 4096 new) (device_of files reads faults before) (device_of files reads faults now)
+    step (feeding_of 4096 old) (feeding_of 4096 new) (device_of files reads faults before)
+    (device_of files reads faults now)
 
 -- a held page of so many bytes is that of the bytes of a file
 abbrev pub IsPageIn : ℕ → Option ℕ → List ℕ → List ℕ → Type 0
@@ -32,7 +34,8 @@ IsPageIn bytes (Some number) page file = page ≡ take bytes (drop (bytes * numb
 
 -- a kept page of so many bytes begins at this place; where none is kept there are no bytes
 abbrev pub IsFirst : Option ℕ → ℕ → ℕ → ℕ → Type 0
-IsFirst held bytes first count = (held ≡ None → count ≡ 0) × ((number : ℕ) → held ≡ Some number → first ≡ bytes * number)
+IsFirst held bytes first count = (held ≡ None → count ≡ 0)
+    × ((number : ℕ) → held ≡ Some number → first ≡ bytes * number)
 
 -- a held page is that of the bytes
 abbrev pub IsPageOf : Option ℕ → List ℕ → List ℕ → Type 0
@@ -48,14 +51,16 @@ pub record SameFile (old new : Paging) : Type 0 where
   pub part : new.part ≡ old.part
 
 -- a call that only reads, and that reads this part alone
-pub record Looked (part : Part) (files_before files_now : Option Files) (reads_before reads_now : Reads) (faults_before faults_now : ℕ) : Type 0 where
+pub record Looked (part : Part) (files_before files_now : Option Files) (reads_before reads_now : Reads)
+    (faults_before faults_now : ℕ) : Type 0 where
   pub files : files_now ≡ files_before
   pub faults : faults_before ≤ faults_now
   pub later : (p : Part) → reads_before p ≤ reads_now p
   pub others : (p : Part) → same_part p part ≡ false → reads_now p ≡ reads_before p
 
 -- a call that only reads, and that reads these two parts alone
-pub record LookedAt (one other : Part) (files_before files_now : Option Files) (reads_before reads_now : Reads) (faults_before faults_now : ℕ) : Type 0 where
+pub record LookedAt (one other : Part) (files_before files_now : Option Files) (reads_before reads_now : Reads)
+    (faults_before faults_now : ℕ) : Type 0 where
   pub files : files_now ≡ files_before
   pub faults : faults_before ≤ faults_now
   pub later : (p : Part) → reads_before p ≤ reads_now p

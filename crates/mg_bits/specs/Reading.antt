@@ -8,4 +8,5 @@ pub record Reading (F : Type 0) : Type 0 where
   pub place : ℕ
 
 abbrev pub reading_code : {F : Type 0} → Coded F → Coded (Reading F)
-reading_code {F} code = code_by (F × ℕ) (coded× code coded_ℕ) (λ r. (r.feed, r.place)) (λ p. record { feed = p.0; place = p.1 }) (λ _. refl)
+reading_code {F} code = code_by (F × ℕ) (coded× code coded_ℕ) (λ r. (r.feed, r.place))
+    (λ p. record { feed = p.0; place = p.1 }) (λ _. refl)

@@ -11,13 +11,16 @@ use Rattle.mg_bits.specs.declared.window.Window.{Window}
 
 -- where the files are told, the bytes that are kept are those of the file's page
 abbrev pub KeptFrom : FileRef → Window → List ℕ → Option Files → Type 0
-KeptFrom file window page files = IsSome files → IsPageIn (length page) window.held (take window.count page) (bytes_at files (file_name file))
+KeptFrom file window page files = IsSome files →
+    IsPageIn (length page) window.held (take window.count page) (bytes_at files (file_name file))
 
 -- a feed over a file, of which a buffer of so many bytes keeps a page
 abbrev pub over_window : FileRef → ℕ → Window → Feeding
 over_window file bytes window = over_file (file_name file) file.part bytes window.held window.reads
 
 -- a step of a feed and its device, by a file, the buffer as the call begins, what it keeps, and the store
-abbrev pub AsWindow : {X : Type 0} → (X → Option Files) → (X → Reads) → (X → ℕ) → FileRef → List ℕ → Window → Window → X → X → FeedStep → Type 0
+abbrev pub AsWindow : {X : Type 0} → (X → Option Files) → (X → Reads) → (X → ℕ) → FileRef → List ℕ → Window → Window →
+    X → X → FeedStep → Type 0
 AsWindow files reads faults file page old new before now step =
-    step (over_window file (length page) old) (over_window file (length page) new) (device_of files reads faults before) (device_of files reads faults now)
+    step (over_window file (length page) old) (over_window file (length page) new) (device_of files reads faults before)
+    (device_of files reads faults now)

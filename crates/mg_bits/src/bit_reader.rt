@@ -74,8 +74,10 @@ impl<F: Feed> BitReader<F> {
     #[inline]
     pub fn peek(&self) -> Option<u64>
         ensures below { IfSome result (λ next. next < 2 ^ 57) }
-        ensures told { ToldBits (F.feeding self.now.feed) (F.fits self.now.feed) self.now.place result (λ next. Begins (digits 57 next)) }
-        ensures held { IfSome result (λ next. HoldsBits (F.feeding self.now.feed) self.now.place 57) }
+        ensures told { ToldBits (F.feeding self.now.feed) (F.fits self.now.feed) self.now.place
+            result (λ next. Begins (digits 57 next)) }
+        ensures held { IfSome result
+            (λ next. HoldsBits (F.feeding self.now.feed) self.now.place 57) }
         ensures some { (files : Option Files) → F.fits self.now.feed files →
             HasBits (F.feeding self.now.feed) files (8 * (self.now.place / 8)) 64 → IsSome result }
     {
@@ -93,12 +95,17 @@ impl<F: Feed> BitReader<F> {
         requires some { 0 < count }
         requires room { self.old.place % 8 + count ≤ 8 }
         ensures fits { F.fits self.new.feed (F.device dev.new).files }
-        ensures read { OnOk result (ReadNext F.feeding F.device self.old self.new dev.old dev.new count) }
-        ensures part { OnErr result (ReadNextPart F.feeding F.device self.old self.new dev.old dev.new count) }
-        ensures place { MatchResult result (λ _. self.new.place ≡ self.old.place + count) (λ _. self.new.place ≡ self.old.place) }
+        ensures read { OnOk result (ReadNext F.feeding F.device self.old self.new dev.old dev.new
+            count) }
+        ensures part { OnErr result (ReadNextPart F.feeding F.device self.old self.new dev.old
+            dev.new count) }
+        ensures place { MatchResult result (λ _. self.new.place ≡ self.old.place + count)
+            (λ _. self.new.place ≡ self.old.place) }
         ensures below { IfOk result (λ value. value < 2 ^ count) }
-        ensures keeps { KeepsPage (F.feeding self.old.feed) (F.feeding self.new.feed) self.old.place }
-        ensures told { FromNext F.feeding F.device self.old dev.old (AnswersPiece result self.old.place count) }
+        ensures keeps { KeepsPage (F.feeding self.old.feed) (F.feeding self.new.feed)
+            self.old.place }
+        ensures told { FromNext F.feeding F.device self.old dev.old
+            (AnswersPiece result self.old.place count) }
         ensures cause { DeviceCause result (F.device dev.old).faults (F.device dev.new).faults }
     {
         let place = self.place;
@@ -120,11 +127,15 @@ impl<F: Feed> BitReader<F> {
         requires place { self.old.place + count < 2 ^ 64 }
         requires count { count ≤ 64 }
         ensures fits { F.fits self.new.feed (F.device dev.new).files }
-        ensures read { OnOk result (ReadNext F.feeding F.device self.old self.new dev.old dev.new count) }
-        ensures part { OnErr result (ReadNextPart F.feeding F.device self.old self.new dev.old dev.new count) }
-        ensures place { MatchResult result (λ _. self.new.place ≡ self.old.place + count) (λ _. self.new.place ≡ self.old.place) }
+        ensures read { OnOk result (ReadNext F.feeding F.device self.old self.new dev.old dev.new
+            count) }
+        ensures part { OnErr result (ReadNextPart F.feeding F.device self.old self.new dev.old
+            dev.new count) }
+        ensures place { MatchResult result (λ _. self.new.place ≡ self.old.place + count)
+            (λ _. self.new.place ≡ self.old.place) }
         ensures below { IfOk result (λ value. value < 2 ^ count) }
-        ensures told { FromNext F.feeding F.device self.old dev.old (AnswersBits result self.old.place count) }
+        ensures told { FromNext F.feeding F.device self.old dev.old
+            (AnswersBits result self.old.place count) }
         ensures end { NextEndHolds F.feeding F.device self.old self.new dev.old count result }
         ensures cause { DeviceCause result (F.device dev.old).faults (F.device dev.new).faults }
     {
@@ -146,11 +157,15 @@ impl<F: Feed> BitReader<F> {
         requires place { self.old.place + count < 2 ^ 64 }
         requires count { count ≤ 64 }
         ensures fits { F.fits self.new.feed (F.device dev.new).files }
-        ensures read { OnOk result (ReadNext F.feeding F.device self.old self.new dev.old dev.new count) }
-        ensures part { OnErr result (ReadNextPart F.feeding F.device self.old self.new dev.old dev.new count) }
-        ensures place { MatchResult result (λ _. self.new.place ≡ self.old.place + count) (λ _. self.new.place ≡ self.old.place) }
+        ensures read { OnOk result (ReadNext F.feeding F.device self.old self.new dev.old dev.new
+            count) }
+        ensures part { OnErr result (ReadNextPart F.feeding F.device self.old self.new dev.old
+            dev.new count) }
+        ensures place { MatchResult result (λ _. self.new.place ≡ self.old.place + count)
+            (λ _. self.new.place ≡ self.old.place) }
         ensures below { IfOk result (λ value. value < 2 ^ count) }
-        ensures told { FromNext F.feeding F.device self.old dev.old (AnswersBits result self.old.place count) }
+        ensures told { FromNext F.feeding F.device self.old dev.old
+            (AnswersBits result self.old.place count) }
         ensures end { NextEndHolds F.feeding F.device self.old self.new dev.old count result }
         ensures cause { DeviceCause result (F.device dev.old).faults (F.device dev.new).faults }
     {
@@ -180,10 +195,14 @@ impl<F: Feed> BitReader<F> {
         requires fits { F.fits self.old.feed (F.device dev.old).files }
         requires place { self.old.place + 1 < 2 ^ 64 }
         ensures fits { F.fits self.new.feed (F.device dev.new).files }
-        ensures read { OnOk result (ReadNext F.feeding F.device self.old self.new dev.old dev.new 1) }
-        ensures part { OnErr result (ReadNextPart F.feeding F.device self.old self.new dev.old dev.new 1) }
-        ensures place { MatchResult result (λ _. self.new.place ≡ self.old.place + 1) (λ _. self.new.place ≡ self.old.place) }
-        ensures told { FromNext F.feeding F.device self.old dev.old (AnswersBit result self.old.place) }
+        ensures read { OnOk result (ReadNext F.feeding F.device self.old self.new dev.old dev.new
+            1) }
+        ensures part { OnErr result (ReadNextPart F.feeding F.device self.old self.new dev.old
+            dev.new 1) }
+        ensures place { MatchResult result (λ _. self.new.place ≡ self.old.place + 1)
+            (λ _. self.new.place ≡ self.old.place) }
+        ensures told { FromNext F.feeding F.device self.old dev.old
+            (AnswersBit result self.old.place) }
         ensures cause { DeviceCause result (F.device dev.old).faults (F.device dev.new).faults }
     {
         match self.kept_bit() {
@@ -198,10 +217,14 @@ impl<F: Feed> BitReader<F> {
         requires fits { F.fits self.old.feed (F.device dev.old).files }
         requires place { self.old.place + 1 < 2 ^ 64 }
         ensures fits { F.fits self.new.feed (F.device dev.new).files }
-        ensures read { OnOk result (ReadNext F.feeding F.device self.old self.new dev.old dev.new 1) }
-        ensures part { OnErr result (ReadNextPart F.feeding F.device self.old self.new dev.old dev.new 1) }
-        ensures place { MatchResult result (λ _. self.new.place ≡ self.old.place + 1) (λ _. self.new.place ≡ self.old.place) }
-        ensures told { FromNext F.feeding F.device self.old dev.old (AnswersBit result self.old.place) }
+        ensures read { OnOk result (ReadNext F.feeding F.device self.old self.new dev.old dev.new
+            1) }
+        ensures part { OnErr result (ReadNextPart F.feeding F.device self.old self.new dev.old
+            dev.new 1) }
+        ensures place { MatchResult result (λ _. self.new.place ≡ self.old.place + 1)
+            (λ _. self.new.place ≡ self.old.place) }
+        ensures told { FromNext F.feeding F.device self.old dev.old
+            (AnswersBit result self.old.place) }
         ensures cause { DeviceCause result (F.device dev.old).faults (F.device dev.new).faults }
     {
         self.keep();
@@ -224,7 +247,8 @@ impl<F: Feed> BitReader<F> {
     fn kept_bit(&mut self) -> Option<bool>
         requires place { self.old.place + 1 < 2 ^ 64 }
         ensures feed { self.new.feed ≡ self.old.feed }
-        ensures told { ToldBits (F.feeding self.old.feed) (F.fits self.old.feed) self.old.place result (λ bit. Begins (bit ∷ [])) }
+        ensures told { ToldBits (F.feeding self.old.feed) (F.fits self.old.feed) self.old.place
+            result (λ bit. Begins (bit ∷ [])) }
         ensures held { OnSome result (HoldsBits (F.feeding self.old.feed) self.old.place 1) }
         ensures some { OnSome result (self.new.place ≡ self.old.place + 1) }
         ensures none { IfNone result (self.new.place ≡ self.old.place) }

@@ -41,12 +41,15 @@ impl<'a> BitWriter<'a> {
     /// A writer of a file, which it empties. It takes a buffer of a page.
     pub fn start<S: Store>(alloc: Global, store: &mut S, file: FileRef<'a>) -> Result<Self, PutErr>
         ensures name { IfOk result (λ w. w.name ≡ full_name file.entry.base.now file.entry.part) }
-        ensures empty { IsSome (S.files store.old) → IfOk result (λ w. bits_put w (S.files store.new) ≡ []) }
+        ensures empty { IsSome (S.files store.old) →
+            IfOk result (λ w. bits_put w (S.files store.new) ≡ []) }
         ensures place { IfOk result (λ w. w.place ≡ 0) }
         ensures holds { IfOk result (λ w. Holds w (S.files store.new)) }
         ensures held { IfOk result (λ w. length w.buffered < 32768) }
-        ensures started { AfterReset (S.files store.old) (S.files store.new) (full_name file.entry.base.now file.entry.part) result }
-        ensures wrote { WroteTo (full_name file.entry.base.now file.entry.part) (S.files store.old) (S.files store.new)
+        ensures started { AfterReset (S.files store.old) (S.files store.new)
+            (full_name file.entry.base.now file.entry.part) result }
+        ensures wrote { WroteTo (full_name file.entry.base.now file.entry.part) (S.files store.old)
+            (S.files store.new)
             (S.reads store.old) (S.reads store.new) }
         ensures cause { HasPutCause (S.faults store.old) (S.faults store.new) result }
     {
@@ -74,11 +77,14 @@ impl<'a> BitWriter<'a> {
         requires place { self.old.place ≤ 2 ^ 63 + 2 ^ 62 }
         requires count { count ≤ 64 }
         ensures holds { OnOk result (Holds self.new (S.files store.new)) }
-        ensures bits { OnOk result (WroteBits self.old self.new (S.files store.old) (S.files store.new) (digits count value)) }
-        ensures grew { GrewBits self.old.name (S.files store.old) (S.files store.new) (self.old.buffered ++ digits count value) }
+        ensures bits { OnOk result (WroteBits self.old self.new (S.files store.old)
+            (S.files store.new) (digits count value)) }
+        ensures grew { GrewBits self.old.name (S.files store.old) (S.files store.new)
+            (self.old.buffered ++ digits count value) }
         ensures held { length self.new.buffered < 32768 }
         ensures name { self.new.name ≡ self.old.name }
-        ensures wrote { WroteTo self.old.name (S.files store.old) (S.files store.new) (S.reads store.old) (S.reads store.new) }
+        ensures wrote { WroteTo self.old.name (S.files store.old) (S.files store.new)
+            (S.reads store.old) (S.reads store.new) }
         ensures cause { HasPutCause (S.faults store.old) (S.faults store.new) result }
     {
         let _ = &self.bytes; // opens the invariant
@@ -96,12 +102,15 @@ impl<'a> BitWriter<'a> {
         requires holds { Holds self.old (S.files store.old) }
         requires place { self.old.place ≤ 2 ^ 63 + 2 ^ 62 }
         ensures holds { OnOk result (Holds self.new (S.files store.new)) }
-        ensures bits { OnOk result (WroteBits self.old self.new (S.files store.old) (S.files store.new) (digits (to_byte self.old.place) 0)) }
-        ensures grew { GrewBits self.old.name (S.files store.old) (S.files store.new) (self.old.buffered ++ digits (to_byte self.old.place) 0) }
+        ensures bits { OnOk result (WroteBits self.old self.new (S.files store.old)
+            (S.files store.new) (digits (to_byte self.old.place) 0)) }
+        ensures grew { GrewBits self.old.name (S.files store.old) (S.files store.new)
+            (self.old.buffered ++ digits (to_byte self.old.place) 0) }
         ensures held { length self.new.buffered < 32768 }
         ensures whole { OnOk result (self.new.place % 8 ≡ 0) }
         ensures name { self.new.name ≡ self.old.name }
-        ensures wrote { WroteTo self.old.name (S.files store.old) (S.files store.new) (S.reads store.old) (S.reads store.new) }
+        ensures wrote { WroteTo self.old.name (S.files store.old) (S.files store.new)
+            (S.reads store.old) (S.reads store.new) }
         ensures cause { HasPutCause (S.faults store.old) (S.faults store.new) result }
     {
         let size = (8 - (self.place % 8) as u32) % 8;
@@ -115,14 +124,18 @@ impl<'a> BitWriter<'a> {
         requires holds { Holds self.old (S.files store.old) }
         requires place { self.old.place ≤ 2 ^ 63 + 2 ^ 62 }
         ensures holds { OnOk result (Holds self.new (S.files store.new)) }
-        ensures bits { OnOk result (WroteBits self.old self.new (S.files store.old) (S.files store.new) (digits (to_byte self.old.place) 0)) }
-        ensures grew { GrewBits self.old.name (S.files store.old) (S.files store.new) (self.old.buffered ++ digits (to_byte self.old.place) 0) }
+        ensures bits { OnOk result (WroteBits self.old self.new (S.files store.old)
+            (S.files store.new) (digits (to_byte self.old.place) 0)) }
+        ensures grew { GrewBits self.old.name (S.files store.old) (S.files store.new)
+            (self.old.buffered ++ digits (to_byte self.old.place) 0) }
         ensures held { length self.new.buffered < 32768 }
         ensures file { IsSome (S.files store.old) →
-            OnOk result (bits_of (bytes_at (S.files store.new) self.old.name) ≡ bits_filled self.old (S.files store.old)) }
+            OnOk result (bits_of (bytes_at (S.files store.new) self.old.name)
+            ≡ bits_filled self.old (S.files store.old)) }
         ensures nothing { OnOk result (self.new.buffered ≡ []) }
         ensures name { self.new.name ≡ self.old.name }
-        ensures wrote { WroteTo self.old.name (S.files store.old) (S.files store.new) (S.reads store.old) (S.reads store.new) }
+        ensures wrote { WroteTo self.old.name (S.files store.old) (S.files store.new)
+            (S.reads store.old) (S.reads store.new) }
         ensures cause { HasPutCause (S.faults store.old) (S.faults store.new) result }
     {
         self.align(store)?;
@@ -133,13 +146,16 @@ impl<'a> BitWriter<'a> {
     /// Appends the bytes that are held.
     fn flush<S: Store>(&mut self, store: &mut S) -> Result<(), PutErr>
         requires whole { self.old.place % 8 ≡ 0 }
-        ensures bits { OnOk result (WroteBits self.old self.new (S.files store.old) (S.files store.new) []) }
-        ensures grew { GrewBits self.old.name (S.files store.old) (S.files store.new) self.old.buffered }
+        ensures bits { OnOk result (WroteBits self.old self.new (S.files store.old)
+            (S.files store.new) []) }
+        ensures grew { GrewBits self.old.name (S.files store.old) (S.files store.new)
+            self.old.buffered }
         ensures held { length self.new.buffered < 32768 }
         ensures nothing { OnOk result (self.new.buffered ≡ []) }
         ensures name { self.new.name ≡ self.old.name }
         ensures still { KeepsBytes self.old.name (S.files store.old) (S.files store.new) }
-        ensures wrote { WroteTo self.old.name (S.files store.old) (S.files store.new) (S.reads store.old) (S.reads store.new) }
+        ensures wrote { WroteTo self.old.name (S.files store.old) (S.files store.new)
+            (S.reads store.old) (S.reads store.new) }
         ensures cause { HasPutCause (S.faults store.old) (S.faults store.new) result }
     {
         self.bytes.finish(store)?;
@@ -152,12 +168,15 @@ impl<'a> BitWriter<'a> {
         requires place { self.old.place ≤ 2 ^ 63 + 2 ^ 62 + 64 }
         requires size { size ≤ 8 }
         requires bits { bits < 2 ^ size }
-        ensures bits { OnOk result (WroteBits self.old self.new (S.files store.old) (S.files store.new) (digits size bits)) }
-        ensures grew { GrewBits self.old.name (S.files store.old) (S.files store.new) (self.old.buffered ++ digits size bits) }
+        ensures bits { OnOk result (WroteBits self.old self.new (S.files store.old)
+            (S.files store.new) (digits size bits)) }
+        ensures grew { GrewBits self.old.name (S.files store.old) (S.files store.new)
+            (self.old.buffered ++ digits size bits) }
         ensures held { length self.new.buffered < 32768 }
         ensures name { self.new.name ≡ self.old.name }
         ensures still { KeepsBytes self.old.name (S.files store.old) (S.files store.new) }
-        ensures wrote { WroteTo self.old.name (S.files store.old) (S.files store.new) (S.reads store.old) (S.reads store.new) }
+        ensures wrote { WroteTo self.old.name (S.files store.old) (S.files store.new)
+            (S.reads store.old) (S.reads store.new) }
         ensures cause { HasPutCause (S.faults store.old) (S.faults store.new) result }
     {
         let total = self.count + size;

@@ -26,26 +26,36 @@ pub trait Feed {
     fn byte(&mut self, dev: &mut Self::Dev, at: u64) -> Result<Option<u8>, Failed>
         requires { fits self.old (device dev.old).files }
         ensures fits { fits self.new (device dev.new).files }
-        ensures told { IfSome ((feeding self.old).source (device dev.old).files) (λ bytes. IfOk result (λ byte. byte ≡ slice_get bytes at)) }
-        ensures calm { Calm (feeding self.old) (feeding self.new) (device dev.old) (device dev.new) }
-        ensures pages { ReadsWithin (feeding self.old) (feeding self.new) (device dev.old) (device dev.new) (8 * at) (8 * at + 1) }
-        ensures held { IfOk result (λ byte. OnSome byte ((feeding self.new).held ≡ Some (page_of (feeding self.old).page (8 * at)))) }
+        ensures told { IfSome ((feeding self.old).source (device dev.old).files)
+            (λ bytes. IfOk result (λ byte. byte ≡ slice_get bytes at)) }
+        ensures calm { Calm (feeding self.old) (feeding self.new) (device dev.old)
+            (device dev.new) }
+        ensures pages { ReadsWithin (feeding self.old) (feeding self.new) (device dev.old)
+            (device dev.new) (8 * at) (8 * at + 1) }
+        ensures held { IfOk result (λ byte.
+            OnSome byte ((feeding self.new).held
+            ≡ Some (page_of (feeding self.old).page (8 * at)))) }
         ensures keeps { KeepsPage (feeding self.old) (feeding self.new) (8 * at) }
         ensures cause { HasCause (device dev.old).faults (device dev.new).faults result };
 
     /// The byte at a place, where the page that is held has it, and None elsewhere. The device is not
     /// asked.
     fn held_byte(&self, at: u64) -> Option<u8>
-        ensures told { ToldBytes (feeding self.now) (fits self.now) result (λ byte bytes. Some byte ≡ slice_get bytes at) }
-        ensures held { OnSome result ((feeding self.now).held ≡ Some (page_of (feeding self.now).page (8 * at))) }
-        ensures some { (files : Option Files) → fits self.now files → HasBits (feeding self.now) files (8 * at) 8 → IsSome result };
+        ensures told { ToldBytes (feeding self.now) (fits self.now) result
+            (λ byte bytes. Some byte ≡ slice_get bytes at) }
+        ensures held { OnSome result ((feeding self.now).held
+            ≡ Some (page_of (feeding self.now).page (8 * at))) }
+        ensures some { (files : Option Files) → fits self.now files →
+            HasBits (feeding self.now) files (8 * at) 8 → IsSome result };
 
     /// The eight bytes from a place on as a number, the first of them highest, where the page that
     /// is held has them all, and None elsewhere. The device is not asked.
     fn word(&self, at: u64) -> Option<u64>
-        ensures told { ToldBits (feeding self.now) (fits self.now) (8 * at) result (λ word. Begins (digits 64 word)) }
+        ensures told { ToldBits (feeding self.now) (fits self.now) (8 * at) result
+            (λ word. Begins (digits 64 word)) }
         ensures held { IfSome result (λ word. HoldsBits (feeding self.now) (8 * at) 64) }
-        ensures some { (files : Option Files) → fits self.now files → HasBits (feeding self.now) files (8 * at) 64 → IsSome result };
+        ensures some { (files : Option Files) → fits self.now files →
+            HasBits (feeding self.now) files (8 * at) 64 → IsSome result };
 
     /// A page is a number of times 64 bytes.
     ghost whole_pages: { (feed : Self) → IsPageLength (feeding feed).page };

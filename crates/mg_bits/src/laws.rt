@@ -17,12 +17,15 @@ pub fn bits_tell_bytes()
 /// What was written to a file stays, and its writer may write on, where that file stays: calls that
 /// write other files don't matter.
 pub fn written_bits_stay()
-    ensures bits { (w : BitWriting) (f g : Option Files) → SameAt f g w.name → bits_put w g ≡ bits_put w f }
-    ensures holds { (w : BitWriting) (f g : Option Files) → TellAlike f g → SameAt f g w.name → Holds w f → Holds w g }
+    ensures bits { (w : BitWriting) (f g : Option Files) → SameAt f g w.name →
+        bits_put w g ≡ bits_put w f }
+    ensures holds { (w : BitWriting) (f g : Option Files) → TellAlike f g → SameAt f g w.name →
+        Holds w f → Holds w g }
 {}
 
 /// The page that a feed holds is one of its file as long as that file stays: calls that write other
 /// files don't matter.
 pub fn held_pages_stay()
-    ensures { (feed : Paging) (f g : Option Files) → TellAlike f g → SameAt f g feed.name → Fits feed f → Fits feed g }
+    ensures { (feed : Paging) (f g : Option Files) → TellAlike f g → SameAt f g feed.name →
+        Fits feed f → Fits feed g }
 {}

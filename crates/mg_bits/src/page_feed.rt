@@ -45,7 +45,8 @@ impl<'a, S> Model for PageFeed<'a, S> {
 impl<'a, S: Store> PageFeed<'a, S> {
     /// A feed that holds no page.
     pub fn new(alloc: Global, file: FileRef<'a>) -> Result<Self, AllocError>
-        ensures name { IfOk result (λ feed. feed.name ≡ full_name file.entry.base.now file.entry.part) }
+        ensures name { IfOk result (λ feed.
+            feed.name ≡ full_name file.entry.base.now file.entry.part) }
         ensures part { IfOk result (λ feed. feed.part ≡ file.entry.part) }
         ensures held { IfOk result (λ feed. feed.held ≡ None) }
         ensures count { IfOk result (λ feed. feed.count ≡ 0) }
@@ -65,12 +66,17 @@ impl<'a, S: Store> PageFeed<'a, S> {
         requires fits { Fits self.old (S.files store.old) }
         ensures fits { Fits self.new (S.files store.new) }
         ensures file { SameFile self.old self.new }
-        ensures looked { Between S.files S.reads S.faults store.old store.new (Looked self.old.part) }
-        ensures told { IsSome (S.files store.old) → IfOk result (λ byte. byte ≡ slice_get (bytes_at (S.files store.old) self.old.name) at) }
+        ensures looked { Between S.files S.reads S.faults store.old store.new
+            (Looked self.old.part) }
+        ensures told { IsSome (S.files store.old) →
+            IfOk result (λ byte. byte ≡ slice_get (bytes_at (S.files store.old) self.old.name) at) }
         ensures calm { AsFeed S.files S.reads S.faults self.old self.new store.old store.new Calm }
-        ensures pages { AsFeed S.files S.reads S.faults self.old self.new store.old store.new (OnRange (8 * at) (8 * at + 1) ReadsWithin) }
-        ensures held { IfOk result (λ byte. OnSome byte (self.new.held ≡ Some (page_of 4096 (8 * at)))) }
-        ensures keeps { self.old.held ≡ Some (page_of 4096 (8 * at)) → self.new.held ≡ self.old.held }
+        ensures pages { AsFeed S.files S.reads S.faults self.old self.new store.old store.new
+            (OnRange (8 * at) (8 * at + 1) ReadsWithin) }
+        ensures held { IfOk result (λ byte.
+            OnSome byte (self.new.held ≡ Some (page_of 4096 (8 * at)))) }
+        ensures keeps { self.old.held ≡ Some (page_of 4096 (8 * at)) →
+            self.new.held ≡ self.old.held }
         ensures turned { self.new.held ≢ self.old.held →
             Rose (S.reads store.old self.old.part) (S.reads store.new self.old.part) }
         ensures cause { HasCause (S.faults store.old) (S.faults store.new) result }
@@ -90,12 +96,17 @@ impl<'a, S: Store> PageFeed<'a, S> {
         requires fits { Fits self.old (S.files store.old) }
         ensures fits { Fits self.new (S.files store.new) }
         ensures file { SameFile self.old self.new }
-        ensures looked { Between S.files S.reads S.faults store.old store.new (Looked self.old.part) }
-        ensures told { IsSome (S.files store.old) → IfOk result (λ byte. byte ≡ slice_get (bytes_at (S.files store.old) self.old.name) at) }
+        ensures looked { Between S.files S.reads S.faults store.old store.new
+            (Looked self.old.part) }
+        ensures told { IsSome (S.files store.old) →
+            IfOk result (λ byte. byte ≡ slice_get (bytes_at (S.files store.old) self.old.name) at) }
         ensures calm { AsFeed S.files S.reads S.faults self.old self.new store.old store.new Calm }
-        ensures pages { AsFeed S.files S.reads S.faults self.old self.new store.old store.new (OnRange (8 * at) (8 * at + 1) ReadsWithin) }
-        ensures held { IfOk result (λ byte. OnSome byte (self.new.held ≡ Some (page_of 4096 (8 * at)))) }
-        ensures keeps { self.old.held ≡ Some (page_of 4096 (8 * at)) → self.new.held ≡ self.old.held }
+        ensures pages { AsFeed S.files S.reads S.faults self.old self.new store.old store.new
+            (OnRange (8 * at) (8 * at + 1) ReadsWithin) }
+        ensures held { IfOk result (λ byte.
+            OnSome byte (self.new.held ≡ Some (page_of 4096 (8 * at)))) }
+        ensures keeps { self.old.held ≡ Some (page_of 4096 (8 * at)) →
+            self.new.held ≡ self.old.held }
         ensures turned { self.new.held ≢ self.old.held →
             Rose (S.reads store.old self.old.part) (S.reads store.new self.old.part) }
         ensures cause { HasCause (S.faults store.old) (S.faults store.new) result }
@@ -118,9 +129,11 @@ impl<'a, S: Store> PageFeed<'a, S> {
     /// The byte at a place, if the page that is held has it.
     #[inline]
     fn held_byte(&self, at: u64) -> Option<u8>
-        ensures told { ToldBytes (feeding_of 4096 self.now) (Fits self.now) result (λ byte bytes. Some byte ≡ slice_get bytes at) }
+        ensures told { ToldBytes (feeding_of 4096 self.now) (Fits self.now) result
+            (λ byte bytes. Some byte ≡ slice_get bytes at) }
         ensures held { OnSome result (self.now.held ≡ Some (page_of 4096 (8 * at))) }
-        ensures some { (files : Option Files) → Fits self.now files → HasBits (feeding_of 4096 self.now) files (8 * at) 8 → IsSome result }
+        ensures some { (files : Option Files) → Fits self.now files →
+            HasBits (feeding_of 4096 self.now) files (8 * at) 8 → IsSome result }
     {
         if !self.window.has(at) {
             return None;
@@ -132,9 +145,11 @@ impl<'a, S: Store> PageFeed<'a, S> {
     /// The eight bytes from a place on as a number, if the page that is held has them all.
     #[inline]
     fn held_word(&self, at: u64) -> Option<u64>
-        ensures told { ToldBits (feeding_of 4096 self.now) (Fits self.now) (8 * at) result (λ word. Begins (digits 64 word)) }
+        ensures told { ToldBits (feeding_of 4096 self.now) (Fits self.now) (8 * at) result
+            (λ word. Begins (digits 64 word)) }
         ensures held { IfSome result (λ word. HoldsBits (feeding_of 4096 self.now) (8 * at) 64) }
-        ensures some { (files : Option Files) → Fits self.now files → HasBits (feeding_of 4096 self.now) files (8 * at) 64 → IsSome result }
+        ensures some { (files : Option Files) → Fits self.now files →
+            HasBits (feeding_of 4096 self.now) files (8 * at) 64 → IsSome result }
     {
         if !self.window.has(at) {
             return None;
@@ -146,9 +161,11 @@ impl<'a, S: Store> PageFeed<'a, S> {
     /// The number of bytes of the file; a missing one has none.
     pub fn size(&mut self, store: &mut S) -> Result<u64, Failed>
         ensures same { self.new ≡ self.old }
-        ensures looked { Between S.files S.reads S.faults store.old store.new (Looked self.old.part) }
+        ensures looked { Between S.files S.reads S.faults store.old store.new
+            (Looked self.old.part) }
         ensures reads { SameReads (S.reads store.old) (S.reads store.new) }
-        ensures told { IsSome (S.files store.old) → IfOk result (λ size. size ≡ length (bytes_at (S.files store.old) self.old.name)) }
+        ensures told { IsSome (S.files store.old) →
+            IfOk result (λ size. size ≡ length (bytes_at (S.files store.old) self.old.name)) }
         ensures cause { HasCause (S.faults store.old) (S.faults store.new) result }
     {
         let file = self.file;
@@ -179,10 +196,15 @@ impl<'a, S: Store> PageFeed<'a, S> {
         requires place { at + length buf.old < 2 ^ 64 }
         ensures fits { Fits self.new (S.files store.new) }
         ensures file { SameFile self.old self.new }
-        ensures looked { Between S.files S.reads S.faults store.old store.new (Looked self.old.part) }
-        ensures told { IsSome (S.files store.old) → IfOk result (λ whole. IsFilled whole buf.new at (bytes_at (S.files store.old) self.old.name)) }
-        ensures part { AsFeed S.files S.reads S.faults self.old self.new store.old store.new (OnRange (8 * at) (8 * (at + length buf.old)) ReadPart) }
-        ensures held { IfOk result (λ whole. whole ≡ true → self.new.held ≡ held_after 4096 self.old.held (8 * at) (8 * (at + length buf.old))) }
+        ensures looked { Between S.files S.reads S.faults store.old store.new
+            (Looked self.old.part) }
+        ensures told { IsSome (S.files store.old) →
+            IfOk result (λ whole. IsFilled whole buf.new at
+            (bytes_at (S.files store.old) self.old.name)) }
+        ensures part { AsFeed S.files S.reads S.faults self.old self.new store.old store.new
+            (OnRange (8 * at) (8 * (at + length buf.old)) ReadPart) }
+        ensures held { IfOk result (λ whole. whole ≡ true →
+            self.new.held ≡ held_after 4096 self.old.held (8 * at) (8 * (at + length buf.old))) }
         ensures cause { HasCause (S.faults store.old) (S.faults store.new) result }
     {
         let mut done = 0;

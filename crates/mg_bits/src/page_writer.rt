@@ -36,8 +36,10 @@ impl<'a> Model for PageWriter<'a> {
 
 /// Adds bytes at a file's end.
 fn append<S: Store>(store: &mut S, file: &FileRef<'_>, piece: &[u8]) -> Result<(), PutErr>
-    ensures content { AfterAppend (S.files store.old) (S.files store.new) (full_name file.now.base.now file.now.part) piece.now result }
-    ensures still { KeepsBytes (full_name file.now.base.now file.now.part) (S.files store.old) (S.files store.new) }
+    ensures content { AfterAppend (S.files store.old) (S.files store.new)
+        (full_name file.now.base.now file.now.part) piece.now result }
+    ensures still { KeepsBytes (full_name file.now.base.now file.now.part) (S.files store.old)
+        (S.files store.new) }
     ensures reads { SameReads (S.reads store.old) (S.reads store.new) }
     ensures cause { HasPutCause (S.faults store.old) (S.faults store.new) result }
 {
@@ -49,10 +51,13 @@ impl<'a> PageWriter<'a> {
     /// A writer of a file, which it empties.
     pub fn start<S: Store>(alloc: Global, store: &mut S, file: FileRef<'a>) -> Result<Self, PutErr>
         ensures name { IfOk result (λ w. w.name ≡ full_name file.entry.base.now file.entry.part) }
-        ensures empty { IsSome (S.files store.old) → IfOk result (λ w. put_to w (S.files store.new) ≡ []) }
+        ensures empty { IsSome (S.files store.old) →
+            IfOk result (λ w. put_to w (S.files store.new) ≡ []) }
         ensures page { IfOk result (λ w. length w.buffered < 4096) }
-        ensures started { AfterReset (S.files store.old) (S.files store.new) (full_name file.entry.base.now file.entry.part) result }
-        ensures wrote { WroteTo (full_name file.entry.base.now file.entry.part) (S.files store.old) (S.files store.new)
+        ensures started { AfterReset (S.files store.old) (S.files store.new)
+            (full_name file.entry.base.now file.entry.part) result }
+        ensures wrote { WroteTo (full_name file.entry.base.now file.entry.part) (S.files store.old)
+            (S.files store.new)
             (S.reads store.old) (S.reads store.new) }
         ensures cause { HasPutCause (S.faults store.old) (S.faults store.new) result }
     {
@@ -69,12 +74,15 @@ impl<'a> PageWriter<'a> {
 
     /// Writes one byte.
     pub fn put<S: Store>(&mut self, store: &mut S, byte: u8) -> Result<(), PutErr>
-        ensures bytes { OnOk result (Wrote self.old self.new (S.files store.old) (S.files store.new) (byte ∷ [])) }
-        ensures grew { GrewInPart (S.files store.old) (S.files store.new) self.old.name (self.old.buffered ++ byte ∷ []) }
+        ensures bytes { OnOk result (Wrote self.old self.new (S.files store.old) (S.files store.new)
+            (byte ∷ [])) }
+        ensures grew { GrewInPart (S.files store.old) (S.files store.new) self.old.name
+            (self.old.buffered ++ byte ∷ []) }
         ensures page { length self.new.buffered < 4096 }
         ensures name { self.new.name ≡ self.old.name }
         ensures still { KeepsBytes self.old.name (S.files store.old) (S.files store.new) }
-        ensures wrote { WroteTo self.old.name (S.files store.old) (S.files store.new) (S.reads store.old) (S.reads store.new) }
+        ensures wrote { WroteTo self.old.name (S.files store.old) (S.files store.new)
+            (S.reads store.old) (S.reads store.new) }
         ensures cause { HasPutCause (S.faults store.old) (S.faults store.new) result }
     {
         let used = self.used;
@@ -94,12 +102,15 @@ impl<'a> PageWriter<'a> {
 
     /// Writes the bytes of a piece.
     pub fn put_all<S: Store>(&mut self, store: &mut S, piece: &[u8]) -> Result<(), PutErr>
-        ensures bytes { OnOk result (Wrote self.old self.new (S.files store.old) (S.files store.new) piece.now) }
-        ensures grew { GrewInPart (S.files store.old) (S.files store.new) self.old.name (self.old.buffered ++ piece.now) }
+        ensures bytes { OnOk result (Wrote self.old self.new (S.files store.old) (S.files store.new)
+            piece.now) }
+        ensures grew { GrewInPart (S.files store.old) (S.files store.new) self.old.name
+            (self.old.buffered ++ piece.now) }
         ensures page { length self.new.buffered < 4096 }
         ensures name { self.new.name ≡ self.old.name }
         ensures still { KeepsBytes self.old.name (S.files store.old) (S.files store.new) }
-        ensures wrote { WroteTo self.old.name (S.files store.old) (S.files store.new) (S.reads store.old) (S.reads store.new) }
+        ensures wrote { WroteTo self.old.name (S.files store.old) (S.files store.new)
+            (S.reads store.old) (S.reads store.new) }
         ensures cause { HasPutCause (S.faults store.old) (S.faults store.new) result }
     {
         if piece.len() < PAGE - self.used {
@@ -130,14 +141,18 @@ impl<'a> PageWriter<'a> {
 
     /// Appends what is held; then the file holds all bytes that were written.
     pub fn finish<S: Store>(&mut self, store: &mut S) -> Result<(), PutErr>
-        ensures bytes { OnOk result (Wrote self.old self.new (S.files store.old) (S.files store.new) []) }
-        ensures sent { OnOk result (S.files store.new ≡ grown (S.files store.old) self.old.name self.old.buffered) }
-        ensures grew { GrewInPart (S.files store.old) (S.files store.new) self.old.name self.old.buffered }
+        ensures bytes { OnOk result (Wrote self.old self.new (S.files store.old) (S.files store.new)
+            []) }
+        ensures sent { OnOk result (S.files store.new ≡ grown (S.files store.old) self.old.name
+            self.old.buffered) }
+        ensures grew { GrewInPart (S.files store.old) (S.files store.new) self.old.name
+            self.old.buffered }
         ensures page { length self.new.buffered < 4096 }
         ensures nothing { OnOk result (self.new.buffered ≡ []) }
         ensures name { self.new.name ≡ self.old.name }
         ensures still { KeepsBytes self.old.name (S.files store.old) (S.files store.new) }
-        ensures wrote { WroteTo self.old.name (S.files store.old) (S.files store.new) (S.reads store.old) (S.reads store.new) }
+        ensures wrote { WroteTo self.old.name (S.files store.old) (S.files store.new)
+            (S.reads store.old) (S.reads store.new) }
         ensures cause { HasPutCause (S.faults store.old) (S.faults store.new) result }
     {
         let used = self.used;

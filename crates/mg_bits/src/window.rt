@@ -79,8 +79,10 @@ fn load<S: Store>(
     ensures within { window.new.count ≤ length page.new }
     ensures first { IsFirst window.new.held (length page.new) window.new.first window.new.count }
     ensures agrees { KeptFrom file.now window.new page.new (S.files store.new) }
-    ensures calm { AsWindow S.files S.reads S.faults file.now page.old window.old window.new store.old store.new Calm }
-    ensures device { S.reads store.new file.now.part ≤ S.reads store.old file.now.part + lacks window.old.held number }
+    ensures calm { AsWindow S.files S.reads S.faults file.now page.old window.old window.new
+        store.old store.new Calm }
+    ensures device { S.reads store.new file.now.part ≤ S.reads store.old file.now.part
+        + lacks window.old.held number }
     ensures feed { window.new.reads ≤ window.old.reads + lacks window.old.held number }
     ensures held { OnOk result (window.new.held ≡ Some number) }
     ensures keeps { window.old.held ≡ Some number → window.new.held ≡ window.old.held }
@@ -160,11 +162,16 @@ pub fn window_byte<S: Store>(
     ensures first { IsFirst window.new.held (length page.new) window.new.first window.new.count }
     ensures agrees { KeptFrom file.now window.new page.new (S.files store.new) }
     ensures told { IsSome (S.files store.old) →
-        IfOk result (λ byte. byte ≡ slice_get (bytes_at (S.files store.old) (file_name file.now)) at) }
-    ensures calm { AsWindow S.files S.reads S.faults file.now page.old window.old window.new store.old store.new Calm }
-    ensures pages { AsWindow S.files S.reads S.faults file.now page.old window.old window.new store.old store.new (OnRange (8 * at) (8 * at + 1) ReadsWithin) }
-    ensures held { IfOk result (λ byte. OnSome byte (window.new.held ≡ Some (page_of (length page.old) (8 * at)))) }
-    ensures keeps { window.old.held ≡ Some (page_of (length page.old) (8 * at)) → window.new.held ≡ window.old.held }
+        IfOk result (λ byte. byte ≡ slice_get (bytes_at (S.files store.old) (file_name file.now))
+        at) }
+    ensures calm { AsWindow S.files S.reads S.faults file.now page.old window.old window.new
+        store.old store.new Calm }
+    ensures pages { AsWindow S.files S.reads S.faults file.now page.old window.old window.new
+        store.old store.new (OnRange (8 * at) (8 * at + 1) ReadsWithin) }
+    ensures held { IfOk result (λ byte.
+        OnSome byte (window.new.held ≡ Some (page_of (length page.old) (8 * at)))) }
+    ensures keeps { window.old.held ≡ Some (page_of (length page.old) (8 * at)) →
+        window.new.held ≡ window.old.held }
     ensures turned { window.new.held ≢ window.old.held →
         Rose (S.reads store.old file.now.part) (S.reads store.new file.now.part) }
     ensures cause { HasCause (S.faults store.old) (S.faults store.new) result }

@@ -35,10 +35,12 @@ lacks_right doc xs ys h k lt = ap (has_term doc) (sym (get_or-append-add xs ys k
 pub lacking_holds : (q : Query) (doc : List ℕ) → LacksAll doc (query_terms q) → satisfies q doc ≡ holds q []
 lacking_holds (term t) doc h = h 0 (omega arith)
 lacking_holds (both p q) doc h =
-    let right : satisfies q doc ≡ holds q (drop (length (query_terms p)) []) = lacking_holds q doc (lacks_right doc (query_terms p) (query_terms q) h) ∙ ap (holds q) (sym (drop-nil (length (query_terms p)))) in
+    let right : satisfies q doc ≡ holds q (drop (length (query_terms p)) []) = lacking_holds q doc (lacks_right doc (query_terms p) (query_terms q) h)
+    ∙ ap (holds q) (sym (drop-nil (length (query_terms p)))) in
     ap (λ b. b && satisfies q doc) (lacking_holds p doc (lacks_left doc (query_terms p) (query_terms q) h)) ∙ ap (λ b. holds p [] && b) right
 lacking_holds (either p q) doc h =
-    let right : satisfies q doc ≡ holds q (drop (length (query_terms p)) []) = lacking_holds q doc (lacks_right doc (query_terms p) (query_terms q) h) ∙ ap (holds q) (sym (drop-nil (length (query_terms p)))) in
+    let right : satisfies q doc ≡ holds q (drop (length (query_terms p)) []) = lacking_holds q doc (lacks_right doc (query_terms p) (query_terms q) h)
+    ∙ ap (holds q) (sym (drop-nil (length (query_terms p)))) in
     ap (λ b. b || satisfies q doc) (lacking_holds p doc (lacks_left doc (query_terms p) (query_terms q) h)) ∙ ap (λ b. holds p [] || b) right
 lacking_holds (without q) doc h = ap not (lacking_holds q doc h)
 
@@ -91,20 +93,24 @@ any_skips q n m (doc ∷ ds) needs le lt least =
 
 -- ---- the next one
 
-none_sooner : (collection : List ℕ) (ts : List (List ℕ)) (d : ℕ) (first : Option ℕ) → d ≤ length (documents collection) → ((k : ℕ) → k < length ts → IsNoLater first (first_from collection (d + 1) (get_or ts k []))) → NoneSooner first ts (d + 1) (drop d (documents collection))
+none_sooner : (collection : List ℕ) (ts : List (List ℕ)) (d : ℕ) (first : Option ℕ) → d ≤ length (documents collection) →
+    ((k : ℕ) → k < length ts → IsNoLater first (first_from collection (d + 1) (get_or ts k []))) → NoneSooner first ts (d + 1) (drop d (documents collection))
 none_sooner collection ts d first le least k lt = subst (IsNoLater first) (first_among collection (get_or ts k []) d le) (least k lt)
 
 -- the first document of all lists behind those decided is the next one that may satisfy the query
-pub first_is_next : (base collection : List ℕ) (q : Query) (d : ℕ) (first : Option ℕ) (there : List Bool) (places : List Place) → d < length (documents collection) → leading q ≡ [] → holds q [] ≡ false →
+pub first_is_next : (base collection : List ℕ) (q : Query) (d : ℕ) (first : Option ℕ) (there : List Bool) (places : List Place) →
+    d < length (documents collection) → leading q ≡ [] → holds q [] ≡ false →
     AnswersFirst base collection (asked_of collection q) (query_terms q) (d + 1) first there places → IsNext collection q d first
 first_is_next base collection q d None there places lt none needs a =
     any_ends q (d + 1) (drop d (documents collection)) needs (none_sooner collection (query_terms q) d None (omega (arith, lt)) a.least)
 first_is_next base collection q d (Some m) there places lt none needs a =
     let b = first_bounds collection (get_or (query_terms q) a.one.0 []) (d + 1) m (omega arith) (omega (arith, lt)) a.one.2 in
     let s : Skips q (d + 1) m (drop d (documents collection)) =
-    any_skips q (d + 1) m (drop d (documents collection)) needs b.0 (omega (arith, b.1, length-drop d (documents collection), lt)) (none_sooner collection (query_terms q) d (Some m) (omega (arith, lt)) a.least) in
+    any_skips q (d + 1) m (drop d (documents collection)) needs b.0 (omega (arith, b.1, length-drop d (documents collection), lt))
+    (none_sooner collection (query_terms q) d (Some m) (omega (arith, lt)) a.least) in
     let place : m - 1 ≡ d + length s.front = omega (arith, s.size) in
-    let rest : drop (m - 1) (documents collection) ≡ s.rest = ap (λ k. drop k (documents collection)) place ∙ sym (drop-drop (length s.front) d (documents collection)) ∙ ap (drop (length s.front)) s.whole ∙ drop_front s.front s.rest in
+    let rest : drop (m - 1) (documents collection) ≡ s.rest = ap (λ k. drop k (documents collection)) place
+    ∙ sym (drop-drop (length s.front) d (documents collection)) ∙ ap (drop (length s.front)) s.whole ∙ drop_front s.front s.rest in
     record {
       later = omega (arith, s.size);
       within = b.1;
@@ -113,7 +119,8 @@ first_is_next base collection q d (Some m) there places lt none needs a =
     }
 
 -- all places may be asked for the document behind those decided
-pub any_asks : (base collection : List ℕ) (q : Query) (files : Option Files) (places : List Place) (all d : ℕ) → d < all → GoesOver base collection q files places None all d → AsksAll base collection (asked_of collection q) (query_terms q) (d + 1) files places
+pub any_asks : (base collection : List ℕ) (q : Query) (files : Option Files) (places : List Place) (all d : ℕ) → d < all →
+    GoesOver base collection q files places None all d → AsksAll base collection (asked_of collection q) (query_terms q) (d + 1) files places
 any_asks base collection q files places all d lt goes = record {
   stand = goes.stand;
   places_for = goes.over.each;

@@ -37,7 +37,8 @@ none_first : (collection t : List ℕ) (doc : ℕ) → postings collection t ≡
 unfolding from_doc
 none_first collection t doc none = ap (λ ps. number_in (head_of (from_doc doc ps))) none
 
-pub none_asked : (base collection asked t : List ℕ) (doc : ℕ) (files : Option Files) (p : Place) → p ≡ None → AsksPlace base collection asked t doc files p → AnswersPlace base collection asked t doc None p
+pub none_asked : (base collection asked t : List ℕ) (doc : ℕ) (files : Option Files) (p : Place) → p ≡ None → AsksPlace base collection asked t doc files p →
+    AnswersPlace base collection asked t doc None p
 none_asked base collection asked t doc files None is a = record { found_is = sym (none_first collection t doc a.place); place = a.place }
 none_asked base collection asked t doc files (Some c) is a = absurd cc
 
@@ -85,16 +86,21 @@ old_is xs i old lt value = get_or_default xs i None old lt ∙ sym value
 pub set_self : (xs : List Place) (i : ℕ) (v : Place) → i < length xs → slice_index_or (slice_set xs i v) i None ≡ v
 set_self xs i v lt = get_or-set_same xs i v None lt
 
-pub old_asks : (base collection asked t : List ℕ) (doc : ℕ) (files : Option Files) (xs : List Place) (i : ℕ) (old : Place) → i < length xs → old ≡ slice_index_or xs i old → AsksPlace base collection asked t doc files (slice_index_or xs i None) → AsksPlace base collection asked t doc files old
+pub old_asks : (base collection asked t : List ℕ) (doc : ℕ) (files : Option Files) (xs : List Place) (i : ℕ) (old : Place) → i < length xs →
+    old ≡ slice_index_or xs i old → AsksPlace base collection asked t doc files (slice_index_or xs i None) → AsksPlace base collection asked t doc files old
 old_asks base collection asked t doc files xs i old lt value f = subst (AsksPlace base collection asked t doc files) (old_is xs i old lt value) f
 
 pub old_on : (base : List ℕ) (all : ℕ) (xs : List Place) (i : ℕ) (old : Place) → i < length xs → old ≡ slice_index_or xs i old → PlaceOn base all (slice_index_or xs i None) → PlaceOn base all old
 old_on base all xs i old lt value f = subst (PlaceOn base all) (old_is xs i old lt value) f
 
-pub new_answer : (base collection asked t : List ℕ) (doc : ℕ) (xs : List Place) (i : ℕ) (v : Place) (r : Result (Option ℕ) PartErr) → i < length xs → AnswersList r (λ found. AnswersPlace base collection asked t doc found v) → AnswersList r (λ found. AnswersPlace base collection asked t doc found (slice_index_or (slice_set xs i v) i None))
+pub new_answer : (base collection asked t : List ℕ) (doc : ℕ) (xs : List Place) (i : ℕ) (v : Place) (r : Result (Option ℕ) PartErr) → i < length xs →
+    AnswersList r (λ found. AnswersPlace base collection asked t doc found v) →
+    AnswersList r (λ found. AnswersPlace base collection asked t doc found (slice_index_or (slice_set xs i v) i None))
 new_answer base collection asked t doc xs i v r lt a = subst (λ p. AnswersList r (λ found. AnswersPlace base collection asked t doc found p)) (sym (set_self xs i v lt)) a
 
-pub new_pages : (bound : ℕ) (before now : Reads) (xs : List Place) (i : ℕ) (old v : Place) → i < length xs → old ≡ slice_index_or xs i old → PagesWithin bound (place_pages old) (place_pages v) before now → PagesWithin bound (place_pages (slice_index_or xs i None)) (place_pages (slice_index_or (slice_set xs i v) i None)) before now
+pub new_pages : (bound : ℕ) (before now : Reads) (xs : List Place) (i : ℕ) (old v : Place) → i < length xs → old ≡ slice_index_or xs i old →
+    PagesWithin bound (place_pages old) (place_pages v) before now →
+    PagesWithin bound (place_pages (slice_index_or xs i None)) (place_pages (slice_index_or (slice_set xs i v) i None)) before now
 new_pages bound before now xs i old v lt value p = record {
   within = omega (arith, p.within, ap place_pages (set_self xs i v lt));
   post = omega (arith, p.post, ap place_pages (old_is xs i old lt value), ap place_pages (set_self xs i v lt));
@@ -135,11 +141,13 @@ place_later base collection asked t m n (Some c) le f = record {
   within = f.within;
 }
 
-pub places_later : (base collection asked : List ℕ) (ts : List (List ℕ)) (m n : ℕ) (places : List Place) → m ≤ n → PlacesFor base collection asked ts m places → PlacesFor base collection asked ts n places
+pub places_later : (base collection asked : List ℕ) (ts : List (List ℕ)) (m n : ℕ) (places : List Place) → m ≤ n → PlacesFor base collection asked ts m places →
+    PlacesFor base collection asked ts n places
 places_later base collection asked ts m n places le f = record { size = f.size; each = λ k lt. place_later base collection asked (get_or ts k []) m n (slice_index_or places k None) le (f.each k lt) }
 
 -- one place was asked, and the others stand as they stood
-pub asked_one : (base collection asked : List ℕ) (ts : List (List ℕ)) (n i : ℕ) (now : List Place) (v : Place) → PlacesFor base collection asked ts n now → i < length ts → PlaceFor base collection asked (get_or ts i []) n v → PlacesFor base collection asked ts n (slice_set now i v)
+pub asked_one : (base collection asked : List ℕ) (ts : List (List ℕ)) (n i : ℕ) (now : List Place) (v : Place) → PlacesFor base collection asked ts n now →
+    i < length ts → PlaceFor base collection asked (get_or ts i []) n v → PlacesFor base collection asked ts n (slice_set now i v)
 asked_one base collection asked ts n i now v f lt one = record { size = length-set now i v ∙ f.size; each = at }
   where
     at : (k : ℕ) → k < length ts → PlaceFor base collection asked (get_or ts k []) n (slice_index_or (slice_set now i v) k None)
@@ -151,7 +159,8 @@ asked_one base collection asked ts n i now v f lt one = record { size = length-s
 
 -- ---- the loop over the places
 
-pub asking_start : (base collection asked : List ℕ) (ts : List (List ℕ)) (doc : ℕ) (files : Option Files) (places : List Place) (there : List Bool) (before : Reads) → AsksAll base collection asked ts doc files places → Asking base collection asked ts doc 0 places places there before before
+pub asking_start : (base collection asked : List ℕ) (ts : List (List ℕ)) (doc : ℕ) (files : Option Files) (places : List Place) (there : List Bool)
+    (before : Reads) → AsksAll base collection asked ts doc files places → Asking base collection asked ts doc 0 places places there before before
 asking_start base collection asked ts doc files places there before a = record {
   places_for = a.places_for;
   found = λ k lt within. absurd (omega (arith, lt));
@@ -159,7 +168,8 @@ asking_start base collection asked ts doc files places there before a = record {
 }
 
 -- one of the places may be asked
-pub asks_one : (base collection asked : List ℕ) (ts : List (List ℕ)) (doc i : ℕ) (files now_files : Option Files) (now old : List Place) → now_files ≡ files → AsksAll base collection asked ts doc files old → PlacesFor base collection asked ts doc now → i < length ts →
+pub asks_one : (base collection asked : List ℕ) (ts : List (List ℕ)) (doc i : ℕ) (files now_files : Option Files) (now old : List Place) → now_files ≡ files →
+    AsksAll base collection asked ts doc files old → PlacesFor base collection asked ts doc now → i < length ts →
     AsksPlace base collection asked (get_or ts i []) doc now_files (slice_index_or now i None)
 asks_one base collection asked ts doc i files now_files now old same a f lt = record {
   stand = subst (λ fs. ListsStand base fs collection) (sym same) a.stand;
@@ -167,8 +177,11 @@ asks_one base collection asked ts doc i files now_files now old same a f lt = re
   among = a.among (get_or ts i []);
 }
 
-pub asking_next : (base collection asked : List ℕ) (ts : List (List ℕ)) (doc i : ℕ) (old now : List Place) (there : List Bool) (v : Place) (b : Bool) (before mid after : Reads) → Asking base collection asked ts doc i old now there before mid → i < length ts → i < length there →
-    PlaceFor base collection asked (get_or ts i []) doc v → b ≡ has_term (document collection doc) (get_or ts i []) → after Post + place_pages (slice_index_or now i None) ≤ mid Post + place_pages v → Asking base collection asked ts doc (i + 1) old (slice_set now i v) (slice_set there i b) before after
+pub asking_next : (base collection asked : List ℕ) (ts : List (List ℕ)) (doc i : ℕ) (old now : List Place) (there : List Bool) (v : Place) (b : Bool)
+    (before mid after : Reads) → Asking base collection asked ts doc i old now there before mid → i < length ts → i < length there →
+    PlaceFor base collection asked (get_or ts i []) doc v → b ≡ has_term (document collection doc) (get_or ts i []) →
+    after Post + place_pages (slice_index_or now i None) ≤ mid Post + place_pages v →
+    Asking base collection asked ts doc (i + 1) old (slice_set now i v) (slice_set there i b) before after
 asking_next base collection asked ts doc i old now there v b before mid after a lt within place found step =
     let here : i < length now = omega (arith, lt, a.places_for.size) in
     record {
@@ -184,7 +197,9 @@ asking_next base collection asked ts doc i old now there v b before mid after a 
           | inr same ↦ (let e : k ≡ i = omega (arith, same, below) in rw e (get_or-set_same there i b true within ∙ found))
         ]
 
-pub asking_end : (base collection asked : List ℕ) (ts : List (List ℕ)) (doc i : ℕ) (old now : List Place) (there : List Bool) (before after : Reads) → Asking base collection asked ts doc i old now there before after → length ts ≤ i → length there ≡ length ts → AnswersAll base collection asked ts doc there now
+pub asking_end : (base collection asked : List ℕ) (ts : List (List ℕ)) (doc i : ℕ) (old now : List Place) (there : List Bool) (before after : Reads) →
+    Asking base collection asked ts doc i old now there before after → length ts ≤ i → length there ≡ length ts →
+    AnswersAll base collection asked ts doc there now
 asking_end base collection asked ts doc i old now there before after a le size = record {
   places_for = a.places_for;
   are_there = record { size = size; each = λ k lt. a.found k (omega (arith, lt, le)) lt };
@@ -192,11 +207,13 @@ asking_end base collection asked ts doc i old now there before after a le size =
 
 -- ---- how many pages
 
-pub place_bound : (base collection asked t : List ℕ) (n : ℕ) (p : Place) → PlaceFor base collection asked t n p → ((c : Cursoring) → CursorFor base collection asked t n c → post_pages c ≤ pages_for collection asked t) → place_pages p ≤ pages_for collection asked t
+pub place_bound : (base collection asked t : List ℕ) (n : ℕ) (p : Place) → PlaceFor base collection asked t n p →
+    ((c : Cursoring) → CursorFor base collection asked t n c → post_pages c ≤ pages_for collection asked t) → place_pages p ≤ pages_for collection asked t
 place_bound base collection asked t n None f law = omega arith
 place_bound base collection asked t n (Some c) f law = law c f
 
-sums_within : (f : List ℕ → ℕ) (places : List Place) (ts : List (List ℕ)) → length places ≡ length ts → ((k : ℕ) → k < length ts → place_pages (slice_index_or places k None) ≤ f (get_or ts k [])) → pages_read places ≤ sum_by f ts
+sums_within : (f : List ℕ → ℕ) (places : List Place) (ts : List (List ℕ)) → length places ≡ length ts →
+    ((k : ℕ) → k < length ts → place_pages (slice_index_or places k None) ≤ f (get_or ts k [])) → pages_read places ≤ sum_by f ts
 sums_within f [] [] size each = omega arith
 sums_within f [] (t ∷ ts) size each = absurd (omega (arith, size))
 sums_within f (p ∷ places) [] size each = absurd (omega (arith, size))
@@ -207,22 +224,32 @@ sums_within f (p ∷ places) (t ∷ ts) size each =
 abbrev pub CursorsWithin : Type 0
 CursorsWithin = (base collection asked t : List ℕ) (n : ℕ) (c : Cursoring) → CursorFor base collection asked t n c → post_pages c ≤ pages_for collection asked t
 
-pub places_bound : (base collection asked : List ℕ) (ts : List (List ℕ)) (n : ℕ) (places : List Place) → CursorsWithin → PlacesFor base collection asked ts n places → pages_read places ≤ sum_by (pages_for collection asked) ts
-places_bound base collection asked ts n places law f = sums_within (pages_for collection asked) places ts f.size (λ k lt. place_bound base collection asked (get_or ts k []) n (slice_index_or places k None) (f.each k lt) (law base collection asked (get_or ts k []) n))
+pub places_bound : (base collection asked : List ℕ) (ts : List (List ℕ)) (n : ℕ) (places : List Place) → CursorsWithin →
+    PlacesFor base collection asked ts n places → pages_read places ≤ sum_by (pages_for collection asked) ts
+places_bound base collection asked ts n places law f = sums_within (pages_for collection asked) places ts f.size
+    (λ k lt. place_bound base collection asked (get_or ts k []) n (slice_index_or places k None) (f.each k lt) (law base collection asked (get_or ts k []) n))
 
-pub set_bound : (base collection asked : List ℕ) (ts : List (List ℕ)) (n i : ℕ) (now : List Place) (v : Place) → CursorsWithin → PlacesFor base collection asked ts n now → i < length ts → place_pages v ≤ pages_for collection asked (get_or ts i []) → pages_read (slice_set now i v) ≤ sum_by (pages_for collection asked) ts
+pub set_bound : (base collection asked : List ℕ) (ts : List (List ℕ)) (n i : ℕ) (now : List Place) (v : Place) → CursorsWithin →
+    PlacesFor base collection asked ts n now → i < length ts → place_pages v ≤ pages_for collection asked (get_or ts i []) →
+    pages_read (slice_set now i v) ≤ sum_by (pages_for collection asked) ts
 set_bound base collection asked ts n i now v law f lt le = sums_within (pages_for collection asked) (slice_set now i v) ts (length-set now i v ∙ f.size) each
   where
     each : (k : ℕ) → k < length ts → place_pages (slice_index_or (slice_set now i v) k None) ≤ pages_for collection asked (get_or ts k [])
     each k inside =
         elim (cases_eq k i) [
           | inl same ↦ rw same (omega (arith, ap place_pages (set_self now i v (omega (arith, lt, f.size))), le))
-          | inr other ↦ omega (arith, ap place_pages (get_or-set_other now i k v None other), place_bound base collection asked (get_or ts k []) n (slice_index_or now k None) (f.each k inside) (law base collection asked (get_or ts k []) n))
+          | inr other ↦ omega (
+            arith,
+            ap place_pages (get_or-set_other now i k v None other),
+            place_bound base collection asked (get_or ts k []) n (slice_index_or now k None) (f.each k inside) (law base collection asked (get_or ts k []) n),
+          )
         ]
 
 -- one place was asked, whatever it answered
-pub asked_pages : (base collection asked : List ℕ) (ts : List (List ℕ)) (n i : ℕ) (old now : List Place) (v : Place) (before mid after : Reads) → CursorsWithin → PlacesFor base collection asked ts n now → i < length ts → mid Post + pages_read old ≤ before Post + pages_read now →
-    PagesWithin (pages_for collection asked (get_or ts i [])) (place_pages (slice_index_or now i None)) (place_pages v) mid after → PagesWithin (sum_by (pages_for collection asked) ts) (pages_read old) (pages_read (slice_set now i v)) before after
+pub asked_pages : (base collection asked : List ℕ) (ts : List (List ℕ)) (n i : ℕ) (old now : List Place) (v : Place) (before mid after : Reads) →
+    CursorsWithin → PlacesFor base collection asked ts n now → i < length ts → mid Post + pages_read old ≤ before Post + pages_read now →
+    PagesWithin (pages_for collection asked (get_or ts i [])) (place_pages (slice_index_or now i None)) (place_pages v) mid after →
+    PagesWithin (sum_by (pages_for collection asked) ts) (pages_read old) (pages_read (slice_set now i v)) before after
 asked_pages base collection asked ts n i old now v before mid after law f lt so_far step = record {
   within = set_bound base collection asked ts n i now v law f lt step.within;
   post = omega (arith, sum_by-set place_pages now i v None (omega (arith, lt, f.size)), so_far, step.post);
@@ -238,8 +265,10 @@ pub is_same : (n : ℕ) (found : Option ℕ) → is_first (Some n) found ≡ is_
 is_same n None = refl
 is_same n (Some doc) = refl
 
-pub found_is : (collection t : List ℕ) (doc : ℕ) (found : Option ℕ) (b : Bool) → 1 ≤ doc → doc ≤ length (documents collection) → found ≡ number_in (head_of (from_doc doc (postings collection t))) → b ≡ is_first (Some doc) found → b ≡ has_term (document collection doc) t
-found_is collection t doc found b some le is flag = flag ∙ is_same doc found ∙ ap (λ o. is_number o doc) (is ∙ first_number (from_doc doc (postings collection t))) ∙ posting_is collection t doc some le
+pub found_is : (collection t : List ℕ) (doc : ℕ) (found : Option ℕ) (b : Bool) → 1 ≤ doc → doc ≤ length (documents collection) →
+    found ≡ number_in (head_of (from_doc doc (postings collection t))) → b ≡ is_first (Some doc) found → b ≡ has_term (document collection doc) t
+found_is collection t doc found b some le is flag = flag ∙ is_same doc found ∙ ap (λ o. is_number o doc)
+    (is ∙ first_number (from_doc doc (postings collection t))) ∙ posting_is collection t doc some le
 
 -- ---- one place after another is made
 
@@ -253,7 +282,8 @@ pub record PlacesMade (base : List ℕ) (all : ℕ) (infos : List (Option TermIn
   pub size : length places ≡ count
   pub each : (k : ℕ) → k < count → PlaceMade base all (slice_index_or infos k None) (slice_index_or places k None)
 
-pub made_next : (base : List ℕ) (all : ℕ) (infos : List (Option TermInfo)) (count : ℕ) (places : List Place) (p : Place) → PlacesMade base all infos count places → PlaceMade base all (slice_index_or infos count None) p → PlacesMade base all infos (count + 1) (places ++ p ∷ [])
+pub made_next : (base : List ℕ) (all : ℕ) (infos : List (Option TermInfo)) (count : ℕ) (places : List Place) (p : Place) →
+    PlacesMade base all infos count places → PlaceMade base all (slice_index_or infos count None) p → PlacesMade base all infos (count + 1) (places ++ p ∷ [])
 made_next base all infos count places p m one = record { size = omega (arith, length-append places (p ∷ []), m.size); each = λ k lt. at k lt }
   where
     at : (k : ℕ) → k < count + 1 → PlaceMade base all (slice_index_or infos k None) (slice_index_or (places ++ p ∷ []) k None)
@@ -263,7 +293,9 @@ made_next base all infos count places p m one = record { size = omega (arith, le
           | inr here ↦ (let e : k ≡ count = omega (arith, here, lt) in rw e (subst (PlaceMade base all (slice_index_or infos count None)) (sym (get_or_at places p [] None count m.size)) one))
         ]
 
-pub made_over : (base : List ℕ) (all : ℕ) (infos : List (Option TermInfo)) (count : ℕ) (places : List Place) → PlacesMade base all infos count places → length infos ≡ count → (collection asked : List ℕ) (ts : List (List ℕ)) (n : ℕ) → AreInfos collection ts infos → all ≡ length (documents collection) → PlacesFor base collection asked ts n places
+pub made_over : (base : List ℕ) (all : ℕ) (infos : List (Option TermInfo)) (count : ℕ) (places : List Place) → PlacesMade base all infos count places →
+    length infos ≡ count → (collection asked : List ℕ) (ts : List (List ℕ)) (n : ℕ) → AreInfos collection ts infos → all ≡ length (documents collection) →
+    PlacesFor base collection asked ts n places
 made_over base all infos count places m whole collection asked ts n a all_is = record {
   size = m.size ∙ sym whole ∙ a.size;
   each = λ k lt. (m.each k (omega (arith, lt, a.size, whole))).over collection asked (get_or ts k []) n (a.each k lt) all_is;

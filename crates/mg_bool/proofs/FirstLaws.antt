@@ -62,7 +62,8 @@ not_sooner (Some n) None isnt = tt
 not_sooner None (Some d) isnt = absurd cc
 not_sooner (Some n) (Some d) isnt = ltb-false d n isnt
 
-pub take_sooner : (documents : ℕ → Option ℕ) (i : ℕ) (found first : Option ℕ) (old cleared : List Bool) → comes_sooner found first ≡ true → i < length cleared → ((k : ℕ) → k < i → get_or cleared k true ≡ false) →
+pub take_sooner : (documents : ℕ → Option ℕ) (i : ℕ) (found first : Option ℕ) (old cleared : List Bool) → comes_sooner found first ≡ true → i < length cleared →
+    ((k : ℕ) → k < i → get_or cleared k true ≡ false) →
     documents i ≡ found → FirstOf documents i first old → FirstOf documents (i + 1) found (slice_set cleared i true)
 take_sooner documents i found first old cleared sooner within none is f = record { least = least; one = one found is; told = told }
   where
@@ -114,14 +115,16 @@ pub record AskingFirst (base collection asked : List ℕ) (ts : List (List ℕ))
   pub so_far : FirstOf (λ k. first_from collection doc (get_or ts k [])) i first there
   pub post : after Post + pages_read old ≤ before Post + pages_read now
 
-pub asking_first_start : (base collection asked : List ℕ) (ts : List (List ℕ)) (doc : ℕ) (places : List Place) (there : List Bool) (before : Reads) → PlacesFor base collection asked ts doc places → AskingFirst base collection asked ts doc 0 None places places there before before
+pub asking_first_start : (base collection asked : List ℕ) (ts : List (List ℕ)) (doc : ℕ) (places : List Place) (there : List Bool) (before : Reads) →
+    PlacesFor base collection asked ts doc places → AskingFirst base collection asked ts doc 0 None places places there before before
 asking_first_start base collection asked ts doc places there before f = record {
   places_for = f;
   so_far = record { least = λ k lt. absurd (omega (arith, lt)); one = tt; told = λ k lt. absurd (omega (arith, lt)) };
   post = omega arith;
 }
 
-pub asking_first_next : (base collection asked : List ℕ) (ts : List (List ℕ)) (doc i : ℕ) (first first_now : Option ℕ) (old now : List Place) (there there_now : List Bool) (v : Place) (before mid after : Reads) →
+pub asking_first_next : (base collection asked : List ℕ) (ts : List (List ℕ)) (doc i : ℕ) (first first_now : Option ℕ) (old now : List Place)
+    (there there_now : List Bool) (v : Place) (before mid after : Reads) →
     AskingFirst base collection asked ts doc i first old now there before mid → i < length ts → PlaceFor base collection asked (get_or ts i []) doc v →
     FirstOf (λ k. first_from collection doc (get_or ts k [])) (i + 1) first_now there_now → after Post + place_pages (slice_index_or now i None) ≤ mid Post + place_pages v →
     AskingFirst base collection asked ts doc (i + 1) first_now old (slice_set now i v) there_now before after
@@ -139,7 +142,8 @@ unfolding from_doc
 here n [] le = refl
 here n (p ∷ ps) le = ap first_of (from_here n p ps le)
 
-has_first : (collection t : List ℕ) (doc n : ℕ) → 1 ≤ doc → doc ≤ n → n ≤ length (documents collection) → IsNoLater (Some n) (first_from collection doc t) → is_first (Some n) (first_from collection doc t) ≡ has_term (document collection n) t
+has_first : (collection t : List ℕ) (doc n : ℕ) → 1 ≤ doc → doc ≤ n → n ≤ length (documents collection) → IsNoLater (Some n) (first_from collection doc t) →
+    is_first (Some n) (first_from collection doc t) ≡ has_term (document collection n) t
 has_first collection t doc n some le within least =
     let number : first_from collection doc t ≡ first_of (from_doc doc (postings collection t)) = first_number (from_doc doc (postings collection t)) in
     let same : first_of (from_doc n (postings collection t)) ≡ first_of (from_doc doc (postings collection t)) =
@@ -163,12 +167,16 @@ first_among collection t d le = first_number (from_doc (d + 1) (postings collect
 pub first_bounds : (collection t : List ℕ) (doc n : ℕ) → 1 ≤ doc → doc ≤ length (documents collection) → first_from collection doc t ≡ Some n → (doc ≤ n) × (n ≤ length (documents collection))
 first_bounds collection t doc n some le is =
     let e : doc ≡ doc - 1 + 1 = omega (arith, some) in
-    let at : first_of (list_from t (doc - 1 + 1) (drop (doc - 1) (documents collection))) ≡ Some n = sym (first_among collection t (doc - 1) (omega (arith, le))) ∙ ap (λ k. first_from collection k t) (sym e) ∙ is in
-    (omega (arith, first_after t (doc - 1 + 1) n (drop (doc - 1) (documents collection)) at, e), omega (arith, first_before t (doc - 1 + 1) n (drop (doc - 1) (documents collection)) at, e, le, length-drop (doc - 1) (documents collection)))
+    let at : first_of (list_from t (doc - 1 + 1) (drop (doc - 1) (documents collection)))
+    ≡ Some n = sym (first_among collection t (doc - 1) (omega (arith, le))) ∙ ap (λ k. first_from collection k t) (sym e) ∙ is in (
+      omega (arith, first_after t (doc - 1 + 1) n (drop (doc - 1) (documents collection)) at, e),
+      omega (arith, first_before t (doc - 1 + 1) n (drop (doc - 1) (documents collection)) at, e, le, length-drop (doc - 1) (documents collection)),
+    )
 
 -- ---- all places were asked
 
-pub asking_first_end : (base collection asked : List ℕ) (ts : List (List ℕ)) (doc i : ℕ) (first : Option ℕ) (old now : List Place) (there : List Bool) (before after : Reads) → 1 ≤ doc → doc ≤ length (documents collection) →
+pub asking_first_end : (base collection asked : List ℕ) (ts : List (List ℕ)) (doc i : ℕ) (first : Option ℕ) (old now : List Place) (there : List Bool)
+    (before after : Reads) → 1 ≤ doc → doc ≤ length (documents collection) →
     AskingFirst base collection asked ts doc i first old now there before after → i ≡ length ts → length there ≡ length ts → AnswersFirst base collection asked ts doc first there now
 asking_first_end base collection asked ts doc i first old now there before after some le a is size = record {
   places_for = a.places_for;
@@ -177,12 +185,14 @@ asking_first_end base collection asked ts doc i first old now there before after
   are_there = are_there first a.so_far.one (λ k lt. a.so_far.least k (omega (arith, lt, is))) (λ k lt. a.so_far.told k (omega (arith, lt, is)));
 }
   where
-    one : (o : Option ℕ) → IfSome o (λ n. (k : ℕ) × (k < i) × (first_from collection doc (get_or ts k []) ≡ Some n)) → IfSome o (λ n. (k : ℕ) × (k < length ts) × (first_from collection doc (get_or ts k []) ≡ Some n))
+    one : (o : Option ℕ) → IfSome o (λ n. (k : ℕ) × (k < i) × (first_from collection doc (get_or ts k []) ≡ Some n)) →
+        IfSome o (λ n. (k : ℕ) × (k < length ts) × (first_from collection doc (get_or ts k []) ≡ Some n))
     one None h = tt
     one (Some n) h = (h.0, omega (arith, h.1, is), h.2)
 
     are_there : (o : Option ℕ) → IfSome o (λ n. (k : ℕ) × (k < i) × (first_from collection doc (get_or ts k []) ≡ Some n)) →
-        ((k : ℕ) → k < length ts → IsNoLater o (first_from collection doc (get_or ts k []))) → ((k : ℕ) → k < length ts → get_or there k true ≡ is_first o (first_from collection doc (get_or ts k []))) →
+        ((k : ℕ) → k < length ts → IsNoLater o (first_from collection doc (get_or ts k []))) →
+        ((k : ℕ) → k < length ts → get_or there k true ≡ is_first o (first_from collection doc (get_or ts k []))) →
         IfSome o (λ n. AreThere (document collection n) ts there)
     are_there None h least told = tt
     are_there (Some n) h least told =

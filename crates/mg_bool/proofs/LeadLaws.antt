@@ -58,7 +58,8 @@ fewer_joined collection x (Some a) p = fewer_thrice collection x a p
 
 fewest-append : (collection : List ℕ) (xs ys : List (List ℕ)) → leftmost_fewest collection (xs ++ ys) ≡ joined collection (leftmost_fewest collection xs) (leftmost_fewest collection ys)
 fewest-append collection [] ys = refl
-fewest-append collection (x ∷ xs) ys = ap (λ o. Some (fewer collection x o)) (fewest-append collection xs ys) ∙ ap Some (fewer_joined collection x (leftmost_fewest collection xs) (leftmost_fewest collection ys))
+fewest-append collection (x ∷ xs) ys = ap (λ o. Some (fewer collection x o)) (fewest-append collection xs ys)
+    ∙ ap Some (fewer_joined collection x (leftmost_fewest collection xs) (leftmost_fewest collection ys))
 
 no_fewest : (collection : List ℕ) (xs : List (List ℕ)) → xs ≡ [] → leftmost_fewest collection xs ≡ None
 no_fewest collection xs e = ap (leftmost_fewest collection) e
@@ -69,12 +70,15 @@ none_append xs ys e f = ap (λ l. l ++ ys) e ∙ f
 first_place : (p q : Query) (size left : ℕ) → size - left < length (query_terms p) → get_or (query_terms p ++ query_terms q) (size - left) [] ≡ get_or (query_terms p) (size - left) []
 first_place p q size left lt = get_or_append_left (query_terms p) (query_terms q) [] (size - left) lt
 
-second_place : (p q : Query) (size left : ℕ) → left ≤ size - length (query_terms p) → length (query_terms p) ≤ size → get_or (query_terms p ++ query_terms q) (size - left) [] ≡ get_or (query_terms q) (size - length (query_terms p) - left) []
+second_place : (p q : Query) (size left : ℕ) → left ≤ size - length (query_terms p) → length (query_terms p) ≤ size →
+    get_or (query_terms p ++ query_terms q) (size - left) [] ≡ get_or (query_terms q) (size - length (query_terms p) - left) []
 second_place p q size left le within =
     let e : size - left ≡ length (query_terms p) + (size - length (query_terms p) - left) = omega (arith, le, within) in
     ap (λ k. get_or (query_terms p ++ query_terms q) k []) e ∙ get_or-append-add (query_terms p) (query_terms q) (size - length (query_terms p) - left) []
 
-pub lead_both : (collection : List ℕ) (p q : Query) (size : ℕ) (a b : Option Lead) → length (query_terms p) + length (query_terms q) ≤ size → IsPlaceOf p size a → IsPlaceOf q (size - length (query_terms p)) b → IsLead collection p size a → IsLead collection q (size - length (query_terms p)) b → IsLead collection (both p q) size (better a b)
+pub lead_both : (collection : List ℕ) (p q : Query) (size : ℕ) (a b : Option Lead) → length (query_terms p) + length (query_terms q) ≤ size →
+    IsPlaceOf p size a → IsPlaceOf q (size - length (query_terms p)) b → IsLead collection p size a → IsLead collection q (size - length (query_terms p)) b →
+    IsLead collection (both p q) size (better a b)
 lead_both collection p q size None None fits pa pb la lb = none_append (leading p) (leading q) la lb
 lead_both collection p q size (Some a) None fits pa pb la lb =
     let here = first_place p q size a.left pa.1 in (
@@ -107,14 +111,16 @@ lead_both collection p q size (Some a) (Some b) fits pa pb la lb =
           subst (IsLead collection (both p q) size) (sym (ap (λ c. if c then Some a else Some b) test)) (whole ∙ ap Some choice ∙ ap Some (sym here), la.1 ∙ ap (docs collection) (sym here)))
     ]
 
-pub place_both : (p q : Query) (size : ℕ) (a b : Option Lead) → length (query_terms p) + length (query_terms q) ≤ size → IsPlaceOf p size a → IsPlaceOf q (size - length (query_terms p)) b → IsPlaceOf (both p q) size (better a b)
+pub place_both : (p q : Query) (size : ℕ) (a b : Option Lead) → length (query_terms p) + length (query_terms q) ≤ size → IsPlaceOf p size a →
+    IsPlaceOf q (size - length (query_terms p)) b → IsPlaceOf (both p q) size (better a b)
 place_both p q size None None fits pa pb = tt
 place_both p q size (Some a) None fits pa pb = (pa.0, omega (arith, pa.1, length-append (query_terms p) (query_terms q)))
 place_both p q size None (Some b) fits pa pb = (omega (arith, pb.0), omega (arith, pb.0, pb.1, fits, length-append (query_terms p) (query_terms q)))
 place_both p q size (Some a) (Some b) fits pa pb =
     elim (cases_Bool (nat_le a.docs b.docs)) [
       | inl test ↦ subst (IsPlaceOf (both p q) size) (sym (ap (λ c. if c then Some a else Some b) test)) (pa.0, omega (arith, pa.1, length-append (query_terms p) (query_terms q)))
-      | inr test ↦ subst (IsPlaceOf (both p q) size) (sym (ap (λ c. if c then Some a else Some b) test)) (omega (arith, pb.0), omega (arith, pb.0, pb.1, fits, length-append (query_terms p) (query_terms q)))
+      | inr test ↦ subst (IsPlaceOf (both p q) size) (sym (ap (λ c. if c then Some a else Some b) test))
+          (omega (arith, pb.0), omega (arith, pb.0, pb.1, fits, length-append (query_terms p) (query_terms q)))
     ]
 
 -- what is told of the terms of both sides
@@ -138,9 +144,11 @@ tell_fits collection ts infos told = by_case (length ts) refl
     by_case zero e = omega (arith, e)
     by_case (suc n) e = omega (arith, e, (told n (omega (arith, e))).0)
 
-pub lead_whole : (collection : List ℕ) (p q : Query) (infos rest : List (Option TermInfo)) (a b : Option Lead) → TellFirst collection (query_terms p ++ query_terms q) infos → rest ≡ drop (length (query_terms p)) infos →
+pub lead_whole : (collection : List ℕ) (p q : Query) (infos rest : List (Option TermInfo)) (a b : Option Lead) →
+    TellFirst collection (query_terms p ++ query_terms q) infos → rest ≡ drop (length (query_terms p)) infos →
     (TellFirst collection (query_terms p) infos → IsLead collection p (length infos) a) → (length (query_terms p) ≤ length infos → IsPlaceOf p (length infos) a) →
-    (TellFirst collection (query_terms q) rest → IsLead collection q (length rest) b) → (length (query_terms q) ≤ length rest → IsPlaceOf q (length rest) b) → IsLead collection (both p q) (length infos) (better a b)
+    (TellFirst collection (query_terms q) rest → IsLead collection q (length rest) b) → (length (query_terms q) ≤ length rest → IsPlaceOf q (length rest) b) →
+    IsLead collection (both p q) (length infos) (better a b)
 lead_whole collection p q infos rest a b told rest_is lead_a place_a lead_b place_b =
     let fits : length (query_terms p ++ query_terms q) ≤ length infos = tell_fits collection (query_terms p ++ query_terms q) infos told in
     let both_fit : length (query_terms p) + length (query_terms q) ≤ length infos = omega (arith, fits, length-append (query_terms p) (query_terms q)) in
@@ -155,8 +163,11 @@ lead_whole collection p q infos rest a b told rest_is lead_a place_a lead_b plac
 tell_all : (collection : List ℕ) (ts : List (List ℕ)) (infos : List (Option TermInfo)) → AreInfos collection ts infos → TellFirst collection ts infos
 tell_all collection ts infos a k lt = (omega (arith, lt, a.size), a.each k lt)
 
-pub lead_leads : (collection : List ℕ) (q : Query) (infos : List (Option TermInfo)) (lead : Lead) → AreInfos collection (query_terms q) infos → (TellFirst collection (query_terms q) infos → IsLead collection q (length infos) (Some lead)) → (length (query_terms q) ≤ length infos → IsPlaceOf q (length infos) (Some lead)) → Leads collection q (Some (length infos - lead.left))
+pub lead_leads : (collection : List ℕ) (q : Query) (infos : List (Option TermInfo)) (lead : Lead) → AreInfos collection (query_terms q) infos →
+    (TellFirst collection (query_terms q) infos → IsLead collection q (length infos) (Some lead)) →
+    (length (query_terms q) ≤ length infos → IsPlaceOf q (length infos) (Some lead)) → Leads collection q (Some (length infos - lead.left))
 lead_leads collection q infos lead a leads place = ((place (omega (arith, a.size))).1, (leads (tell_all collection (query_terms q) infos a)).0)
 
-pub none_leads : (collection : List ℕ) (q : Query) (infos : List (Option TermInfo)) → AreInfos collection (query_terms q) infos → (TellFirst collection (query_terms q) infos → IsLead collection q (length infos) None) → Leads collection q None
+pub none_leads : (collection : List ℕ) (q : Query) (infos : List (Option TermInfo)) → AreInfos collection (query_terms q) infos →
+    (TellFirst collection (query_terms q) infos → IsLead collection q (length infos) None) → Leads collection q None
 none_leads collection q infos a leads = leads (tell_all collection (query_terms q) infos a)

@@ -35,16 +35,22 @@ unfolding asked_of
 asked_none collection q none = ap (λ ts. asked_by_leader collection (leftmost_fewest collection ts)) none
 
 -- any document may be asked where nothing leads
-pub any_asked : (collection : List ℕ) (q : Query) (doc : ℕ) → leading q ≡ [] → 1 ≤ doc → doc ≤ length (documents collection) → (t : List ℕ) → IsAmong (asked_of collection q) (postings collection t) doc
+pub any_asked : (collection : List ℕ) (q : Query) (doc : ℕ) → leading q ≡ [] → 1 ≤ doc → doc ≤ length (documents collection) → (t : List ℕ) →
+    IsAmong (asked_of collection q) (postings collection t) doc
 any_asked collection q doc none some le t k in_it =
-    ap (λ l. list_any (in_range k (postings collection t)) l) (asked_none collection q none) ∙ number_there (in_range k (postings collection t)) 1 doc (documents collection) some (omega (arith, le)) (range_true k (postings collection t) doc in_it)
+    ap (λ l. list_any (in_range k (postings collection t)) l) (asked_none collection q none)
+    ∙ number_there (in_range k (postings collection t)) 1 doc (documents collection) some (omega (arith, le))
+    (range_true k (postings collection t) doc in_it)
 
 -- one of the leading list may be asked, and of the leading list itself the one after the last
-lead_asked : (collection : List ℕ) (q : Query) (r : List ℕ) (d doc : ℕ) → leftmost_fewest collection (leading q) ≡ Some r → first_of (from_doc d (postings collection r)) ≡ Some doc → (t : List ℕ) → IsAmong (asked_of collection q) (postings collection t) doc
+lead_asked : (collection : List ℕ) (q : Query) (r : List ℕ) (d doc : ℕ) → leftmost_fewest collection (leading q) ≡ Some r →
+    first_of (from_doc d (postings collection r)) ≡ Some doc → (t : List ℕ) → IsAmong (asked_of collection q) (postings collection t) doc
 lead_asked collection q r d doc lead is t k in_it =
-    ap (λ l. list_any (in_range k (postings collection t)) l) (asked_lead collection q r lead) ∙ first_in d doc (postings collection r) (in_range k (postings collection t)) is (range_true k (postings collection t) doc in_it)
+    ap (λ l. list_any (in_range k (postings collection t)) l) (asked_lead collection q r lead)
+    ∙ first_in d doc (postings collection r) (in_range k (postings collection t)) is (range_true k (postings collection t) doc in_it)
 
-pub own_asked : (collection : List ℕ) (q : Query) (r : List ℕ) (doc : ℕ) → length collection < 4294967296 → leftmost_fewest collection (leading q) ≡ Some r → IsAmong (asked_of collection q) (postings collection r) doc
+pub own_asked : (collection : List ℕ) (q : Query) (r : List ℕ) (doc : ℕ) → length collection < 4294967296 → leftmost_fewest collection (leading q) ≡ Some r →
+    IsAmong (asked_of collection q) (postings collection r) doc
 own_asked collection q r doc short lead k in_it =
     ap (λ l. is_met l (postings collection r) k) (asked_lead collection q r lead) ∙ own_met (length (documents collection)) k doc (postings collection r) (list_rises collection r short) in_it
 
@@ -64,7 +70,8 @@ lead_from collection r d le =
     let split : ds ≡ take d ds ++ drop d ds = sym (take-append-drop d ds) in
     ap (λ l. from_doc (d + 1) (list_from r 1 l)) split ∙ from_front r 1 (d + 1) (take d ds) (drop d ds) (omega (arith, length_front ds d le))
 
-pub lead_next : (collection : List ℕ) (q : Query) (r : List ℕ) (d : ℕ) (o : Option ℕ) → d ≤ length (documents collection) → leftmost_fewest collection (leading q) ≡ Some r → o ≡ first_of (from_doc (d + 1) (postings collection r)) → IsNext collection q d o
+pub lead_next : (collection : List ℕ) (q : Query) (r : List ℕ) (d : ℕ) (o : Option ℕ) → d ≤ length (documents collection) →
+    leftmost_fewest collection (leading q) ≡ Some r → o ≡ first_of (from_doc (d + 1) (postings collection r)) → IsNext collection q d o
 lead_next collection q r d None le lead is = lead_ends q collection r (d + 1) (drop d (documents collection)) lead (sym (ap first_of (lead_from collection r d le)) ∙ sym is)
 lead_next collection q r d (Some m) le lead is =
     let ds = documents collection in
@@ -97,15 +104,18 @@ docs_at collection doc some le =
     let d = doc - 1 in
     let e : d + 1 ≡ doc = omega (arith, some) in
     let split : ds ≡ take d ds ++ get_or ds d [] ∷ drop (d + 1) ds = docs_from ds d (omega (arith, some, le)) in
-    ap (drop d) split ∙ ap (λ k. drop k (take d ds ++ get_or ds d [] ∷ drop (d + 1) ds)) (sym (length_front ds d (omega (arith, le)))) ∙ drop_front (take d ds) (get_or ds d [] ∷ drop (d + 1) ds) ∙ ap (λ k. get_or ds d [] ∷ drop k ds) e
+    ap (drop d) split ∙ ap (λ k. drop k (take d ds ++ get_or ds d [] ∷ drop (d + 1) ds)) (sym (length_front ds d (omega (arith, le))))
+    ∙ drop_front (take d ds) (get_or ds d [] ∷ drop (d + 1) ds) ∙ ap (λ k. get_or ds d [] ∷ drop k ds) e
 
 pub decided_miss : (collection : List ℕ) (q : Query) (d doc : ℕ) → IsNextDoc collection q d doc → satisfies q (document collection doc) ≡ false → left_in collection q d ≡ left_in collection q doc
 decided_miss collection q d doc next miss =
     next.same ∙ ap (found q doc) (docs_at collection doc (omega (arith, next.later)) next.within) ∙ found-miss q doc (document collection doc) (drop doc (documents collection)) miss
 
-pub decided_hit : (collection : List ℕ) (q : Query) (d doc : ℕ) → IsNextDoc collection q d doc → satisfies q (document collection doc) ≡ true → GoesOn (left_in collection q d) (left_in collection q doc) (Some doc)
+pub decided_hit : (collection : List ℕ) (q : Query) (d doc : ℕ) → IsNextDoc collection q d doc → satisfies q (document collection doc) ≡ true →
+    GoesOn (left_in collection q d) (left_in collection q doc) (Some doc)
 decided_hit collection q d doc next hit =
-    let e : left_in collection q d ≡ plain doc ∷ left_in collection q doc = next.same ∙ ap (found q doc) (docs_at collection doc (omega (arith, next.later)) next.within) ∙ found-hit q doc (document collection doc) (drop doc (documents collection)) hit in
+    let e : left_in collection q d ≡ plain doc ∷ left_in collection q doc = next.same ∙ ap (found q doc)
+    (docs_at collection doc (omega (arith, next.later)) next.within) ∙ found-hit q doc (document collection doc) (drop doc (documents collection)) hit in
     subst (λ l. GoesOn l (left_in collection q doc) (Some doc)) (sym e) (refl, refl)
 
 -- ---- the place that leads is asked
@@ -115,7 +125,8 @@ pub record LeadAsked (base collection : List ℕ) (q : Query) (files : Option Fi
   pub term : leftmost_fewest collection (leading q) ≡ Some (get_or (query_terms q) place [])
   pub asks : AsksPlace base collection (asked_of collection q) (get_or (query_terms q) place []) (decided + 1) files (slice_index_or places place None)
 
-pub lead_of : (base collection : List ℕ) (q : Query) (files : Option Files) (places : List Place) (lead : Option ℕ) (place all decided : ℕ) → lead ≡ Some place → GoesOver base collection q files places lead all decided → LeadAsked base collection q files places place decided
+pub lead_of : (base collection : List ℕ) (q : Query) (files : Option Files) (places : List Place) (lead : Option ℕ) (place all decided : ℕ) →
+    lead ≡ Some place → GoesOver base collection q files places lead all decided → LeadAsked base collection q files places place decided
 lead_of base collection q files places lead place all decided is goes =
     let l : Leads collection q (Some place) = subst (Leads collection q) is goes.over.leads in
     record {
@@ -129,22 +140,29 @@ lead_of base collection q files places lead place all decided is goes =
     }
 
 -- what the leading list answered
-pub lead_answer : (base collection : List ℕ) (q : Query) (files : Option Files) (places : List Place) (lead : Option ℕ) (place all decided : ℕ) (v : Place) (found : Option ℕ) → GoesOver base collection q files places lead all decided → LeadAsked base collection q files places place decided →
-    AnswersPlace base collection (asked_of collection q) (get_or (query_terms q) place []) (decided + 1) found v → IsNext collection q decided found × PlacesFor base collection (asked_of collection q) (query_terms q) (decided + 1) (slice_set places place v)
+pub lead_answer : (base collection : List ℕ) (q : Query) (files : Option Files) (places : List Place) (lead : Option ℕ) (place all decided : ℕ) (v : Place)
+    (found : Option ℕ) → GoesOver base collection q files places lead all decided → LeadAsked base collection q files places place decided →
+    AnswersPlace base collection (asked_of collection q) (get_or (query_terms q) place []) (decided + 1) found v →
+    IsNext collection q decided found × PlacesFor base collection (asked_of collection q) (query_terms q) (decided + 1) (slice_set places place v)
 lead_answer base collection q files places lead place all decided v found goes l a =
     let r = get_or (query_terms q) place [] in
-    let first : found ≡ first_of (from_doc (decided + 1) (postings collection (get_or (query_terms q) place []))) = a.found_is ∙ first_number (from_doc (decided + 1) (postings collection (get_or (query_terms q) place []))) in (
+    let first : found ≡ first_of (from_doc (decided + 1) (postings collection (get_or (query_terms q) place []))) = a.found_is
+    ∙ first_number (from_doc (decided + 1) (postings collection (get_or (query_terms q) place []))) in (
       lead_next collection q (get_or (query_terms q) place []) decided found (omega (arith, goes.over.all_is, goes.over.within)) l.term first,
       asked_one base collection (asked_of collection q) (query_terms q) (decided + 1) place places v goes.over.each l.there a.place,
     )
 
-pub lead_pages : (base collection : List ℕ) (q : Query) (files : Option Files) (places : List Place) (lead : Option ℕ) (place all decided : ℕ) (v : Place) (before after : Reads) → CursorsWithin → GoesOver base collection q files places lead all decided → LeadAsked base collection q files places place decided →
-    PagesWithin (pages_for collection (asked_of collection q) (get_or (query_terms q) place [])) (place_pages (slice_index_or places place None)) (place_pages v) before after → PagesWithin (boolean_bound collection q) (pages_read places) (pages_read (slice_set places place v)) before after
+pub lead_pages : (base collection : List ℕ) (q : Query) (files : Option Files) (places : List Place) (lead : Option ℕ) (place all decided : ℕ) (v : Place)
+    (before after : Reads) → CursorsWithin → GoesOver base collection q files places lead all decided → LeadAsked base collection q files places place decided →
+    PagesWithin (pages_for collection (asked_of collection q) (get_or (query_terms q) place [])) (place_pages (slice_index_or places place None))
+    (place_pages v) before after → PagesWithin (boolean_bound collection q) (pages_read places) (pages_read (slice_set places place v)) before after
 unfolding boolean_bound
 lead_pages base collection q files places lead place all decided v before after law goes l step =
     asked_pages base collection (asked_of collection q) (query_terms q) (decided + 1) place places places v before before after law goes.over.each l.there (omega arith) step
 
-pub still_pages : (base collection : List ℕ) (q : Query) (n : ℕ) (places : List Place) (before : Reads) → CursorsWithin → PlacesFor base collection (asked_of collection q) (query_terms q) n places → PagesWithin (boolean_bound collection q) (pages_read places) (pages_read places) before before
+pub still_pages : (base collection : List ℕ) (q : Query) (n : ℕ) (places : List Place) (before : Reads) → CursorsWithin →
+    PlacesFor base collection (asked_of collection q) (query_terms q) n places →
+    PagesWithin (boolean_bound collection q) (pages_read places) (pages_read places) before before
 unfolding boolean_bound
 still_pages base collection q n places before law f = record { within = places_bound base collection (asked_of collection q) (query_terms q) n places law f; post = omega arith }
 
@@ -154,7 +172,8 @@ lead_on base all places place on = on.each place
 
 -- ---- a document is asked of all places
 
-pub next_asks : (base collection : List ℕ) (q : Query) (files : Option Files) (places : List Place) (decided doc : ℕ) → ListsStand base files collection → IsNextDoc collection q decided doc → PlacesFor base collection (asked_of collection q) (query_terms q) (decided + 1) places →
+pub next_asks : (base collection : List ℕ) (q : Query) (files : Option Files) (places : List Place) (decided doc : ℕ) → ListsStand base files collection →
+    IsNextDoc collection q decided doc → PlacesFor base collection (asked_of collection q) (query_terms q) (decided + 1) places →
     AsksAll base collection (asked_of collection q) (query_terms q) doc files places
 next_asks base collection q files places decided doc stand next f = record {
   stand = stand;
@@ -164,7 +183,9 @@ next_asks base collection q files places decided doc stand next f = record {
 }
 
 -- a document more is decided
-pub decided_over : (base collection : List ℕ) (q : Query) (old new : List Place) (lead : Option ℕ) (all d doc : ℕ) → PlacesOver base collection q old lead all d → IsNextDoc collection q d doc → PlacesFor base collection (asked_of collection q) (query_terms q) doc new → PlacesOver base collection q new lead all doc
+pub decided_over : (base collection : List ℕ) (q : Query) (old new : List Place) (lead : Option ℕ) (all d doc : ℕ) →
+    PlacesOver base collection q old lead all d → IsNextDoc collection q d doc → PlacesFor base collection (asked_of collection q) (query_terms q) doc new →
+    PlacesOver base collection q new lead all doc
 decided_over base collection q old new lead all d doc over next f = record {
   each = places_later base collection (asked_of collection q) (query_terms q) doc (doc + 1) new (omega arith) f;
   leads = over.leads;
@@ -173,7 +194,8 @@ decided_over base collection q old new lead all d doc over next f = record {
 }
 
 -- all are decided
-pub all_over : (base collection : List ℕ) (q : Query) (old new : List Place) (lead : Option ℕ) (all d : ℕ) → PlacesOver base collection q old lead all d → PlacesFor base collection (asked_of collection q) (query_terms q) (d + 1) new → PlacesOver base collection q new lead all all
+pub all_over : (base collection : List ℕ) (q : Query) (old new : List Place) (lead : Option ℕ) (all d : ℕ) → PlacesOver base collection q old lead all d →
+    PlacesFor base collection (asked_of collection q) (query_terms q) (d + 1) new → PlacesOver base collection q new lead all all
 all_over base collection q old new lead all d over f = record {
   each = places_later base collection (asked_of collection q) (query_terms q) (d + 1) (all + 1) new (omega (arith, over.within)) f;
   leads = over.leads;
@@ -187,10 +209,13 @@ none_goes collection q d all is none =
     let last : left_in collection q all ≡ [] = none_left collection q all (omega (arith, is)) in
     subst (λ l. GoesOn l (left_in collection q all) None) (sym none) last
 
-pub pages_more : (bound old mid now : ℕ) (before between after : Reads) → between part.Post + old ≤ before part.Post + mid → PagesWithin bound mid now between after → PagesWithin bound old now before after
+pub pages_more : (bound old mid now : ℕ) (before between after : Reads) → between part.Post + old ≤ before part.Post + mid →
+    PagesWithin bound mid now between after → PagesWithin bound old now before after
 pages_more bound old mid now before between after so_far step = record { within = step.within; post = omega (arith, so_far, step.post) }
 
-pub sum_pages : (collection : List ℕ) (q : Query) (old now : ℕ) (before after : Reads) → PagesWithin (sum_by (pages_for collection (asked_of collection q)) (query_terms q)) old now before after → PagesWithin (boolean_bound collection q) old now before after
+pub sum_pages : (collection : List ℕ) (q : Query) (old now : ℕ) (before after : Reads) →
+    PagesWithin (sum_by (pages_for collection (asked_of collection q)) (query_terms q)) old now before after →
+    PagesWithin (boolean_bound collection q) old now before after
 unfolding boolean_bound
 sum_pages collection q old now before after p = p
 
@@ -201,17 +226,21 @@ pub record Going (base collection : List ℕ) (q : Query) (old now : List Place)
   pub left : left_in collection q before_doc ≡ left_in collection q doc
   pub post : after part.Post + pages_read old ≤ before part.Post + pages_read now
 
-pub going_start : (base collection : List ℕ) (q : Query) (files : Option Files) (places : List Place) (lead : Option ℕ) (all d : ℕ) (before : Reads) → GoesOver base collection q files places lead all d → Going base collection q places places lead all d d before before
+pub going_start : (base collection : List ℕ) (q : Query) (files : Option Files) (places : List Place) (lead : Option ℕ) (all d : ℕ) (before : Reads) →
+    GoesOver base collection q files places lead all d → Going base collection q places places lead all d d before before
 going_start base collection q files places lead all d before goes = record { over = goes.over; left = refl; post = omega arith }
 
 pub stands_now : (base collection : List ℕ) (files now_files : Option Files) → now_files ≡ files → ListsStand base files collection → ListsStand base now_files collection
 stands_now base collection files now_files same stand = subst (λ fs. ListsStand base fs collection) (sym same) stand
 
-pub goes_now : (base collection : List ℕ) (q : Query) (files now_files : Option Files) (old now : List Place) (lead : Option ℕ) (all d e : ℕ) (before after : Reads) → now_files ≡ files → GoesOver base collection q files old lead all d → Going base collection q old now lead all d e before after →
+pub goes_now : (base collection : List ℕ) (q : Query) (files now_files : Option Files) (old now : List Place) (lead : Option ℕ) (all d e : ℕ)
+    (before after : Reads) → now_files ≡ files → GoesOver base collection q files old lead all d → Going base collection q old now lead all d e before after →
     GoesOver base collection q now_files now lead all e
 goes_now base collection q files now_files old now lead all d e before after same goes going = record { stand = subst (λ fs. ListsStand base fs collection) (sym same) goes.stand; over = going.over }
 
-pub going_miss : (base collection : List ℕ) (q : Query) (old mid now : List Place) (lead : Option ℕ) (all d e doc : ℕ) (b : Bool) (before between after : Reads) → Going base collection q old mid lead all d e before between → IsNextDoc collection q e doc → PlacesFor base collection (asked_of collection q) (query_terms q) doc now →
+pub going_miss : (base collection : List ℕ) (q : Query) (old mid now : List Place) (lead : Option ℕ) (all d e doc : ℕ) (b : Bool)
+    (before between after : Reads) → Going base collection q old mid lead all d e before between → IsNextDoc collection q e doc →
+    PlacesFor base collection (asked_of collection q) (query_terms q) doc now →
     b ≡ satisfies q (document collection doc) → b ≡ false → after part.Post + pages_read mid ≤ between part.Post + pages_read now → Going base collection q old now lead all d doc before after
 going_miss base collection q old mid now lead all d e doc b before between after going next f asked miss step = record {
   over = decided_over base collection q mid now lead all e doc going.over next f;
@@ -219,26 +248,33 @@ going_miss base collection q old mid now lead all d e doc b before between after
   post = omega (arith, going.post, step);
 }
 
-pub going_hit : (base collection : List ℕ) (q : Query) (old mid now : List Place) (lead : Option ℕ) (all d e doc : ℕ) (b : Bool) (before between : Reads) → Going base collection q old mid lead all d e before between → IsNextDoc collection q e doc → PlacesFor base collection (asked_of collection q) (query_terms q) doc now →
+pub going_hit : (base collection : List ℕ) (q : Query) (old mid now : List Place) (lead : Option ℕ) (all d e doc : ℕ) (b : Bool) (before between : Reads) →
+    Going base collection q old mid lead all d e before between → IsNextDoc collection q e doc →
+    PlacesFor base collection (asked_of collection q) (query_terms q) doc now →
     b ≡ satisfies q (document collection doc) → b ≡ true → GoesOn (left_in collection q d) (left_in collection q doc) (Some doc) × PlacesOver base collection q now lead all doc
 going_hit base collection q old mid now lead all d e doc b before between going next f asked hit = (
   subst (λ l. GoesOn l (left_in collection q doc) (Some doc)) (sym going.left) (decided_hit collection q e doc next (sym asked ∙ hit)),
   decided_over base collection q mid now lead all e doc going.over next f,
 )
 
-pub going_none : (base collection : List ℕ) (q : Query) (old mid now : List Place) (lead : Option ℕ) (all d e : ℕ) (before between : Reads) → Going base collection q old mid lead all d e before between → left_in collection q e ≡ [] → PlacesFor base collection (asked_of collection q) (query_terms q) (e + 1) now →
+pub going_none : (base collection : List ℕ) (q : Query) (old mid now : List Place) (lead : Option ℕ) (all d e : ℕ) (before between : Reads) →
+    Going base collection q old mid lead all d e before between → left_in collection q e ≡ [] →
+    PlacesFor base collection (asked_of collection q) (query_terms q) (e + 1) now →
     GoesOn (left_in collection q d) (left_in collection q all) None × PlacesOver base collection q now lead all all
 going_none base collection q old mid now lead all d e before between going none f = (
   none_goes collection q d all going.over.all_is (going.left ∙ none),
   all_over base collection q mid now lead all e going.over f,
 )
 
-pub going_end : (base collection : List ℕ) (q : Query) (old now : List Place) (lead : Option ℕ) (all d e : ℕ) (before after : Reads) → Going base collection q old now lead all d e before after → all ≤ e → GoesOn (left_in collection q d) (left_in collection q e) None × PlacesOver base collection q now lead all e
+pub going_end : (base collection : List ℕ) (q : Query) (old now : List Place) (lead : Option ℕ) (all d e : ℕ) (before after : Reads) →
+    Going base collection q old now lead all d e before after → all ≤ e → GoesOn (left_in collection q d) (left_in collection q e) None
+    × PlacesOver base collection q now lead all e
 going_end base collection q old now lead all d e before after going le =
     let none : left_in collection q e ≡ [] = none_left collection q e (omega (arith, going.over.all_is, le)) in
     (subst (λ l. GoesOn l (left_in collection q e) None) (sym (going.left ∙ none)) none, going.over)
 
-pub going_pages : (base collection : List ℕ) (q : Query) (old now : List Place) (lead : Option ℕ) (all d e : ℕ) (before after : Reads) → CursorsWithin → Going base collection q old now lead all d e before after → PagesWithin (boolean_bound collection q) (pages_read old) (pages_read now) before after
+pub going_pages : (base collection : List ℕ) (q : Query) (old now : List Place) (lead : Option ℕ) (all d e : ℕ) (before after : Reads) → CursorsWithin →
+    Going base collection q old now lead all d e before after → PagesWithin (boolean_bound collection q) (pages_read old) (pages_read now) before after
 unfolding boolean_bound
 going_pages base collection q old now lead all d e before after law going = record {
   within = places_bound base collection (asked_of collection q) (query_terms q) (e + 1) now law going.over.each;
@@ -247,10 +283,12 @@ going_pages base collection q old now lead all d e before after law going = reco
 
 -- ---- after the last document
 
-pub ended_goes : (base collection : List ℕ) (m : Matching) → m.decided ≡ m.all → MatchesOver base collection m → GoesOn (left_of collection m) (left_of collection m) None × MatchesOver base collection m
+pub ended_goes : (base collection : List ℕ) (m : Matching) → m.decided ≡ m.all → MatchesOver base collection m →
+    GoesOn (left_of collection m) (left_of collection m) None × MatchesOver base collection m
 ended_goes base collection m is over =
     let none : left_of collection m ≡ [] = none_left collection (query_of m.asks) m.decided (omega (arith, is, over.all_is)) in
     (subst (λ l. GoesOn l (left_of collection m) None) (sym none) none, over)
 
-pub ended_pages : (base collection : List ℕ) (m : Matching) (before : Reads) → CursorsWithin → MatchesOver base collection m → PagesWithin (boolean_bound collection (query_of m.asks)) (pages_read m.places) (pages_read m.places) before before
+pub ended_pages : (base collection : List ℕ) (m : Matching) (before : Reads) → CursorsWithin → MatchesOver base collection m →
+    PagesWithin (boolean_bound collection (query_of m.asks)) (pages_read m.places) (pages_read m.places) before before
 ended_pages base collection m before law over = still_pages base collection (query_of m.asks) (m.decided + 1) m.places before law over.each

@@ -15,14 +15,19 @@ all_left collection m none = rw none refl
 
 -- what mg_post says of one cursor
 abbrev pub CursorsStay : Type 0
-CursorsStay = (c : Cursoring) (f g : Option Files) → is_some g ≡ is_some f → file_at g c.post.name ≡ file_at f c.post.name → file_at g c.skip.name ≡ file_at f c.skip.name → CursorFits c f → CursorFits c g
+CursorsStay = (c : Cursoring) (f g : Option Files) → is_some g ≡ is_some f → file_at g c.post.name ≡ file_at f c.post.name →
+    file_at g c.skip.name ≡ file_at f c.skip.name → CursorFits c f → CursorFits c g
 
-place_stays : (base : List ℕ) (all : ℕ) (f g : Option Files) (p : Place) → CursorsStay → is_some g ≡ is_some f → file_at g (full_name base Post) ≡ file_at f (full_name base Post) → file_at g (full_name base Skip) ≡ file_at f (full_name base Skip) → PlaceOn base all p → PlaceFits f p → PlaceFits g p
+place_stays : (base : List ℕ) (all : ℕ) (f g : Option Files) (p : Place) → CursorsStay → is_some g ≡ is_some f →
+    file_at g (full_name base Post) ≡ file_at f (full_name base Post) → file_at g (full_name base Skip) ≡ file_at f (full_name base Skip) → PlaceOn base all p →
+    PlaceFits f p → PlaceFits g p
 place_stays base all f g None law told post skip on fits = tt
 place_stays base all f g (Some c) law told post skip on fits =
     law c f g told (ap (file_at g) on.post ∙ post ∙ sym (ap (file_at f) on.post)) (ap (file_at g) on.skip ∙ skip ∙ sym (ap (file_at f) on.skip)) fits
 
-pub matches_stay : (base : List ℕ) (f g : Option Files) (m : Matching) → CursorsStay → is_some g ≡ is_some f → file_at g (full_name base Post) ≡ file_at f (full_name base Post) → file_at g (full_name base Skip) ≡ file_at f (full_name base Skip) → MatchesFit base f m → MatchesFit base g m
+pub matches_stay : (base : List ℕ) (f g : Option Files) (m : Matching) → CursorsStay → is_some g ≡ is_some f →
+    file_at g (full_name base Post) ≡ file_at f (full_name base Post) → file_at g (full_name base Skip) ≡ file_at f (full_name base Skip) →
+    MatchesFit base f m → MatchesFit base g m
 matches_stay base f g m law told post skip fit = record {
   on = fit.on;
   fits = record { each = λ k lt. place_stays base m.all f g (slice_index_or m.places k None) law told post skip (fit.on.each k) (fit.fits.each k lt) };

@@ -55,9 +55,11 @@ pub record Under (q : Query) (led : Option ℕ) (all : ℕ) (old now : Spot) (fi
   pub there : length now.there ≡ length old.there
   pub most : now.decided ≤ all
   pub later : old.decided ≤ now.decided
-  pub goes : (base collection : List ℕ) → GoesOver base collection q files_before old.places led all old.decided → Going base collection q old.places now.places led all old.decided now.decided reads_before reads_now
+  pub goes : (base collection : List ℕ) → GoesOver base collection q files_before old.places led all old.decided →
+      Going base collection q old.places now.places led all old.decided now.decided reads_before reads_now
 
-pub under_start : (q : Query) (led : Option ℕ) (all : ℕ) (old : Spot) (files : Option Files) (reads : Reads) (faults : ℕ) → IsReady files led all old → Under q led all old old files files reads reads faults faults
+pub under_start : (q : Query) (led : Option ℕ) (all : ℕ) (old : Spot) (files : Option Files) (reads : Reads) (faults : ℕ) → IsReady files led all old →
+    Under q led all old old files files reads reads faults faults
 under_start q led all old files reads faults ready = record {
   step = record { same = same_all old.places; files = refl; reads = record { later = λ p. omega arith; others = λ p a b. refl }; faults = omega arith };
   fits = ready.fits;
@@ -99,10 +101,12 @@ module _ {q : Query} {led : Option ℕ} {all : ℕ} {old mid : Spot} {f g : Opti
     cause = record { later = u.step.faults; device = tt };
   }
 
-  module _ {places : List Place} {h : Option Files} {t : Reads} {n : ℕ} (told : List Bool) (step : Stepped mid.places places g h s t m n) (there : length told ≡ length mid.there) (pages : ReadsBetween q g s t led all mid.places places mid.decided) where
+  module _ {places : List Place} {h : Option Files} {t : Reads} {n : ℕ} (told : List Bool) (step : Stepped mid.places places g h s t m n)
+      (there : length told ≡ length mid.there) (pages : ReadsBetween q g s t led all mid.places places mid.decided) where
     more_pages : ReadsBetween q f r t led all old.places places old.decided
     more_pages base collection goes =
-        pages_more (boolean_bound collection q) (pages_read old.places) (pages_read mid.places) (pages_read places) r s t (u.goes base collection goes).post (pages base collection (now_over base collection goes))
+        pages_more (boolean_bound collection q) (pages_read old.places) (pages_read mid.places) (pages_read places) r s t (u.goes base collection goes).post
+        (pages base collection (now_over base collection goes))
 
     -- a call refused
     pub walk_err : {T : Type 0} {k : ℕ} (e : PartErr) → NamesItsPart e → e ≢ err.Memory → l ≤ k → HasPartCause {T = T} k n (Err e) →
@@ -127,7 +131,8 @@ module _ {q : Query} {led : Option ℕ} {all : ℕ} {old mid : Spot} {f g : Opti
 
     -- no document is left that may satisfy the query
     pub walk_none : PlacesFit h places →
-        ((base collection : List ℕ) → GoesOver base collection q g mid.places led all mid.decided → (left_in collection q mid.decided ≡ []) × PlacesFor base collection (asked_of collection q) (query_terms q) (mid.decided + 1) places) →
+        ((base collection : List ℕ) → GoesOver base collection q g mid.places led all mid.decided →
+        (left_in collection q mid.decided ≡ []) × PlacesFor base collection (asked_of collection q) (query_terms q) (mid.decided + 1) places) →
         Walked q led all old (record { places = places; there = told; decided = all }) (Ok None) f h r t l n
     walk_none fits found = record {
       fits = fits;
@@ -185,13 +190,15 @@ module _ {q : Query} {led : Option ℕ} {all : ℕ} {old mid : Spot} {f g : Opti
 
 -- ---- a candidate is asked of all places
 
-module _ {q : Query} {led : Option ℕ} {all d doc : ℕ} {places between : List Place} {g g1 : Option Files} {s s1 : Reads} (same : g1 ≡ g) (found : FindsCandidate q g led all places between d (Ok (Some doc))) (pages : ReadsBetween q g s s1 led all places between d) where
+module _ {q : Query} {led : Option ℕ} {all d doc : ℕ} {places between : List Place} {g g1 : Option Files} {s s1 : Reads} (same : g1 ≡ g)
+    (found : FindsCandidate q g led all places between d (Ok (Some doc))) (pages : ReadsBetween q g s s1 led all places between d) where
   asks_at : (base collection : List ℕ) → GoesOver base collection q g places led all d → AsksAll base collection (asked_of collection q) (query_terms q) doc g1 between
   asks_at base collection goes =
       let a = found base collection goes in
       next_asks base collection q g1 between d doc (stands_now base collection g g1 same goes.stand) a.0 a.1
 
-  pub asked_err : (now : List Place) (told : List Bool) (e : PartErr) → PlacesAnswer {T = Unit {0}} doc g1 between now told (Err e) → (base collection : List ℕ) → GoesOver base collection q g places led all d → AnswersList {T = Option ℕ} (Err e) (λ _. ⊥)
+  pub asked_err : (now : List Place) (told : List Bool) (e : PartErr) → PlacesAnswer {T = Unit {0}} doc g1 between now told (Err e) →
+      (base collection : List ℕ) → GoesOver base collection q g places led all d → AnswersList {T = Option ℕ} (Err e) (λ _. ⊥)
   asked_err now told e got base collection goes = err_answer e _ _ (got base collection (asked_of collection q) (query_terms q) (asks_at base collection goes))
 
   pub asked_reads : (now : List Place) (t : Reads) → PlacesRead doc g1 between now s1 t → ReadsBetween q g s t led all places now d
@@ -210,16 +217,21 @@ module _ {q : Query} {led : Option ℕ} {all d : ℕ} {places : List Place} {g :
   any_at : (base collection : List ℕ) → GoesOver base collection q g places led all d → AsksAll base collection (asked_of collection q) (query_terms q) (d + 1) g places
   any_at base collection goes = any_asks base collection q g places all d more (subst (λ o. GoesOver base collection q g places o all d) none goes)
 
-  pub any_err : (now : List Place) (told : List Bool) (e : PartErr) → FindsFirst (d + 1) g places now told (Err e) → (base collection : List ℕ) → GoesOver base collection q g places led all d → AnswersList {T = Option ℕ} (Err e) (λ _. ⊥)
+  pub any_err : (now : List Place) (told : List Bool) (e : PartErr) → FindsFirst (d + 1) g places now told (Err e) → (base collection : List ℕ) →
+      GoesOver base collection q g places led all d → AnswersList {T = Option ℕ} (Err e) (λ _. ⊥)
   any_err now told e got base collection goes = err_answer e _ _ (got base collection (asked_of collection q) (query_terms q) (any_at base collection goes))
 
   pub any_reads : (now : List Place) (s t : Reads) → PlacesRead (d + 1) g places now s t → ReadsBetween q g s t led all places now d
-  any_reads now s t read base collection goes = sum_pages collection q (pages_read places) (pages_read now) s t (read base collection (asked_of collection q) (query_terms q) (any_at base collection goes))
+  any_reads now s t read base collection goes = sum_pages collection q (pages_read places) (pages_read now) s t
+      (read base collection (asked_of collection q) (query_terms q) (any_at base collection goes))
 
-  first_next : (now : List Place) (told : List Bool) (first : Option ℕ) (base collection : List ℕ) → GoesOver base collection q g places led all d → AnswersFirst base collection (asked_of collection q) (query_terms q) (d + 1) first told now → IsNext collection q d first
+  first_next : (now : List Place) (told : List Bool) (first : Option ℕ) (base collection : List ℕ) → GoesOver base collection q g places led all d →
+      AnswersFirst base collection (asked_of collection q) (query_terms q) (d + 1) first told now → IsNext collection q d first
   first_next now told first base collection goes a = first_is_next base collection q d first told now (omega (arith, more, goes.over.all_is)) (subst (Leads collection q) none goes.over.leads) needs a
 
-  pub any_none : (now : List Place) (told : List Bool) → FindsFirst (d + 1) g places now told (Ok None) → (base collection : List ℕ) → GoesOver base collection q g places led all d → (left_in collection q d ≡ []) × PlacesFor base collection (asked_of collection q) (query_terms q) (d + 1) now
+  pub any_none : (now : List Place) (told : List Bool) → FindsFirst (d + 1) g places now told (Ok None) → (base collection : List ℕ) →
+      GoesOver base collection q g places led all d → (left_in collection q d ≡ []) × PlacesFor base collection (asked_of collection q) (query_terms q) (d + 1)
+      now
   any_none now told got base collection goes =
       let a = got base collection (asked_of collection q) (query_terms q) (any_at base collection goes) in
       (first_next now told None base collection goes a, a.places_for)

@@ -57,7 +57,8 @@ WordFound base collection t place all decided ps found =
 pub word_answer : (base collection t : List ℕ) (files : Option Files) (places : List Place) (place all decided : ℕ) (v : Place) (found : Option ℕ) → decided < all →
     GoesOver base collection (term t) files places (Some place) all decided → LeadAsked base collection (term t) files places place decided →
     AnswersPlace base collection (asked_of collection (term t)) (get_or (query_terms (term t)) place []) (decided + 1) found v →
-    GoesOn (left_in collection (term t) decided) (left_in collection (term t) (unwrap_or found all)) found × PlacesOver base collection (term t) (slice_set places place v) (Some place) all (unwrap_or found all)
+    GoesOn (left_in collection (term t) decided) (left_in collection (term t) (unwrap_or found all)) found
+    × PlacesOver base collection (term t) (slice_set places place v) (Some place) all (unwrap_or found all)
 word_answer base collection t files places place all decided v None more goes l a =
     let next = lead_answer base collection (term t) files places (Some place) place all decided v None goes l a in (
       none_goes collection (term t) decided all goes.over.all_is next.0,
@@ -67,7 +68,8 @@ word_answer base collection t files places place all decided v (Some doc) more g
     let next = lead_answer base collection (term t) files places (Some place) place all decided v (Some doc) goes l a in
     let same : get_or (t ∷ []) place [] ≡ t = its_term base collection t files places place decided l in
     let first : first_of (from_doc (decided + 1) (postings collection t)) ≡ Some doc =
-    ap (λ u. first_of (from_doc (decided + 1) (postings collection u))) (sym same) ∙ sym (a.found_is ∙ first_number (from_doc (decided + 1) (postings collection (get_or (query_terms (term t)) place [])))) in
+    ap (λ u. first_of (from_doc (decided + 1) (postings collection u))) (sym same)
+    ∙ sym (a.found_is ∙ first_number (from_doc (decided + 1) (postings collection (get_or (query_terms (term t)) place [])))) in
     let there : has_term (document collection doc) t ≡ true = word_has collection t decided doc (omega (arith, more, goes.over.all_is)) first in (
       decided_hit collection (term t) decided doc next.0 there,
       decided_over base collection (term t) places (slice_set places place v) (Some place) all decided doc goes.over next.0
@@ -80,7 +82,8 @@ pub word_goes : (base collection t : List ℕ) (q : Query) (files : Option Files
 word_goes base collection t q files places lead place all decided is led goes =
     subst (λ (r : Query). GoesOver base collection r files places (Some place) all decided) is (subst (λ (l : Option ℕ). GoesOver base collection q files places l all decided) led goes)
 
-pub word_pages : (collection t : List ℕ) (q : Query) (old now : ℕ) (before after : Reads) → q ≡ term t → PagesWithin (boolean_bound collection (term t)) old now before after → PagesWithin (boolean_bound collection q) old now before after
+pub word_pages : (collection t : List ℕ) (q : Query) (old now : ℕ) (before after : Reads) → q ≡ term t →
+    PagesWithin (boolean_bound collection (term t)) old now before after → PagesWithin (boolean_bound collection q) old now before after
 word_pages collection t q old now before after is pages = subst (λ (r : Query). PagesWithin (boolean_bound collection r) old now before after) (sym is) pages
 
 pub word_found : (base collection t : List ℕ) (q : Query) (places : List Place) (lead : Option ℕ) (place all decided n m : ℕ) (found : Option ℕ) → q ≡ term t → lead ≡ Some place → n ≡ m →
@@ -92,6 +95,7 @@ word_found base collection t q places lead place all decided n m found is led sa
     (subst (λ (r : Query). GoesOn (left_in collection r decided) (left_in collection r m) found × PlacesOver base collection r places (Some place) all m) (sym is) said))
 
 -- how many are decided with its answer
-pub word_range : (found : Option ℕ) (d all n : ℕ) → d < all → IfSome found (IsInRange (d + 1) all) → n ≡ unwrap_or found all → (n ≤ all) × (d ≤ n) × IfSome found (λ doc. (d < doc) × (doc ≤ all) × (n ≡ doc)) × (found ≡ None → n ≡ all)
+pub word_range : (found : Option ℕ) (d all n : ℕ) → d < all → IfSome found (IsInRange (d + 1) all) → n ≡ unwrap_or found all →
+    (n ≤ all) × (d ≤ n) × IfSome found (λ doc. (d < doc) × (doc ≤ all) × (n ≡ doc)) × (found ≡ None → n ≡ all)
 word_range None d all n more range is = (omega (arith, is), omega (arith, is, more), tt, λ _. is)
 word_range (Some doc) d all n more range is = (omega (arith, is, range.1), omega (arith, is, range.0), (omega (arith, range.0), range.1, is), λ no. absurd cc)

@@ -11,7 +11,9 @@ use Rattle.mg_bool.specs.declared.lead.Lead.{Lead}
 -- the place is that of the leftmost leading term with the fewest documents; it is told by how many places there are from it on, of `size`
 abbrev pub IsLead : List ℕ → Query → ℕ → Option Lead → Type 0
 IsLead collection q size None = leading q ≡ []
-IsLead collection q size (Some lead) = (leftmost_fewest collection (leading q) ≡ Some (get_or (query_terms q) (size - lead.left) [])) × (lead.docs ≡ docs collection (get_or (query_terms q) (size - lead.left) []))
+IsLead collection q size (Some lead) = (leftmost_fewest collection (leading q)
+    ≡ Some (get_or (query_terms q) (size - lead.left) []))
+    × (lead.docs ≡ docs collection (get_or (query_terms q) (size - lead.left) []))
 
 -- the place is one of the query's
 abbrev pub IsPlaceOf : Query → ℕ → Option Lead → Type 0
@@ -26,4 +28,5 @@ better (Some a) (Some b) = if nat_le a.docs b.docs then Some a else Some b
 
 -- where the terms of the query are told first, this place leads it
 abbrev pub FindsLead : Query → List (Option TermInfo) → Option Lead → Type 0
-FindsLead q infos lead = (collection : List ℕ) → TellFirst collection (query_terms q) infos → IsLead collection q (length infos) lead
+FindsLead q infos lead = (collection : List ℕ) → TellFirst collection (query_terms q) infos →
+    IsLead collection q (length infos) lead

@@ -30,7 +30,8 @@ pub record AreInfos (collection : List ℕ) (ts : List (List ℕ)) (infos : List
 
 -- the first of these are told so
 abbrev pub TellFirst : List ℕ → List (List ℕ) → List (Option TermInfo) → Type 0
-TellFirst collection ts infos = (k : ℕ) → k < length ts → (k < length infos) × IsToldOf collection (get_or ts k []) (slice_index_or infos k None)
+TellFirst collection ts infos = (k : ℕ) → k < length ts → (k < length infos)
+    × IsToldOf collection (get_or ts k []) (slice_index_or infos k None)
 
 -- ---- one place
 
@@ -85,23 +86,33 @@ pub record AnswersPlace (base collection asked t : List ℕ) (doc : ℕ) (found 
 
 -- a place for a term of which this is told, before anything was asked of it
 abbrev pub StartsPlace : List ℕ → Option TermInfo → ℕ → Place → Type 0
-StartsPlace base info all p = (collection asked t : List ℕ) (n : ℕ) → IsToldOf collection t info → all ≡ length (documents collection) → PlaceFor base collection asked t n p
+StartsPlace base info all p = (collection asked t : List ℕ) (n : ℕ) → IsToldOf collection t info →
+    all ≡ length (documents collection) → PlaceFor base collection asked t n p
 
 -- where a cursor may be asked for the document, the answer is the first document of its list from that one on
 abbrev pub CursorAnswers : ℕ → Option Files → Cursoring → Cursoring → Result (Option ℕ) PartErr → Type 0
-CursorAnswers doc files old now result = (base collection asked t : List ℕ) → MayAsk base collection asked t doc files old → AnswersList result (λ found. (found ≡ number_in (head_of (from_doc doc (postings collection t)))) × CursorFor base collection asked t doc now)
+CursorAnswers doc files old now result = (base collection asked t : List ℕ) →
+    MayAsk base collection asked t doc files old →
+    AnswersList result (λ found. (found ≡ number_in (head_of (from_doc doc (postings collection t))))
+    × CursorFor base collection asked t doc now)
 
 -- where it may be asked, no more pages of Post are read than its list has for the documents that are asked
 abbrev pub CursorReads : ℕ → Option Files → Cursoring → Cursoring → Reads → Reads → Type 0
-CursorReads doc files old now before after = (base collection asked t : List ℕ) → MayAsk base collection asked t doc files old → PagesWithin (pages_for collection asked t) (post_pages old) (post_pages now) before after
+CursorReads doc files old now before after = (base collection asked t : List ℕ) →
+    MayAsk base collection asked t doc files old →
+    PagesWithin (pages_for collection asked t) (post_pages old) (post_pages now) before after
 
 -- where a place may be asked for the document, the answer is the first document of its list from that one on
 abbrev pub PlaceAnswers : ℕ → Option Files → Place → Place → Result (Option ℕ) PartErr → Type 0
-PlaceAnswers doc files old now result = (base collection asked t : List ℕ) → AsksPlace base collection asked t doc files old → AnswersList result (λ found. AnswersPlace base collection asked t doc found now)
+PlaceAnswers doc files old now result = (base collection asked t : List ℕ) →
+    AsksPlace base collection asked t doc files old →
+    AnswersList result (λ found. AnswersPlace base collection asked t doc found now)
 
 -- where it may be asked, no more pages of Post are read than its list has for the documents that are asked
 abbrev pub PlaceReads : ℕ → Option Files → Place → Place → Reads → Reads → Type 0
-PlaceReads doc files old now before after = (base collection asked t : List ℕ) → AsksPlace base collection asked t doc files old → PagesWithin (pages_for collection asked t) (place_pages old) (place_pages now) before after
+PlaceReads doc files old now before after = (base collection asked t : List ℕ) →
+    AsksPlace base collection asked t doc files old →
+    PagesWithin (pages_for collection asked t) (place_pages old) (place_pages now) before after
 
 -- a document from the one asked for up to the last of all
 abbrev pub IsInRange : ℕ → ℕ → ℕ → Type 0
@@ -133,27 +144,35 @@ pub record PlacesFor (base collection asked : List ℕ) (ts : List (List ℕ)) (
   pub each : (k : ℕ) → k < length ts → PlaceFor base collection asked (get_or ts k []) n (slice_index_or places k None)
 
 -- all may be asked for the document
-pub record AsksAll (base collection asked : List ℕ) (ts : List (List ℕ)) (doc : ℕ) (files : Option Files) (places : List Place) : Type 0 where
+pub record AsksAll (base collection asked : List ℕ) (ts : List (List ℕ)) (doc : ℕ) (files : Option Files)
+    (places : List Place) : Type 0 where
   pub stand : ListsStand base files collection
   pub places_for : PlacesFor base collection asked ts doc places
   pub within : doc ≤ length (documents collection)
   pub among : (t : List ℕ) → IsAmong asked (postings collection t) doc
 
-pub record AnswersAll (base collection asked : List ℕ) (ts : List (List ℕ)) (doc : ℕ) (there : List Bool) (places : List Place) : Type 0 where
+pub record AnswersAll (base collection asked : List ℕ) (ts : List (List ℕ)) (doc : ℕ) (there : List Bool)
+    (places : List Place) : Type 0 where
   pub places_for : PlacesFor base collection asked ts doc places
   pub are_there : AreThere (document collection doc) ts there
 
 -- places for terms of which these are told, before anything was asked of them
 abbrev pub StartPlaces : List ℕ → List (Option TermInfo) → ℕ → List Place → Type 0
-StartPlaces base infos all places = (collection asked : List ℕ) (ts : List (List ℕ)) (n : ℕ) → AreInfos collection ts infos → all ≡ length (documents collection) → PlacesFor base collection asked ts n places
+StartPlaces base infos all places = (collection asked : List ℕ) (ts : List (List ℕ)) (n : ℕ) →
+    AreInfos collection ts infos → all ≡ length (documents collection) → PlacesFor base collection asked ts n places
 
 -- where all may be asked for the document, the answer is of which terms it has one
-abbrev pub PlacesAnswer : {T : Type 0} → ℕ → Option Files → List Place → List Place → List Bool → Result T PartErr → Type 0
-PlacesAnswer doc files old now there result = (base collection asked : List ℕ) (ts : List (List ℕ)) → AsksAll base collection asked ts doc files old → AnswersList result (λ _. AnswersAll base collection asked ts doc there now)
+abbrev pub PlacesAnswer : {T : Type 0} → ℕ → Option Files → List Place → List Place → List Bool → Result T PartErr →
+    Type 0
+PlacesAnswer doc files old now there result = (base collection asked : List ℕ) (ts : List (List ℕ)) →
+    AsksAll base collection asked ts doc files old →
+    AnswersList result (λ _. AnswersAll base collection asked ts doc there now)
 
 -- where all may be asked, no more pages of Post are read than their lists have for the documents that are asked
 abbrev pub PlacesRead : ℕ → Option Files → List Place → List Place → Reads → Reads → Type 0
-PlacesRead doc files old now before after = (base collection asked : List ℕ) (ts : List (List ℕ)) → AsksAll base collection asked ts doc files old → PagesWithin (sum_by (pages_for collection asked) ts) (pages_read old) (pages_read now) before after
+PlacesRead doc files old now before after = (base collection asked : List ℕ) (ts : List (List ℕ)) →
+    AsksAll base collection asked ts doc files old →
+    PagesWithin (sum_by (pages_for collection asked) ts) (pages_read old) (pages_read now) before after
 
 -- ---- the first document that the list of any place has
 
@@ -186,10 +205,12 @@ pub record FirstOf (found : ℕ → Option ℕ) (count : ℕ) (first : Option �
 
 -- with what list i has found, the first one of the lists before becomes that of the lists up to i
 abbrev pub TakesFound : Option ℕ → ℕ → Option ℕ → List Bool → Option ℕ → List Bool → Type 0
-TakesFound found i first there first_now there_now = (documents : ℕ → Option ℕ) → documents i ≡ found → FirstOf documents i first there → FirstOf documents (i + 1) first_now there_now
+TakesFound found i first there first_now there_now = (documents : ℕ → Option ℕ) → documents i ≡ found →
+    FirstOf documents i first there → FirstOf documents (i + 1) first_now there_now
 
 -- the least of the first documents of these lists from this one on, and which terms it has; the places were asked for it
-pub record AnswersFirst (base collection asked : List ℕ) (ts : List (List ℕ)) (doc : ℕ) (first : Option ℕ) (there : List Bool) (places : List Place) : Type 0 where
+pub record AnswersFirst (base collection asked : List ℕ) (ts : List (List ℕ)) (doc : ℕ) (first : Option ℕ)
+    (there : List Bool) (places : List Place) : Type 0 where
   pub places_for : PlacesFor base collection asked ts doc places
   pub least : (k : ℕ) → k < length ts → IsNoLater first (first_from collection doc (get_or ts k []))
   pub one : IfSome first (λ n. (k : ℕ) × (k < length ts) × (first_from collection doc (get_or ts k []) ≡ Some n))
@@ -197,12 +218,16 @@ pub record AnswersFirst (base collection asked : List ℕ) (ts : List (List ℕ)
 
 -- where all may be asked for the document, the answer is the first document from it on of any list, and of which terms that one has one
 abbrev pub FindsFirst : ℕ → Option Files → List Place → List Place → List Bool → Result (Option ℕ) PartErr → Type 0
-FindsFirst doc files old now there result = (base collection asked : List ℕ) (ts : List (List ℕ)) → AsksAll base collection asked ts doc files old → AnswersList result (λ first. AnswersFirst base collection asked ts doc first there now)
+FindsFirst doc files old now there result = (base collection asked : List ℕ) (ts : List (List ℕ)) →
+    AsksAll base collection asked ts doc files old →
+    AnswersList result (λ first. AnswersFirst base collection asked ts doc first there now)
 
 -- ---- while a document is asked of all places
 
 -- those below i were asked for it
-pub record Asking (base collection asked : List ℕ) (ts : List (List ℕ)) (doc i : ℕ) (old now : List Place) (there : List Bool) (before after : Reads) : Type 0 where
+pub record Asking (base collection asked : List ℕ) (ts : List (List ℕ)) (doc i : ℕ) (old now : List Place)
+    (there : List Bool) (before after : Reads) : Type 0 where
   pub places_for : PlacesFor base collection asked ts doc now
-  pub found : (k : ℕ) → k < i → k < length ts → get_or there k true ≡ has_term (document collection doc) (get_or ts k [])
+  pub found : (k : ℕ) → k < i → k < length ts → get_or there k true
+      ≡ has_term (document collection doc) (get_or ts k [])
   pub post : after part.Post + pages_read old ≤ before part.Post + pages_read now

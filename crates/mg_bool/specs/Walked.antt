@@ -29,18 +29,20 @@ pub record IsReady (files : Option Files) (led : Option ℕ) (all : ℕ) (old : 
   pub most : old.decided ≤ all
 
 -- it goes to the next document that satisfies the query, over the same lists
-pub record Walked (q : Query) (led : Option ℕ) (all : ℕ) (old now : Spot) (result : Result (Option ℕ) PartErr) (files_before files_now : Option Files) (reads_before reads_now : Reads) (faults_before faults_now : ℕ) : Type 0 where
-  pub fits : OnOk result (PlacesFit files_now now.places)
-  pub same : SamePlaces old.places now.places
-  pub there : length now.there ≡ length old.there
-  pub most : now.decided ≤ all
-  pub later : old.decided ≤ now.decided
-  pub range : IfOk result (λ found. IfSome found (λ doc. (old.decided < doc) × (doc ≤ all) × (now.decided ≡ doc)))
-  pub last : result ≡ Ok None → now.decided ≡ all
-  pub answer : FindsNext q files_before led all old.places now.places old.decided (λ _. now.decided) result
-  pub pages : ReadsBetween q files_before reads_before reads_now led all old.places now.places old.decided
-  pub part : IfErr result NamesItsPart
-  pub reads : ReadsLists reads_before reads_now
-  pub files : files_now ≡ files_before
-  pub memory : result ≢ Err err.Memory
-  pub cause : HasPartCause faults_before faults_now result
+pub record Walked (q : Query) (led : Option ℕ) (all : ℕ) (old now : Spot) (result : Result (Option ℕ) PartErr)
+    (files_before files_now : Option Files) (reads_before reads_now : Reads) (faults_before faults_now : ℕ) : Type 0
+  where
+    pub fits : OnOk result (PlacesFit files_now now.places)
+    pub same : SamePlaces old.places now.places
+    pub there : length now.there ≡ length old.there
+    pub most : now.decided ≤ all
+    pub later : old.decided ≤ now.decided
+    pub range : IfOk result (λ found. IfSome found (λ doc. (old.decided < doc) × (doc ≤ all) × (now.decided ≡ doc)))
+    pub last : result ≡ Ok None → now.decided ≡ all
+    pub answer : FindsNext q files_before led all old.places now.places old.decided (λ _. now.decided) result
+    pub pages : ReadsBetween q files_before reads_before reads_now led all old.places now.places old.decided
+    pub part : IfErr result NamesItsPart
+    pub reads : ReadsLists reads_before reads_now
+    pub files : files_now ≡ files_before
+    pub memory : result ≢ Err err.Memory
+    pub cause : HasPartCause faults_before faults_now result

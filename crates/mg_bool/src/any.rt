@@ -22,7 +22,8 @@ pub(crate) fn next_of_any<S: Store>(
     requires none { asks.now.lead ≡ None }
     requires some { holds_spec (query_of asks.now.query.now) [] ≡ false }
     ensures { Between S.files S.reads S.faults store.old store.new
-        (Walked (query_of asks.now.query.now) asks.now.lead asks.now.all (spot walk.old) (spot walk.new) result) }
+        (Walked (query_of asks.now.query.now) asks.now.lead asks.now.all (spot walk.old)
+        (spot walk.new) result) }
 {
     cursor_pages_are_within();
     let all = asks.all;

@@ -69,11 +69,13 @@ impl<'a, S: Store> Matches<'a, S> {
         all: u32,
     ) -> Result<Self, AllocError>
         requires size { length infos.now ≡ length (query_terms (query_of query.now)) }
-        ensures over { IfOk result (StartsMatches base.entry.now (query_of query.entry.now) infos.now all) }
+        ensures over { IfOk result (StartsMatches base.entry.now (query_of query.entry.now)
+            infos.now all) }
         ensures asks { IfOk result (λ m. m.asks ≡ query.entry.now) }
         ensures all { IfOk result (λ m. m.all ≡ all) }
         ensures before { IfOk result (λ m. m.decided ≡ 0) }
-        ensures fits { IfOk result (λ m. (files : Option Files) → MatchesFit base.entry.now files m) }
+        ensures fits { IfOk result (λ m. (files : Option Files) →
+            MatchesFit base.entry.now files m) }
         ensures nothing { IfOk result (λ m. pages_read m.places ≡ 0) }
     {
         let places = start_all(alloc, base, infos, all)?;
@@ -94,15 +96,22 @@ impl<'a, S: Store> Matches<'a, S> {
     #[inline]
     pub fn next(&mut self, store: &mut S) -> Result<Option<u32>, PartErr>
         requires fits { (base : List ℕ) × MatchesFit base (S.files store.old) self.old }
-        ensures fits { OnOk result ((base : List ℕ) → MatchesFit base (S.files store.old) self.old → MatchesFit base (S.files store.new) self.new) }
+        ensures fits { OnOk result ((base : List ℕ) → MatchesFit base (S.files store.old) self.old →
+            MatchesFit base (S.files store.new) self.new) }
         ensures same { SameMatches self.old self.new }
-        ensures answer { ForMatches (S.files store.old) self.old (λ base collection. AnswersList result (MatchesGoOn base collection self.old self.new)) }
+        ensures answer { ForMatches (S.files store.old) self.old
+            (λ base collection. AnswersList result
+            (MatchesGoOn base collection self.old self.new)) }
         ensures pages { ForMatches (S.files store.old) self.old
-            (λ _ collection. MatchesRead collection self.old self.new (S.reads store.old) (S.reads store.new)) }
-        ensures range { IfOk result (λ found. IfSome found (λ doc. (self.old.decided < doc) × (doc ≤ self.old.all) × (self.new.decided ≡ doc))) }
+            (λ _ collection. MatchesRead collection self.old self.new (S.reads store.old)
+            (S.reads store.new)) }
+        ensures range { IfOk result (λ found.
+            IfSome found (λ doc. (self.old.decided < doc) × (doc ≤ self.old.all)
+            × (self.new.decided ≡ doc))) }
         ensures later { self.old.decided ≤ self.new.decided }
         ensures last { result ≡ Ok None → self.new.decided ≡ self.new.all }
-        ensures ended { self.old.decided ≡ self.old.all → (result ≡ Ok None) × (self.new ≡ self.old) × (store.new ≡ store.old) }
+        ensures ended { self.old.decided ≡ self.old.all →
+            (result ≡ Ok None) × (self.new ≡ self.old) × (store.new ≡ store.old) }
         ensures part { IfErr result NamesItsPart }
         ensures reads { ReadsLists (S.reads store.old) (S.reads store.new) }
         ensures files { S.files store.new ≡ S.files store.old }

@@ -34,8 +34,10 @@ fn candidate<S: Store>(
     ensures range { IfOk result (λ found. IfSome found (IsInRange (decided + 1) all)) }
     ensures same { SamePlaces places.old.items places.new.items }
     ensures fits { OnOk result (PlacesFit (S.files store.new) places.new.items) }
-    ensures answer { (q : Meant) → FindsCandidate q (S.files store.old) lead all places.old.items places.new.items decided result }
-    ensures pages { (q : Meant) → ReadsNext q S.files S.reads store.old store.new lead all places.old.items places.new.items decided }
+    ensures answer { (q : Meant) → FindsCandidate q (S.files store.old) lead all places.old.items
+        places.new.items decided result }
+    ensures pages { (q : Meant) → ReadsNext q S.files S.reads store.old store.new lead all
+        places.old.items places.new.items decided }
     ensures part { IfErr result NamesItsPart }
     ensures reads { ReadsLists (S.reads store.old) (S.reads store.new) }
     ensures files { S.files store.new ≡ S.files store.old }
@@ -58,7 +60,8 @@ fn next_asked<S: Store>(
 ) -> Result<Option<u32>, PartErr>
     requires { IsReady (S.files store.old) asks.now.lead asks.now.all (spot walk.old) }
     ensures { Between S.files S.reads S.faults store.old store.new
-        (Walked (query_of asks.now.query.now) asks.now.lead asks.now.all (spot walk.old) (spot walk.new) result) }
+        (Walked (query_of asks.now.query.now) asks.now.lead asks.now.all (spot walk.old)
+        (spot walk.new) result) }
 {
     cursor_pages_are_within();
     while walk.decided < asks.all {
@@ -91,7 +94,8 @@ pub(crate) fn next_match<S: Store>(
 ) -> Result<Option<u32>, PartErr>
     requires { IsReady (S.files store.old) asks.now.lead asks.now.all (spot walk.old) }
     ensures { Between S.files S.reads S.faults store.old store.new
-        (Walked (query_of asks.now.query.now) asks.now.lead asks.now.all (spot walk.old) (spot walk.new) result) }
+        (Walked (query_of asks.now.query.now) asks.now.lead asks.now.all (spot walk.old)
+        (spot walk.new) result) }
 {
     if let (Query::Term(_), Some(place)) = (asks.query, asks.lead) {
         if walk.decided < asks.all {

@@ -40,7 +40,8 @@ fn ask_cursor<S: Store>(
     ensures fits { OnOk result (CursorFits cursor.new (S.files store.new)) }
     ensures same { SameList cursor.old cursor.new }
     ensures answer { CursorAnswers doc (S.files store.old) cursor.old cursor.new result }
-    ensures pages { CursorReads doc (S.files store.old) cursor.old cursor.new (S.reads store.old) (S.reads store.new) }
+    ensures pages { CursorReads doc (S.files store.old) cursor.old cursor.new (S.reads store.old)
+        (S.reads store.new) }
     ensures range { IfOk result (λ found. IfSome found (IsInRange doc cursor.old.all)) }
     ensures part { IfErr result NamesItsPart }
     ensures reads { ReadsLists (S.reads store.old) (S.reads store.new) }
@@ -87,8 +88,10 @@ impl<'a, S: Store> Place<'a, S> {
         ensures fits { OnOk result (PlaceFits (S.files store.new) self.new) }
         ensures same { SamePlace self.old self.new }
         ensures answer { PlaceAnswers doc (S.files store.old) self.old self.new result }
-        ensures pages { PlaceReads doc (S.files store.old) self.old self.new (S.reads store.old) (S.reads store.new) }
-        ensures range { (base : List ℕ) (all : ℕ) → PlaceOn base all self.old → IfOk result (λ found. IfSome found (IsInRange doc all)) }
+        ensures pages { PlaceReads doc (S.files store.old) self.old self.new (S.reads store.old)
+            (S.reads store.new) }
+        ensures range { (base : List ℕ) (all : ℕ) → PlaceOn base all self.old →
+            IfOk result (λ found. IfSome found (IsInRange doc all)) }
         ensures part { IfErr result NamesItsPart }
         ensures reads { ReadsLists (S.reads store.old) (S.reads store.new) }
         ensures files { S.files store.new ≡ S.files store.old }

@@ -35,12 +35,16 @@ pub(crate) fn ask_at<S: Store>(
     requires there { i < length places.old.items }
     requires fits { PlacesFit (S.files store.old) places.old.items }
     requires some { 1 ≤ doc }
-    ensures places { places.new.items ≡ slice_set places.old.items i (slice_index_or places.new.items i None) }
+    ensures places { places.new.items ≡ slice_set places.old.items i
+        (slice_index_or places.new.items i None) }
     ensures same { SamePlaces places.old.items places.new.items }
     ensures fits { OnOk result (PlacesFit (S.files store.new) places.new.items) }
-    ensures answer { PlaceAnswers doc (S.files store.old) (nth_place places.old.items i) (nth_place places.new.items i) result }
-    ensures pages { PlaceReads doc (S.files store.old) (nth_place places.old.items i) (nth_place places.new.items i) (S.reads store.old) (S.reads store.new) }
-    ensures range { (base : List ℕ) (all : ℕ) → PlaceOn base all (nth_place places.old.items i) → IfOk result (λ found. IfSome found (IsInRange doc all)) }
+    ensures answer { PlaceAnswers doc (S.files store.old) (nth_place places.old.items i)
+        (nth_place places.new.items i) result }
+    ensures pages { PlaceReads doc (S.files store.old) (nth_place places.old.items i)
+        (nth_place places.new.items i) (S.reads store.old) (S.reads store.new) }
+    ensures range { (base : List ℕ) (all : ℕ) → PlaceOn base all (nth_place places.old.items i) →
+        IfOk result (λ found. IfSome found (IsInRange doc all)) }
     ensures part { IfErr result NamesItsPart }
     ensures reads { ReadsLists (S.reads store.old) (S.reads store.new) }
     ensures files { S.files store.new ≡ S.files store.old }
@@ -64,8 +68,10 @@ pub(crate) fn ask_all<S: Store>(
     ensures size { length there.new.items ≡ length there.old.items }
     ensures same { SamePlaces places.old.items places.new.items }
     ensures fits { OnOk result (PlacesFit (S.files store.new) places.new.items) }
-    ensures answer { PlacesAnswer doc (S.files store.old) places.old.items places.new.items there.new.items result }
-    ensures pages { PlacesRead doc (S.files store.old) places.old.items places.new.items (S.reads store.old) (S.reads store.new) }
+    ensures answer { PlacesAnswer doc (S.files store.old) places.old.items places.new.items
+        there.new.items result }
+    ensures pages { PlacesRead doc (S.files store.old) places.old.items places.new.items
+        (S.reads store.old) (S.reads store.new) }
     ensures part { IfErr result NamesItsPart }
     ensures reads { ReadsLists (S.reads store.old) (S.reads store.new) }
     ensures files { S.files store.new ≡ S.files store.old }
@@ -126,7 +132,8 @@ fn take_found(
     requires { i < length there.old.items }
     ensures size { length there.new.items ≡ length there.old.items }
     ensures first { TakesFound found i first there.old.items result there.new.items }
-    ensures range { (doc all : ℕ) → IfSome found (IsInRange doc all) → IfSome first (IsInRange doc all) → IfSome result (IsInRange doc all) }
+    ensures range { (doc all : ℕ) → IfSome found (IsInRange doc all) →
+        IfSome first (IsInRange doc all) → IfSome result (IsInRange doc all) }
 {
     if is_sooner(found, first) {
         clear_first(there, i);
@@ -151,9 +158,12 @@ pub(crate) fn ask_first<S: Store>(
     ensures size { length there.new.items ≡ length there.old.items }
     ensures same { SamePlaces places.old.items places.new.items }
     ensures fits { OnOk result (PlacesFit (S.files store.new) places.new.items) }
-    ensures range { (base : List ℕ) (all : ℕ) → PlacesOn base all places.old.items → IfOk result (λ first. IfSome first (IsInRange from all)) }
-    ensures answer { FindsFirst from (S.files store.old) places.old.items places.new.items there.new.items result }
-    ensures pages { PlacesRead from (S.files store.old) places.old.items places.new.items (S.reads store.old) (S.reads store.new) }
+    ensures range { (base : List ℕ) (all : ℕ) → PlacesOn base all places.old.items →
+        IfOk result (λ first. IfSome first (IsInRange from all)) }
+    ensures answer { FindsFirst from (S.files store.old) places.old.items places.new.items
+        there.new.items result }
+    ensures pages { PlacesRead from (S.files store.old) places.old.items places.new.items
+        (S.reads store.old) (S.reads store.new) }
     ensures part { IfErr result NamesItsPart }
     ensures reads { ReadsLists (S.reads store.old) (S.reads store.new) }
     ensures files { S.files store.new ≡ S.files store.old }

@@ -29,8 +29,10 @@ pub(crate) fn next_of_word<S: Store>(
     ensures range { IfOk result (λ found. IfSome found (IsInRange (decided + 1) all)) }
     ensures same { SamePlaces places.old.items places.new.items }
     ensures fits { OnOk result (PlacesFit (S.files store.new) places.new.items) }
-    ensures answer { (t : List ℕ) → FindsNext (term t) (S.files store.old) (Some place) all places.old.items places.new.items decided (decided_by all) result }
-    ensures pages { (t : List ℕ) → ReadsNext (term t) S.files S.reads store.old store.new (Some place) all places.old.items places.new.items decided }
+    ensures answer { (t : List ℕ) → FindsNext (term t) (S.files store.old) (Some place) all
+        places.old.items places.new.items decided (decided_by all) result }
+    ensures pages { (t : List ℕ) → ReadsNext (term t) S.files S.reads store.old store.new
+        (Some place) all places.old.items places.new.items decided }
     ensures part { IfErr result NamesItsPart }
     ensures reads { ReadsLists (S.reads store.old) (S.reads store.new) }
     ensures files { S.files store.new ≡ S.files store.old }

@@ -55,7 +55,8 @@ within_passes bytes mark limits first = first_is_beyond version_2 bytes mark fir
 -- ---- the file is not opened
 
 -- a file that is there, and no larger than it may be, is not opened only where the store fails or memory lacks
-pub open_only : (rose : Type 0) (files : Option Files) (name bytes : List ℕ) (fault : Fault) → file_at files name ≡ Some bytes → length bytes ≤ most_bytes → OpenStops rose files name fault → ((fault ≡ cause.StoreFault) × rose) ⊎ (fault ≡ cause.Memory)
+pub open_only : (rose : Type 0) (files : Option Files) (name bytes : List ℕ) (fault : Fault) → file_at files name ≡ Some bytes → length bytes ≤ most_bytes →
+    OpenStops rose files name fault → ((fault ≡ cause.StoreFault) × rose) ⊎ (fault ≡ cause.Memory)
 open_only rose files name bytes cause.StoreFault is few stop = inl (refl, stop)
 open_only rose files name bytes cause.Memory is few stop = inr refl
 open_only rose files name bytes cause.NoCollection is few stop = absurd (absent (sym is ∙ stop (is_told files name bytes is)))
@@ -89,7 +90,8 @@ done_or_lacks T rose fault never (inr only) = subst (λ f. IsDone {T = T} (Err f
 -- ---- it is not counted
 
 -- where documents pass a limit first, it is refused for them
-pub pass_documents : {T : Type 0} (rose : Type 0) (files : Option Files) (name bytes : List ℕ) (size : ℕ) (fault : Fault) → file_at files name ≡ Some bytes → HasSize files name size → PassesFirst version_2 bytes start → PassStops rose files name size fault → RefusedFor {T = T} (Err fault) cause.TooManyDocuments
+pub pass_documents : {T : Type 0} (rose : Type 0) (files : Option Files) (name bytes : List ℕ) (size : ℕ) (fault : Fault) → file_at files name ≡ Some bytes →
+    HasSize files name size → PassesFirst version_2 bytes start → PassStops rose files name size fault → RefusedFor {T = T} (Err fault) cause.TooManyDocuments
 pass_documents rose files name bytes size cause.StoreFault is has first stop = inr (inl refl)
 pass_documents rose files name bytes size cause.Memory is has first stop = inr (inr refl)
 pass_documents rose files name bytes size cause.TooManyDocuments is has first stop = inl refl
@@ -111,7 +113,8 @@ pass_documents rose files name bytes size cause.SameName is has first stop = abs
 pass_documents rose files name bytes size (cause.TooManyRotations count) is has first stop = absurd stop
 
 -- where a piece passes a limit first, it is refused for its stream
-pub pass_pieces : {T : Type 0} (rose : Type 0) (files : Option Files) (name bytes : List ℕ) (size : ℕ) (stream : Stream) (x : List ℕ) (fault : Fault) → file_at files name ≡ Some bytes → HasSize files name size → PassesFirst version_2 bytes (piece stream x) → PassStops rose files name size fault
+pub pass_pieces : {T : Type 0} (rose : Type 0) (files : Option Files) (name bytes : List ℕ) (size : ℕ) (stream : Stream) (x : List ℕ) (fault : Fault) →
+    file_at files name ≡ Some bytes → HasSize files name size → PassesFirst version_2 bytes (piece stream x) → PassStops rose files name size fault
     → RefusedFor {T = T} (Err fault) (cause.TooManyPieces stream)
 pass_pieces rose files name bytes size stream x cause.StoreFault is has first stop = inr (inl refl)
 pass_pieces rose files name bytes size stream x cause.Memory is has first stop = inr (inr refl)
@@ -122,7 +125,8 @@ pass_pieces rose files name bytes size stream x (cause.TooManyPieces other) is h
     let told : IsSome files = is_told files name bytes is in
     let found = stop told (size_is files name size (has told)) in
     inl (ap (λ s. Err (cause.TooManyPieces s)) (same_kind bytes other stream found.0 x (subst (λ b. PassesFirst version_2 b (piece other found.0)) (its_bytes files name bytes is) found.1) first))
-pass_pieces rose files name bytes size stream x (cause.Changed what one two) is has first stop = absurd (stop.1 (is_told files name bytes is) (size_is files name size (has (is_told files name bytes is))))
+pass_pieces rose files name bytes size stream x (cause.Changed what one two) is has first stop =
+    absurd (stop.1 (is_told files name bytes is) (size_is files name size (has (is_told files name bytes is))))
 pass_pieces rose files name bytes size stream x cause.Usage is has first stop = absurd stop
 pass_pieces rose files name bytes size stream x cause.ReadFault is has first stop = absurd stop
 pass_pieces rose files name bytes size stream x cause.WriteFault is has first stop = absurd stop
@@ -136,7 +140,8 @@ pass_pieces rose files name bytes size stream x cause.SameName is has first stop
 pass_pieces rose files name bytes size stream x (cause.TooManyRotations count) is has first stop = absurd stop
 
 -- a collection within the limits is counted, unless the store fails or memory lacks
-pub pass_only : (rose : Type 0) (files : Option Files) (name bytes : List ℕ) (size : ℕ) (fault : Fault) → file_at files name ≡ Some bytes → HasSize files name size → IsWithinLimits 2 bytes → PassStops rose files name size fault → ((fault ≡ cause.StoreFault) × rose) ⊎ (fault ≡ cause.Memory)
+pub pass_only : (rose : Type 0) (files : Option Files) (name bytes : List ℕ) (size : ℕ) (fault : Fault) → file_at files name ≡ Some bytes →
+    HasSize files name size → IsWithinLimits 2 bytes → PassStops rose files name size fault → ((fault ≡ cause.StoreFault) × rose) ⊎ (fault ≡ cause.Memory)
 pass_only rose files name bytes size cause.StoreFault is has limits stop = inl (refl, stop)
 pass_only rose files name bytes size cause.Memory is has limits stop = inr refl
 pass_only rose files name bytes size cause.TooManyDocuments is has limits stop =
@@ -199,7 +204,8 @@ write_late rose same cause.SameName stop early = stop
 write_late rose same (cause.TooManyRotations count) stop early = early
 
 -- its cause is one of a build's
-pub write_cause : (rose now same : Type 0) (files : Option Files) (name base : List ℕ) (fault : Fault) → (rose → now) → (IsSome files → same) → WriteStops rose same fault → BuildStops now files name base fault
+pub write_cause : (rose now same : Type 0) (files : Option Files) (name base : List ℕ) (fault : Fault) → (rose → now) → (IsSome files → same) →
+    WriteStops rose same fault → BuildStops now files name base fault
 write_cause rose now same files name base cause.StoreFault grows is stop = grows stop
 write_cause rose now same files name base cause.Memory grows is stop = tt
 write_cause rose now same files name base (cause.Changed what one two) grows is stop = (stop.0, λ told. stop.1 (is told))
@@ -224,7 +230,8 @@ pub early_all : {T : Type 0} (r : Result T Fault) (rose same kept : Type 0) → 
 early_all (Ok value) rose same kept stop = tt
 early_all (Err fault) rose same kept stop = λ early. absurd (write_late rose same fault stop early)
 
-pub cause_all : {T : Type 0} (r : Result T Fault) (rose now same : Type 0) (files : Option Files) (name base : List ℕ) → (rose → now) → (IsSome files → same) → IfErr r (WriteStops rose same) → IfErr r (BuildStops now files name base)
+pub cause_all : {T : Type 0} (r : Result T Fault) (rose now same : Type 0) (files : Option Files) (name base : List ℕ) → (rose → now) → (IsSome files → same) →
+    IfErr r (WriteStops rose same) → IfErr r (BuildStops now files name base)
 cause_all (Ok value) rose now same files name base grows is stop = tt
 cause_all (Err fault) rose now same files name base grows is stop = write_cause rose now same files name base fault grows is stop
 
@@ -233,8 +240,10 @@ done_all (Ok value) rose now same grows never is stop = tt
 done_all {T} (Err fault) rose now same grows never is stop = done_or_lacks T rose fault (λ rises. never (grows rises)) (write_only rose same fault is stop)
 
 -- the bytes of Text of a set that stands
-pub text_all : {T : Type 0} (r : Result T Fault) (cap : ℕ) (files : Option Files) (base collection : List ℕ) → OnOk r (StandsIn 2 cap files base collection) → OnOk r (length (bytes_at files (full_name base part.Text)) ≤ text_bits collection / 8 + length (documents collection))
-text_all (Ok value) cap files base collection stands = subst (λ n. n ≤ text_bits collection / 8 + length (documents collection)) (sym (ap length stands.are.text)) (text-within stands.code collection stands.are.code_is)
+pub text_all : {T : Type 0} (r : Result T Fault) (cap : ℕ) (files : Option Files) (base collection : List ℕ) → OnOk r (StandsIn 2 cap files base collection) →
+    OnOk r (length (bytes_at files (full_name base part.Text)) ≤ text_bits collection / 8 + length (documents collection))
+text_all (Ok value) cap files base collection stands = subst (λ n. n ≤ text_bits collection / 8 + length (documents collection))
+    (sym (ap length stands.are.text)) (text-within stands.code collection stands.are.code_is)
 text_all (Err fault) cap files base collection stands = tt
 
 -- ---- from one moment to another

@@ -26,7 +26,8 @@ use Rattle.mg_dev.proofs.CallerLemmas.{at_fault, done_or_lacks, stopped_by, stop
 
 module _ {T : Type 0} (name base : List ℕ) (budget : ℕ) (store store_now : StoreAt) (r : Result T Fault)
     (stands : IsSome store.files → OnOk r (StandsIn 2 (run_cap budget) store_now.files base (bytes_at store.files name)))
-    (text : IsSome store.files → OnOk r (length (bytes_at store_now.files (full_name base part.Text)) ≤ text_bits (bytes_at store.files name) / 8 + length (split.documents (bytes_at store.files name))))
+    (text : IsSome store.files → OnOk r (length (bytes_at store_now.files (full_name base part.Text))
+    ≤ text_bits (bytes_at store.files name) / 8 + length (split.documents (bytes_at store.files name))))
     (merge_a : IsSome store.files → OnOk r (file_at store_now.files (full_name base part.MergeA) ≡ Some []))
     (merge_b : IsSome store.files → OnOk r (file_at store_now.files (full_name base part.MergeB) ≡ Some []))
     (others : OthersSame base store.files store_now.files)
@@ -38,7 +39,8 @@ module _ {T : Type 0} (name base : List ℕ) (budget : ℕ) (store store_now : S
     (missing : IsSome store.files → IsApart base name → file_at store.files name ≡ None → RefusedFor r NoCollection)
     (large : IsSome store.files → IsApart base name → most_bytes < length (bytes_at store.files name) → RefusedFor r (TooLarge (length (bytes_at store.files name)) most_bytes))
     (documents : (bytes : List ℕ) → file_at store.files name ≡ Some bytes → IsApart base name → length bytes ≤ most_bytes → PassesFirst version_2 bytes start → RefusedFor r TooManyDocuments)
-    (pieces : (bytes : List ℕ) (stream : Stream) (word : List ℕ) → file_at store.files name ≡ Some bytes → IsApart base name → length bytes ≤ most_bytes → PassesFirst version_2 bytes (piece stream word) → RefusedFor r (TooManyPieces stream))
+    (pieces : (bytes : List ℕ) (stream : Stream) (word : List ℕ) → file_at store.files name ≡ Some bytes → IsApart base name → length bytes ≤ most_bytes →
+    PassesFirst version_2 bytes (piece stream word) → RefusedFor r (TooManyPieces stream))
     (complete : (bytes : List ℕ) → file_at store.files name ≡ Some bytes → IsApart base name → IsWithinLimits 2 bytes → ¬ StoreRose store store_now → IsDone r) where
   pub made_by : Made name base budget store store_now (status_of r)
   made_by = record {

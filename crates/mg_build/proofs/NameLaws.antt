@@ -18,13 +18,15 @@ apart_before name base None splits none = λ p plain is. splits (ending p) is
 apart_before name base (Some x) splits none = cc
 
 -- a name behind the base is a part's where what is left is its ending
-pub part_behind : (name base : List ℕ) (found : Option (Bor (List ℕ))) (rest : Bor (List ℕ)) (part : Option Part) → Splits name base found → found ≡ Some rest → IfSome part (λ p. (p ≢ Plain) × (rest.now ≡ ending p)) → IfSome part (λ p. (p ≢ Plain) × (name ≡ full_name base p))
+pub part_behind : (name base : List ℕ) (found : Option (Bor (List ℕ))) (rest : Bor (List ℕ)) (part : Option Part) → Splits name base found → found ≡ Some rest →
+    IfSome part (λ p. (p ≢ Plain) × (rest.now ≡ ending p)) → IfSome part (λ p. (p ≢ Plain) × (name ≡ full_name base p))
 unfolding full_name
 part_behind name base None rest part splits some is = cc
 part_behind name base (Some x) rest None splits some is = tt
 part_behind name base (Some x) rest (Some p) splits some is = (is.0, cc)
 
-pub apart_behind : (name base : List ℕ) (found : Option (Bor (List ℕ))) (rest : Bor (List ℕ)) → Splits name base found → found ≡ Some rest → ((p : Part) → p ≢ Plain → rest.now ≢ ending p) → IsApart base name
+pub apart_behind : (name base : List ℕ) (found : Option (Bor (List ℕ))) (rest : Bor (List ℕ)) → Splits name base found → found ≡ Some rest →
+    ((p : Part) → p ≢ Plain → rest.now ≢ ending p) → IsApart base name
 unfolding full_name
 apart_behind name base None rest splits some none = cc
 apart_behind name base (Some x) rest splits some none = λ p plain is. none p plain (append_cancel_left base _ _ (sym left ∙ is))
@@ -33,6 +35,7 @@ apart_behind name base (Some x) rest splits some none = λ p plain is. none p pl
     left = cc
 
 -- no other part of the base has the name
-pub one_part : (name base : List ℕ) (part : Option Part) → ((b : List ℕ) (p q : Part) → full_name b p ≡ full_name b q → p ≡ q) → IfSome part (λ p. (p ≢ Plain) × (name ≡ full_name base p)) → IfSome part (λ p. (q : Part) → q ≢ Plain → name ≡ full_name base q → p ≡ q)
+pub one_part : (name base : List ℕ) (part : Option Part) → ((b : List ℕ) (p q : Part) → full_name b p ≡ full_name b q → p ≡ q) →
+    IfSome part (λ p. (p ≢ Plain) × (name ≡ full_name base p)) → IfSome part (λ p. (q : Part) → q ≢ Plain → name ≡ full_name base q → p ≡ q)
 one_part name base None apart is = tt
 one_part name base (Some p) apart is = λ q plain same. apart base p q (sym is.1 ∙ same)

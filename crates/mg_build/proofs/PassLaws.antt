@@ -30,7 +30,8 @@ use Rattle.mg_build.specs.Sources.{AreRead, ByteStops}
 pub read_none : (files : Option Files) (name : List ℕ) → AreRead files name 0 []
 read_none files name = record { size = refl; told = λ told. refl }
 
-pub read_more : (files : Option Files) (name : List ℕ) (n byte : ℕ) (fed : List ℕ) → (IsSome files → slice_get (bytes_at files name) n ≡ Some byte) → AreRead files name n fed → AreRead files name (n + 1) (fed ++ byte ∷ [])
+pub read_more : (files : Option Files) (name : List ℕ) (n byte : ℕ) (fed : List ℕ) → (IsSome files → slice_get (bytes_at files name) n ≡ Some byte) →
+    AreRead files name n fed → AreRead files name (n + 1) (fed ++ byte ∷ [])
 read_more files name n byte fed is before = record {
   size = length_push fed byte ∙ ap (λ k. k + 1) before.size;
   told = λ told. ap (λ front. front ++ byte ∷ []) (before.told told)
@@ -50,7 +51,8 @@ pub read_front : (files : Option Files) (name : List ℕ) (n : ℕ) (fed : List 
 read_front files name n fed are told = ap (λ front. front ++ drop n (bytes_at files name)) (are.told told) ∙ take-append-drop n (bytes_at files name)
 
 -- the same file's bytes
-pub read_later : (before now : Option Files) (name : List ℕ) (n byte : ℕ) → (IsSome before → IsSome now) → bytes_at now name ≡ bytes_at before name → (IsSome now → slice_get (bytes_at now name) n ≡ Some byte)
+pub read_later : (before now : Option Files) (name : List ℕ) (n byte : ℕ) → (IsSome before → IsSome now) → bytes_at now name ≡ bytes_at before name →
+    (IsSome now → slice_get (bytes_at now name) n ≡ Some byte)
     → IsSome before → slice_get (bytes_at before name) n ≡ Some byte
 read_later before now name n byte still same is told = sym (ap (λ bytes. slice_get bytes n) same) ∙ is (still told)
 
@@ -65,8 +67,10 @@ pub same_bytes : (f g : Option Files) (one other : List ℕ) → one ≡ other �
 same_bytes f g one other same is = ap (λ n. bytes_at g n) same ∙ ap (λ (file : Option (List ℕ)). unwrap_or file []) is
 
 -- a byte that is read of the file, as it was
-pub read_so_far : (before now : Option Files) (name same : List ℕ) (at byte : ℕ) → now ≡ before → same ≡ name → (IsSome now → slice_get (bytes_at now same) at ≡ Some byte) → IsSome before → slice_get (bytes_at before name) at ≡ Some byte
-read_so_far before now name same at byte f n is told = subst (λ x. slice_get (bytes_at before x) at ≡ Some byte) n (subst (λ files. IsSome files → slice_get (bytes_at files same) at ≡ Some byte) f is told)
+pub read_so_far : (before now : Option Files) (name same : List ℕ) (at byte : ℕ) → now ≡ before → same ≡ name →
+    (IsSome now → slice_get (bytes_at now same) at ≡ Some byte) → IsSome before → slice_get (bytes_at before name) at ≡ Some byte
+read_so_far before now name same at byte f n is told = subst (λ x. slice_get (bytes_at before x) at ≡ Some byte) n
+    (subst (λ files. IsSome files → slice_get (bytes_at files same) at ≡ Some byte) f is told)
 
 pub same_file_none : (f : Paging) → SameFile f f
 same_file_none f = record { name = refl; part = refl }
@@ -80,8 +84,11 @@ looked_nowhere part f r n = record { files = refl; faults = omega arith; later =
 -- ---- the first pass
 
 -- a byte that is not read
-pub pass_byte : (rose now : Type 0) (files later : Option Files) (name same : List ℕ) (size kept : ℕ) (fault : Fault) → (rose → now) → later ≡ files → same ≡ name → kept ≡ size → ByteStops rose later same kept fault → PassStops now files name size fault
-pass_byte rose now files later name same size kept fault more f n k stop = refused fault (subst (λ x. ByteStops rose x name size fault) f (subst (λ x. ByteStops rose later x size fault) n (subst (λ x. ByteStops rose later same x fault) k stop)))
+pub pass_byte : (rose now : Type 0) (files later : Option Files) (name same : List ℕ) (size kept : ℕ) (fault : Fault) → (rose → now) → later ≡ files →
+    same ≡ name → kept ≡ size → ByteStops rose later same kept fault → PassStops now files name size fault
+pass_byte rose now files later name same size kept fault more f n k stop =
+    refused fault (subst (λ x. ByteStops rose x name size fault) f
+    (subst (λ x. ByteStops rose later x size fault) n (subst (λ x. ByteStops rose later same x fault) k stop)))
   where
     refused : (fault : Fault) → ByteStops rose files name size fault → PassStops now files name size fault
     refused cause.StoreFault stop = more stop
@@ -101,14 +108,16 @@ pass_byte rose now files later name same size kept fault more f n k stop = refus
     refused cause.SameName stop = absurd stop
     refused (cause.TooManyRotations count) stop = absurd stop
 
-passes : (files : Option Files) (name fed : List ℕ) (size n : ℕ) (mark : Mark) → size < 2 ^ 32 → AreRead files name n fed → IsSome files → length (bytes_at files name) ≡ size → PassWith fed mark → PassesFirst version_2 (bytes_at files name) mark
+passes : (files : Option Files) (name fed : List ℕ) (size n : ℕ) (mark : Mark) → size < 2 ^ 32 → AreRead files name n fed → IsSome files →
+    length (bytes_at files name) ≡ size → PassWith fed mark → PassesFirst version_2 (bytes_at files name) mark
 passes files name fed size n mark few are told whole pass = subst (λ bytes. PassesFirst version_2 bytes mark) all (pass (drop n (bytes_at files name)))
   where
     all : fed ++ drop n (bytes_at files name) ≡ bytes_at files name
     all = read_front files name n fed are told
 
 -- a byte that is not counted
-pub pass_count : (now : Type 0) (files : Option Files) (name fed : List ℕ) (size n : ℕ) (fault : Fault) → size < 2 ^ 32 → AreRead files name n fed → CountStops fed fault → PassStops now files name size fault
+pub pass_count : (now : Type 0) (files : Option Files) (name fed : List ℕ) (size n : ℕ) (fault : Fault) → size < 2 ^ 32 → AreRead files name n fed →
+    CountStops fed fault → PassStops now files name size fault
 pass_count now files name fed size n cause.TooManyDocuments few are stop = λ told whole. passes files name fed size n _ few are told whole stop
 pass_count now files name fed size n (cause.TooManyPieces stream) few are stop = λ told whole. (stop.0, passes files name fed size n _ few are told whole stop.1)
 pass_count now files name fed size n cause.Memory few are stop = tt
@@ -129,7 +138,8 @@ pass_count now files name fed size n (cause.TooManyRotations count) few are stop
 -- the end
 pub pass_end : (now : Type 0) (files : Option Files) (name fed : List ℕ) (size : ℕ) (fault : Fault) → AreRead files name size fed → EndStops fed fault → PassStops now files name size fault
 pass_end now files name fed size cause.TooManyDocuments are stop = λ told whole. subst (λ bytes. PassesFirst version_2 bytes start) (read_all files name size fed are told whole) stop
-pass_end now files name fed size (cause.TooManyPieces stream) are stop = λ told whole. (stop.0, subst (λ bytes. PassesFirst version_2 bytes (piece stream stop.0)) (read_all files name size fed are told whole) stop.1)
+pass_end now files name fed size (cause.TooManyPieces stream) are stop = λ told whole.
+    (stop.0, subst (λ bytes. PassesFirst version_2 bytes (piece stream stop.0)) (read_all files name size fed are told whole) stop.1)
 pass_end now files name fed size cause.Memory are stop = tt
 pass_end now files name fed size cause.Usage are stop = absurd stop
 pass_end now files name fed size cause.StoreFault are stop = absurd stop
@@ -148,7 +158,8 @@ pass_end now files name fed size (cause.TooManyRotations count) are stop = absur
 -- ---- the second pass
 
 -- a byte that is not read
-pub write_byte : (rose now : Type 0) (plan : Plan) (first later : Option Files) (name same : List ℕ) (size kept : ℕ) (fault : Fault) → (rose → now) → (IsSome first → IsSome later) → bytes_at later same ≡ bytes_at first name → kept ≡ size
+pub write_byte : (rose now : Type 0) (plan : Plan) (first later : Option Files) (name same : List ℕ) (size kept : ℕ) (fault : Fault) → (rose → now) →
+    (IsSome first → IsSome later) → bytes_at later same ≡ bytes_at first name → kept ≡ size
     → ByteStops rose later same kept fault → WriteStops now (IsPlanFor plan first name size) fault
 write_byte rose now plan first later name same size kept cause.StoreFault more still bytes k stop = more stop
 write_byte rose now plan first later name same size kept (cause.Changed what one two) more still bytes k stop = (stop.0, λ is. stop.1 (still is.told) (ap length bytes ∙ is.whole ∙ sym k))
@@ -168,7 +179,8 @@ write_byte rose now plan first later name same size kept cause.SameName more sti
 write_byte rose now plan first later name same size kept (cause.TooManyRotations count) more still bytes k stop = absurd stop
 
 -- a byte that is not written
-pub write_put : (rose now : Type 0) (plan : Plan) (files : Option Files) (name fed : List ℕ) (size n byte : ℕ) (fault : Fault) → (rose → now) → size < 2 ^ 32 → n < size → (IsSome files → slice_get (bytes_at files name) n ≡ Some byte) → AreRead files name n fed
+pub write_put : (rose now : Type 0) (plan : Plan) (files : Option Files) (name fed : List ℕ) (size n byte : ℕ) (fault : Fault) → (rose → now) → size < 2 ^ 32 →
+    n < size → (IsSome files → slice_get (bytes_at files name) n ≡ Some byte) → AreRead files name n fed
     → ((more : List ℕ) → length (fed ++ byte ∷ more) < 2 ^ 32 → SecondStops rose (IsPlanOf plan (fed ++ byte ∷ more)) fault) → WriteStops now (IsPlanFor plan files name size) fault
 write_put rose now plan files name fed size n byte fault grows few below is are stop = by fault stop
   where
@@ -178,13 +190,15 @@ write_put rose now plan files name fed size n byte fault grows few below is are 
     all : IsSome files → fed ++ byte ∷ drop (n + 1) (bytes_at files name) ≡ bytes_at files name
     all told = sym (append_assoc fed (byte ∷ []) (drop (n + 1) (bytes_at files name))) ∙ read_front files name (n + 1) (fed ++ byte ∷ []) (read_more files name n byte fed is are) told
 
-    by : (fault : Fault) → ((more : List ℕ) → length (fed ++ byte ∷ more) < 2 ^ 32 → SecondStops rose (IsPlanOf plan (fed ++ byte ∷ more)) fault) → WriteStops now (IsPlanFor plan files name size) fault
+    by : (fault : Fault) → ((more : List ℕ) → length (fed ++ byte ∷ more) < 2 ^ 32 → SecondStops rose (IsPlanOf plan (fed ++ byte ∷ more)) fault) →
+        WriteStops now (IsPlanFor plan files name size) fault
     by cause.StoreFault stop = grows (stop [] short)
     by cause.Memory stop = tt
     by (cause.Changed what first second) stop = (
       (stop [] short).0,
       λ same.
-          (stop (drop (n + 1) (bytes_at files name)) (subst (λ k. k < 2 ^ 32) (sym (ap length (all same.told) ∙ same.whole)) few)).1 (subst (λ bytes. IsPlanOf plan bytes) (sym (all same.told)) same.counted),
+          (stop (drop (n + 1) (bytes_at files name)) (subst (λ k. k < 2 ^ 32) (sym (ap length (all same.told) ∙ same.whole)) few)).1
+          (subst (λ bytes. IsPlanOf plan bytes) (sym (all same.told)) same.counted),
     )
     by cause.Usage stop = stop [] short
     by cause.ReadFault stop = stop [] short
@@ -201,7 +215,8 @@ write_put rose now plan files name fed size n byte fault grows few below is are 
     by (cause.TooManyRotations count) stop = stop [] short
 
 -- the end
-pub write_end : (rose now : Type 0) (plan : Plan) (first later : Option Files) (name fed : List ℕ) (size : ℕ) (fault : Fault) → (rose → now) → (IsSome first → IsSome later) → AreRead first name size fed
+pub write_end : (rose now : Type 0) (plan : Plan) (first later : Option Files) (name fed : List ℕ) (size : ℕ) (fault : Fault) → (rose → now) →
+    (IsSome first → IsSome later) → AreRead first name size fed
     → ListStops rose (IsSome later × IsPlanOf plan fed) fault → WriteStops now (IsPlanFor plan first name size) fault
 write_end rose now plan first later name fed size fault grows still are stop = by fault stop
   where
@@ -229,7 +244,8 @@ write_end rose now plan first later name fed size fault grows still are stop = b
 -- ---- from one moment to another
 
 -- a plan of the file's bytes is one as long as that file stays
-pub plan_later : (plan : Plan) (before now : Option Files) (name : List ℕ) (size : ℕ) → is_some now ≡ is_some before → file_at now name ≡ file_at before name → IsPlanFor plan before name size → IsPlanFor plan now name size
+pub plan_later : (plan : Plan) (before now : Option Files) (name : List ℕ) (size : ℕ) → is_some now ≡ is_some before → file_at now name ≡ file_at before name →
+    IsPlanFor plan before name size → IsPlanFor plan now name size
 plan_later plan before now name size told same is = record {
   told = still_told before now told is.told;
   whole = ap length bytes ∙ is.whole;
@@ -240,7 +256,8 @@ plan_later plan before now name size told same is = record {
     bytes = same_bytes before now name name refl same
 
 -- what was read of the file as it is now was read of it as it was
-pub read_of_before : (before now : Option Files) (name : List ℕ) (n : ℕ) (fed : List ℕ) → is_some now ≡ is_some before → file_at now name ≡ file_at before name → AreRead now name n fed → AreRead before name n fed
+pub read_of_before : (before now : Option Files) (name : List ℕ) (n : ℕ) (fed : List ℕ) → is_some now ≡ is_some before →
+    file_at now name ≡ file_at before name → AreRead now name n fed → AreRead before name n fed
 read_of_before before now name n fed told same are = record {
   size = are.size;
   told = λ is. are.told (still_told before now told is) ∙ ap (λ bytes. take n bytes) (same_bytes before now name name refl same);
@@ -273,12 +290,14 @@ pub moved : (P : ℕ → List ℕ → List ℕ → Type 0) (k l : ℕ) (a b c d 
 moved P k l a b c d one two three holds = subst (λ n. P n b d) one (subst (λ x. P k x d) two (subst (λ x. P k a x) three holds))
 
 -- what a start that was refused leaves
-pub left_by_start : (base collection : List ℕ) (before now : Option Files) → IsSome before → (file_at now (full_name base Head) ≡ Some [] → StandsForNone now base) → IsUnbuilt base before now → Left base before now collection
+pub left_by_start : (base collection : List ℕ) (before now : Option Files) → IsSome before →
+    (file_at now (full_name base Head) ≡ Some [] → StandsForNone now base) → IsUnbuilt base before now → Left base before now collection
 left_by_start base collection before now told none (inl same) = inl same
 left_by_start base collection before now told none (inr gone) = inr (inl (none (gone told)))
 
 -- what a refusal at the end tells
-pub write_end_all : {T : Type 0} (r : Result T Fault) (P : List ℕ → Type 0) (rose now : Type 0) (plan : Plan) (first later : Option Files) (name fed : List ℕ) (size : ℕ) → (rose → now) → (IsSome first → IsSome later) → AreRead first name size fed → P fed
+pub write_end_all : {T : Type 0} (r : Result T Fault) (P : List ℕ → Type 0) (rose now : Type 0) (plan : Plan) (first later : Option Files) (name fed : List ℕ)
+    (size : ℕ) → (rose → now) → (IsSome first → IsSome later) → AreRead first name size fed → P fed
     → IfErr r (λ fault. (x : List ℕ) → P x → ListStops rose (IsSome later × IsPlanOf plan x) fault) → IfErr r (WriteStops now (IsPlanFor plan first name size))
 write_end_all (Ok value) P rose now plan first later name fed size grows still are put stop = tt
 write_end_all (Err fault) P rose now plan first later name fed size grows still are put stop = write_end rose now plan first later name fed size fault grows still are (stop fed put)

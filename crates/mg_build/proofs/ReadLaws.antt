@@ -56,7 +56,8 @@ module _ (at : ℕ) (held held_now : Option ℕ) (before mid now : ℕ) (so_far 
 
 -- ---- a collection, where it is told, has as many bytes as when it was opened
 
-pub whole_read : (files : Option Files) (name : List ℕ) (size before mid now : ℕ) → HasSize files name size → ReadsPages size before mid → mid ≤ now → ReadsPages (length (bytes_at files name)) before now
+pub whole_read : (files : Option Files) (name : List ℕ) (size before mid now : ℕ) → HasSize files name size → ReadsPages size before mid → mid ≤ now →
+    ReadsPages (length (bytes_at files name)) before now
 unfolding file_at
 whole_read None name size before mid now has reads later = omega (arith, no_pages, reads, later)
 whole_read (Some f) name size before mid now has reads later =

@@ -29,9 +29,12 @@ pub record IsPlanFor (plan : Plan) (files : Option Files) (name : List ℕ) (siz
 -- why the first pass stops, by the file of the collection and the size that it had
 abbrev pub PassStops : Type 0 → Option Files → List ℕ → ℕ → Fault → Type 0
 PassStops store_rose files name size StoreFault = store_rose
-PassStops store_rose files name size (Changed what first second) = (first ≢ second) × (IsSome files → length (bytes_at files name) ≢ size)
-PassStops store_rose files name size TooManyDocuments = IsSome files → length (bytes_at files name) ≡ size → PassesFirst version_2 (bytes_at files name) start
-PassStops store_rose files name size (TooManyPieces stream) = IsSome files → length (bytes_at files name) ≡ size → (bytes : List ℕ) × PassesFirst version_2 (bytes_at files name) (piece stream bytes)
+PassStops store_rose files name size (Changed what first second) = (first ≢ second)
+    × (IsSome files → length (bytes_at files name) ≢ size)
+PassStops store_rose files name size TooManyDocuments = IsSome files → length (bytes_at files name) ≡ size →
+    PassesFirst version_2 (bytes_at files name) start
+PassStops store_rose files name size (TooManyPieces stream) = IsSome files → length (bytes_at files name) ≡ size →
+    (bytes : List ℕ) × PassesFirst version_2 (bytes_at files name) (piece stream bytes)
 PassStops store_rose files name size Memory = Unit {0}
 PassStops store_rose files name size _ = ⊥
 
@@ -48,9 +51,12 @@ abbrev pub BuildStops : Type 0 → Option Files → List ℕ → List ℕ → Fa
 BuildStops store_rose files name base StoreFault = store_rose
 BuildStops store_rose files name base (Damaged bad) = IsSome files → ⊥
 BuildStops store_rose files name base NoCollection = IsSome files → file_at files name ≡ None
-BuildStops store_rose files name base (TooLarge size most) = (most ≡ most_bytes) × (most < size) × (IsSome files → length (bytes_at files name) ≡ size)
-BuildStops store_rose files name base TooManyDocuments = IsSome files → PassesFirst version_2 (bytes_at files name) start
-BuildStops store_rose files name base (TooManyPieces stream) = IsSome files → (bytes : List ℕ) × PassesFirst version_2 (bytes_at files name) (piece stream bytes)
+BuildStops store_rose files name base (TooLarge size most) = (most ≡ most_bytes) × (most < size)
+    × (IsSome files → length (bytes_at files name) ≡ size)
+BuildStops store_rose files name base TooManyDocuments = IsSome files →
+    PassesFirst version_2 (bytes_at files name) start
+BuildStops store_rose files name base (TooManyPieces stream) = IsSome files →
+    (bytes : List ℕ) × PassesFirst version_2 (bytes_at files name) (piece stream bytes)
 BuildStops store_rose files name base (Changed what first second) = (first ≢ second) × (IsSome files → ⊥)
 BuildStops store_rose files name base Memory = Unit {0}
 BuildStops store_rose files name base (NameClash p) = (p ≢ Plain) × (name ≡ full_name base p)
@@ -64,7 +70,8 @@ RefusesNoFile files name result = file_at files name ≡ None → RefusedFor res
 
 -- the part of the text of a base has no more bytes than the bits of a collection and one for each document
 abbrev pub TextIsShort : Option Files → List ℕ → List ℕ → Type 0
-TextIsShort files base collection = length (bytes_at files (full_name base part.Text)) ≤ text_bits collection / 8 + length (documents collection)
+TextIsShort files base collection = length (bytes_at files (full_name base part.Text))
+    ≤ text_bits collection / 8 + length (documents collection)
 
 -- this is so of the bytes of the file of this name, if that is no part of a set of this base
 abbrev pub ForFile : Option Files → List ℕ → List ℕ → (List ℕ → Type 0) → Type 0
@@ -72,7 +79,8 @@ ForFile files name base holds = (bytes : List ℕ) → file_at files name ≡ So
 
 -- and it is so with each piece
 abbrev pub ForFileAndPiece : Option Files → List ℕ → List ℕ → (List ℕ → Stream → List ℕ → Type 0) → Type 0
-ForFileAndPiece files name base holds = (bytes : List ℕ) (stream : Stream) (word : List ℕ) → file_at files name ≡ Some bytes → IsApart base name → holds bytes stream word
+ForFileAndPiece files name base holds = (bytes : List ℕ) (stream : Stream) (word : List ℕ) →
+    file_at files name ≡ Some bytes → IsApart base name → holds bytes stream word
 
 -- the plan is that of the bytes of a source, of which there are as many as when it was opened
 abbrev pub IsPlanAt : Plan → Option Files → Sourcing → Type 0

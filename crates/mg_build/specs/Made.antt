@@ -29,7 +29,8 @@ pub record AreMade (files : Option Files) (base collection : List ℕ) (budget :
   pub stands : StandsIn 2 (run_cap budget) files base collection
   pub merge_a : file_at files (full_name base part.MergeA) ≡ Some []
   pub merge_b : file_at files (full_name base part.MergeB) ≡ Some []
-  pub text : length (bytes_at files (full_name base part.Text)) ≤ text_bits collection / 8 + length (split.documents collection)
+  pub text : length (bytes_at files (full_name base part.Text)) ≤ text_bits collection / 8
+      + length (split.documents collection)
 
 -- of the collection of this name and the set of this base, by the store before the build and after it, and its status
 pub record Made (name base : List ℕ) (budget : ℕ) (store store_now : StoreAt) (status : Status) : Type 0 where
@@ -46,13 +47,17 @@ pub record Made (name base : List ℕ) (budget : ℕ) (store store_now : StoreAt
   pub cause : IfStopped status (BuildStops (StoreRose store store_now) store.files name base)
   -- 13, 7, 8, 9 and 10 come exactly where they have it, in this order, all but 13 unless the store fails or memory is wanting
   pub clash : (p : Part) → p ≢ part.Plain → name ≡ full_name base p → status ≡ Stopped (NameClash p)
-  pub missing : IsSome store.files → IsApart base name → file_at store.files name ≡ None → StoppedFor status NoCollection
+  pub missing : IsSome store.files → IsApart base name → file_at store.files name ≡ None →
+      StoppedFor status NoCollection
   pub large : IsSome store.files → IsApart base name → most_bytes < length (bytes_at store.files name)
       → StoppedFor status (TooLarge (length (bytes_at store.files name)) most_bytes)
-  pub documents : (bytes : List ℕ) → file_at store.files name ≡ Some bytes → IsApart base name → length bytes ≤ most_bytes
+  pub documents : (bytes : List ℕ) → file_at store.files name ≡ Some bytes → IsApart base name →
+      length bytes ≤ most_bytes
       → PassesFirst version_2 bytes start → StoppedFor status TooManyDocuments
-  pub pieces : (bytes : List ℕ) (stream : Stream) (word : List ℕ) → file_at store.files name ≡ Some bytes → IsApart base name
-      → length bytes ≤ most_bytes → PassesFirst version_2 bytes (piece stream word) → StoppedFor status (TooManyPieces stream)
+  pub pieces : (bytes : List ℕ) (stream : Stream) (word : List ℕ) → file_at store.files name ≡ Some bytes →
+      IsApart base name
+      → length bytes ≤ most_bytes → PassesFirst version_2 bytes (piece stream word) →
+      StoppedFor status (TooManyPieces stream)
   -- where nothing stands in its way and the store does not fail, it is done, or memory is wanting
   pub complete : (bytes : List ℕ) → file_at store.files name ≡ Some bytes → IsApart base name → IsWithinLimits 2 bytes
       → ¬ StoreRose store store_now → (status ≡ Done) ⊎ (status ≡ Stopped Memory)

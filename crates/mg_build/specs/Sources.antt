@@ -20,7 +20,8 @@ pub record Sourcing : Type 0 where
 -- why a collection is not opened
 abbrev pub OpenStops : Type 0 → Option Files → List ℕ → Fault → Type 0
 OpenStops store_rose files name NoCollection = IsSome files → file_at files name ≡ None
-OpenStops store_rose files name (TooLarge size most) = (most ≡ most_bytes) × (most < size) × (IsSome files → length (bytes_at files name) ≡ size)
+OpenStops store_rose files name (TooLarge size most) = (most ≡ most_bytes) × (most < size)
+    × (IsSome files → length (bytes_at files name) ≡ size)
 OpenStops store_rose files name StoreFault = store_rose
 OpenStops store_rose files name Memory = Unit {0}
 OpenStops store_rose files name _ = ⊥
@@ -28,7 +29,8 @@ OpenStops store_rose files name _ = ⊥
 -- why a byte is not read: the file is no longer what it was, unless it is told
 abbrev pub ByteStops : Type 0 → Option Files → List ℕ → ℕ → Fault → Type 0
 ByteStops store_rose files name size StoreFault = store_rose
-ByteStops store_rose files name size (Changed what first second) = (first ≢ second) × (IsSome files → length (bytes_at files name) ≢ size)
+ByteStops store_rose files name size (Changed what first second) = (first ≢ second)
+    × (IsSome files → length (bytes_at files name) ≢ size)
 ByteStops store_rose files name size _ = ⊥
 
 -- so many bytes were read, where the file is told its first ones

@@ -10,7 +10,8 @@ use mg_dev::{Part, names_apart};
 /// The part of a set of this base that a file has the name of.
 pub(crate) fn part_named(base: &str, name: &str) -> Option<Part>
     ensures part { IfSome result (λ part. (part ≢ Plain) × (name.now ≡ full_name base.now part)) }
-    ensures one { IfSome result (λ part. (p : AnyPart) → p ≢ Plain → name.now ≡ full_name base.now p → part ≡ p) }
+    ensures one { IfSome result (λ part. (p : AnyPart) → p ≢ Plain →
+        name.now ≡ full_name base.now p → part ≡ p) }
     ensures apart { result ≡ None → IsApart base.now name.now }
 {
     names_apart();

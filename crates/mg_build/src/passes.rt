@@ -28,14 +28,16 @@ fn count_bytes<S: Store>(
 ) -> Result<(), Fault>
     requires fits { Fits source.old.feed (S.files store.old) }
     requires nothing { HasCounted count.old [] }
-    ensures counted { OnOk result ((fed : List ℕ) × AreRead (S.files store.old) source.old.feed.name source.old.size fed × HasCounted count.new fed) }
+    ensures counted { OnOk result ((fed : List ℕ) × AreRead (S.files store.old) source.old.feed.name
+        source.old.size fed × HasCounted count.new fed) }
     ensures fits { Fits source.new.feed (S.files store.new) }
     ensures file { SameFile source.old.feed source.new.feed }
     ensures size { source.new.size ≡ source.old.size }
     ensures small { source.old.size < 2 ^ 32 }
     ensures whole { source.old.feed.held ≡ None → OnOk result
         (ReadsPages source.old.size (S.reads store.old part.Plain) (S.reads store.new part.Plain)) }
-    ensures refused { IfErr result (PassStops (Rose (S.faults store.old) (S.faults store.new)) (S.files store.old) source.old.feed.name source.old.size) }
+    ensures refused { IfErr result (PassStops (Rose (S.faults store.old) (S.faults store.new))
+        (S.files store.old) source.old.feed.name source.old.size) }
     ensures looked { Between S.files S.reads S.faults store.old store.new (Looked part.Plain) }
 {
     for at in 0..source.size() {
@@ -70,7 +72,8 @@ pub(crate) fn count_all<S: Store>(
     ensures size { source.new.size ≡ source.old.size }
     ensures whole { source.old.feed.held ≡ None → OnOk result
         (ReadsPages source.old.size (S.reads store.old part.Plain) (S.reads store.new part.Plain)) }
-    ensures refused { IfErr result (PassStops (Rose (S.faults store.old) (S.faults store.new)) (S.files store.old) source.old.feed.name source.old.size) }
+    ensures refused { IfErr result (PassStops (Rose (S.faults store.old) (S.faults store.new))
+        (S.files store.old) source.old.feed.name source.old.size) }
     ensures looked { Between S.files S.reads S.faults store.old store.new (Looked part.Plain) }
 {
     let mut count = Count::new(alloc);
@@ -90,17 +93,21 @@ fn put_bytes<S: Store>(
     requires fits { Fits source.old.feed (S.files store.old) }
     requires apart { IsApart writer.old.base source.old.feed.name }
     requires nothing { HasPut writer.old (S.files store.old) [] }
-    requires head { IsSome (S.files store.old) → file_at (S.files store.old) (full_name writer.old.base part.Head) ≡ Some [] }
-    ensures put { OnOk result ((fed : List ℕ) × AreRead (S.files store.old) source.old.feed.name source.old.size fed ×
+    requires head { IsSome (S.files store.old) →
+        file_at (S.files store.old) (full_name writer.old.base part.Head) ≡ Some [] }
+    ensures put { OnOk result ((fed : List ℕ) × AreRead (S.files store.old) source.old.feed.name
+        source.old.size fed ×
         HasPut writer.new (S.files store.new) fed) }
     ensures base { writer.new.base ≡ writer.old.base }
     ensures plan { writer.new.plan ≡ writer.old.plan }
     ensures limit { writer.new.limit ≡ writer.old.limit }
     ensures small { source.old.size < 2 ^ 32 }
-    ensures head { IsSome (S.files store.old) → file_at (S.files store.new) (full_name writer.old.base part.Head) ≡ Some [] }
+    ensures head { IsSome (S.files store.old) →
+        file_at (S.files store.new) (full_name writer.old.base part.Head) ≡ Some [] }
     ensures others { OthersSame writer.old.base (S.files store.old) (S.files store.new) }
     ensures plain { S.reads store.old part.Plain ≤ S.reads store.new part.Plain }
-    ensures refused { IfErr result (WriteStops (Fails S.faults store.old store.new) (IsPlanAt writer.old.plan (S.files store.old) source.old)) }
+    ensures refused { IfErr result (WriteStops (Fails S.faults store.old store.new)
+        (IsPlanAt writer.old.plan (S.files store.old) source.old)) }
     ensures later { S.faults store.old ≤ S.faults store.new }
 {
     for at in 0..source.size() {
@@ -129,14 +136,20 @@ pub(crate) fn write_set<'a, S: Store>(
     requires room { IsRoomFor room plan.now room.pool.limit }
     requires fits { Fits source.old.feed (S.files store.old) }
     requires apart { IsApart base.now source.old.feed.name }
-    ensures stands { IfPlanned plan.entry.now (S.files store.old) source.old (MakesSet room.pool.limit (S.files store.new) base.entry.now result) }
-    ensures summary { IfPlanned plan.entry.now (S.files store.old) source.old (HasSummaryOf room.pool.limit result) }
-    ensures merge_a { IfPlanned plan.entry.now (S.files store.old) source.old (λ _. OnOk result (IsEmptied (S.files store.new) base.entry.now part.MergeA)) }
-    ensures merge_b { IfPlanned plan.entry.now (S.files store.old) source.old (λ _. OnOk result (IsEmptied (S.files store.new) base.entry.now part.MergeB)) }
-    ensures left { IfPlanned plan.entry.now (S.files store.old) source.old (Left base.entry.now (S.files store.old) (S.files store.new)) }
+    ensures stands { IfPlanned plan.entry.now (S.files store.old) source.old
+        (MakesSet room.pool.limit (S.files store.new) base.entry.now result) }
+    ensures summary { IfPlanned plan.entry.now (S.files store.old) source.old
+        (HasSummaryOf room.pool.limit result) }
+    ensures merge_a { IfPlanned plan.entry.now (S.files store.old) source.old
+        (λ _. OnOk result (IsEmptied (S.files store.new) base.entry.now part.MergeA)) }
+    ensures merge_b { IfPlanned plan.entry.now (S.files store.old) source.old
+        (λ _. OnOk result (IsEmptied (S.files store.new) base.entry.now part.MergeB)) }
+    ensures left { IfPlanned plan.entry.now (S.files store.old) source.old
+        (Left base.entry.now (S.files store.old) (S.files store.new)) }
     ensures others { OthersSame base.entry.now (S.files store.old) (S.files store.new) }
     ensures plain { S.reads store.old part.Plain ≤ S.reads store.new part.Plain }
-    ensures refused { IfErr result (WriteStops (Fails S.faults store.old store.new) (IsPlanAt plan.entry.now (S.files store.old) source.old)) }
+    ensures refused { IfErr result (WriteStops (Fails S.faults store.old store.new)
+        (IsPlanAt plan.entry.now (S.files store.old) source.old)) }
     ensures later { S.faults store.old ≤ S.faults store.new }
 {
     empty_heads_stand_for_none();

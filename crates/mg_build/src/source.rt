@@ -44,7 +44,9 @@ impl<'a, S: Store> Source<'a, S> {
         ensures fits { IfOk result (λ s. Fits s.feed (S.files store.new)) }
         ensures size { IfOk result (λ s. HasSize (S.files store.old) name.entry.now s.size) }
         ensures held { IfOk result (λ s. s.feed.held ≡ None) }
-        ensures refused { IfErr result (OpenStops (Rose (S.faults store.old) (S.faults store.new)) (S.files store.old) name.entry.now) }
+        ensures refused { IfErr result
+            (OpenStops (Rose (S.faults store.old) (S.faults store.new)) (S.files store.old)
+            name.entry.now) }
         ensures files { S.files store.new ≡ S.files store.old }
         ensures reads { SameReads (S.reads store.old) (S.reads store.new) }
         ensures later { S.faults store.old ≤ S.faults store.new }
@@ -83,11 +85,16 @@ impl<'a, S: Store> Source<'a, S> {
         ensures fits { Fits self.new.feed (S.files store.new) }
         ensures file { SameFile self.old.feed self.new.feed }
         ensures size { self.new.size ≡ self.old.size }
-        ensures told { IsSome (S.files store.old) → IfOk result (λ byte. slice_get (bytes_at (S.files store.old) self.old.feed.name) at ≡ Some byte) }
-        ensures refused { IfErr result (ByteStops (Rose (S.faults store.old) (S.faults store.new)) (S.files store.old) self.old.feed.name self.old.size) }
+        ensures told { IsSome (S.files store.old) →
+            IfOk result (λ byte. slice_get (bytes_at (S.files store.old) self.old.feed.name) at
+            ≡ Some byte) }
+        ensures refused { IfErr result
+            (ByteStops (Rose (S.faults store.old) (S.faults store.new)) (S.files store.old)
+            self.old.feed.name self.old.size) }
         ensures turned { OnOk result (TurnsTo at self.old.feed.held self.new.feed.held
             (S.reads store.old Plain) (S.reads store.new Plain)) }
-        ensures looked { Looked Plain (S.files store.old) (S.files store.new) (S.reads store.old) (S.reads store.new)
+        ensures looked { Looked Plain (S.files store.old) (S.files store.new) (S.reads store.old)
+            (S.reads store.new)
             (S.faults store.old) (S.faults store.new) }
     {
         match self.feed.byte(store, at) {

@@ -227,7 +227,8 @@ module _ (lengths : List ℕ) (good : AreGood lengths) (some : 0 < length length
         })
 
 -- the way begins behind no bits, or behind ten below all codewords of ten bits
-pub walk_from : (lengths : List ℕ) (read value : ℕ) → AreGood lengths → read ≤ 48 → (read ≡ 0) ⊎ (1 ≤ read) → (read ≡ 0 → value ≡ 0) → (1 ≤ read → value < first_codeword read lengths) → (1 ≤ read → 0 < first_codeword 10 lengths) → Walk lengths read value
+pub walk_from : (lengths : List ℕ) (read value : ℕ) → AreGood lengths → read ≤ 48 → (read ≡ 0) ⊎ (1 ≤ read) → (read ≡ 0 → value ≡ 0) →
+    (1 ≤ read → value < first_codeword read lengths) → (1 ≤ read → 0 < first_codeword 10 lengths) → Walk lengths read value
 walk_from lengths read value good short from none below ten = ⊎_elim
     (λ e. subst (λ r. Walk lengths r value) (sym e) (subst (λ v. Walk lengths 0 v) (sym (none e)) (walk_start lengths good)))
     (λ some.
@@ -286,5 +287,6 @@ entry_more lengths entries found told begins = λ i h. ⊎_elim
     (λ lt. subst (λ f. IsBeginning lengths i f) (sym (get_or_append_left entries (found ∷ []) no_codeword i lt)) (told i lt))
     (λ le.
     let e : i ≡ length entries = omega (arith, length_push entries found, h) in
-    subst (λ k. IsBeginning lengths k (get_or (entries ++ found ∷ []) k no_codeword)) (sym e) (subst (λ f. IsBeginning lengths (length entries) f) (sym (get_or_push entries found no_codeword (length entries) refl)) begins))
+    subst (λ k. IsBeginning lengths k (get_or (entries ++ found ∷ []) k no_codeword)) (sym e)
+    (subst (λ f. IsBeginning lengths (length entries) f) (sym (get_or_push entries found no_codeword (length entries) refl)) begins))
     (cases_lt i (length entries))

@@ -60,8 +60,10 @@ impl Canon {
         requires { length lengths.now ≤ 2 ^ 22 }
         ensures lengths { IfOk result (λ code. code ≡ lengths.now) }
         ensures good { IfOk result (λ _. AreGood lengths.now) }
-        ensures bad_length { (symbol l : ℕ) → (result ≡ Err (CanonErr.BadLength symbol l)) ↔ IsFirstBad lengths.now symbol l }
-        ensures kraft { (sum : ℕ) → (result ≡ Err (CanonErr.Kraft sum)) ↔ IsUnfilled lengths.now sum }
+        ensures bad_length { (symbol l : ℕ) → (result ≡ Err (CanonErr.BadLength symbol l))
+            ↔ IsFirstBad lengths.now symbol l }
+        ensures kraft { (sum : ℕ) → (result ≡ Err (CanonErr.Kraft sum))
+            ↔ IsUnfilled lengths.now sum }
     {
         if let Err(refusal) = check(lengths) {
             return Err(refusal);
@@ -101,9 +103,11 @@ impl Canon {
         requires holds { Holds writer.old (S.files store.old) }
         requires place { writer.old.place ≤ 2 ^ 63 }
         ensures holds { OnOk result (Holds writer.new (S.files store.new)) }
-        ensures bits { OnOk result (WroteBits writer.old writer.new (S.files store.old) (S.files store.new) (codeword self.now symbol)) }
+        ensures bits { OnOk result (WroteBits writer.old writer.new (S.files store.old)
+            (S.files store.new) (codeword self.now symbol)) }
         ensures name { writer.new.name ≡ writer.old.name }
-        ensures wrote { WroteTo writer.old.name (S.files store.old) (S.files store.new) (S.reads store.old) (S.reads store.new) }
+        ensures wrote { WroteTo writer.old.name (S.files store.old) (S.files store.new)
+            (S.reads store.old) (S.reads store.new) }
         ensures cause { HasPutCause (S.faults store.old) (S.faults store.new) result }
     {
         let symbol = symbol as usize;
@@ -121,12 +125,19 @@ impl Canon {
         requires fits { F.fits reader.old.feed (F.device dev.old).files }
         requires place { reader.old.place ≤ 2 ^ 63 }
         ensures fits { F.fits reader.new.feed (F.device dev.new).files }
-        ensures calm { Calm (F.feeding reader.old.feed) (F.feeding reader.new.feed) (F.device dev.old) (F.device dev.new) }
-        ensures read { IfOk result (λ s. ReadNext F.feeding F.device reader.old reader.new dev.old dev.new (length (codeword self.now s))) }
-        ensures pages { OnErr result (OnlyCodePages F.feeding F.device reader.old reader.new dev.old dev.new (Below (length self.now)) (codeword self.now)) }
+        ensures calm { Calm (F.feeding reader.old.feed) (F.feeding reader.new.feed)
+            (F.device dev.old) (F.device dev.new) }
+        ensures read { IfOk result (λ s.
+            ReadNext F.feeding F.device reader.old reader.new dev.old dev.new
+            (length (codeword self.now s))) }
+        ensures pages { OnErr result
+            (OnlyCodePages F.feeding F.device reader.old reader.new dev.old dev.new
+            (Below (length self.now)) (codeword self.now)) }
         ensures place { MatchResult result (λ s. reader.new.place
-            ≡ reader.old.place + length (codeword self.now s)) (λ _. reader.new.place ≡ reader.old.place) }
-        ensures told { FromNext F.feeding F.device reader.old dev.old (AnswersCode result (Below (length self.now)) (codeword self.now) 1 reader.old.place) }
+            ≡ reader.old.place + length (codeword self.now s))
+            (λ _. reader.new.place ≡ reader.old.place) }
+        ensures told { FromNext F.feeding F.device reader.old dev.old
+            (AnswersCode result (Below (length self.now)) (codeword self.now) 1 reader.old.place) }
         ensures symbol { IfOk result (λ s. s < length self.now) }
         ensures over { (at limit : ℕ) → result ≡ Err (CodeErr.Over at limit) → length self.now ≡ 1 }
         ensures cause { CodeCause result (F.device dev.old).faults (F.device dev.new).faults }
@@ -147,14 +158,19 @@ impl Canon {
         requires place { reader.old.place ≤ 2 ^ 63 }
         ensures feed { reader.new.feed ≡ reader.old.feed }
         ensures read { IfSome result (λ s. (dev : Device) →
-            ReadNext F.feeding (λ d. d) reader.old reader.new dev dev (length (codeword self.now s))) }
-        ensures place { MatchOption result (reader.new.place ≡ reader.old.place) (λ s. reader.new.place
+            ReadNext F.feeding (λ d. d) reader.old reader.new dev dev
+            (length (codeword self.now s))) }
+        ensures place { MatchOption result (reader.new.place ≡ reader.old.place)
+            (λ s. reader.new.place
             ≡ reader.old.place + length (codeword self.now s)) }
-        ensures told { ToldBits (F.feeding reader.old.feed) (F.fits reader.old.feed) reader.old.place result
-            (λ s. AnswersCode (Ok s) (Below (length self.now)) (codeword self.now) 1 reader.old.place) }
+        ensures told { ToldBits (F.feeding reader.old.feed) (F.fits reader.old.feed)
+            reader.old.place result
+            (λ s. AnswersCode (Ok s) (Below (length self.now)) (codeword self.now) 1
+            reader.old.place) }
         ensures symbol { IfSome result (λ s. s < length self.now) }
         ensures some { (files : Option Files) → F.fits reader.old.feed files → 2 ≤ length self.now →
-            HasBits (F.feeding reader.old.feed) files (8 * (reader.old.place / 8)) 64 → IsSome result }
+            HasBits (F.feeding reader.old.feed) files (8 * (reader.old.place / 8)) 64 →
+            IsSome result }
     {
         let next = match reader.peek() {
             Some(next) => next,
@@ -176,7 +192,8 @@ impl Canon {
         requires next { next < 2 ^ 57 }
         requires some { 0 < length self.now }
         ensures symbol { IfSome result (λ found. found.symbol < length self.now) }
-        ensures code { IfSome result (λ found. codeword self.now found.symbol ≡ digits found.size (next / 2 ^ (57 - found.size))) }
+        ensures code { IfSome result (λ found. codeword self.now found.symbol
+            ≡ digits found.size (next / 2 ^ (57 - found.size))) }
         ensures some { IfSome result (λ found. 1 ≤ found.size) }
         ensures small { IfSome result (λ found. found.size ≤ 48) }
         ensures none { IfNone result (length self.now ≡ 1) }
@@ -196,7 +213,8 @@ impl Canon {
         requires next { next < 2 ^ 57 }
         requires some { 0 < length self.now }
         ensures symbol { IfSome result (λ found. found.symbol < length self.now) }
-        ensures code { IfSome result (λ found. codeword self.now found.symbol ≡ digits found.size (next / 2 ^ (57 - found.size))) }
+        ensures code { IfSome result (λ found. codeword self.now found.symbol
+            ≡ digits found.size (next / 2 ^ (57 - found.size))) }
         ensures some { IfSome result (λ found. 1 ≤ found.size) }
         ensures small { IfSome result (λ found. found.size ≤ 48) }
         ensures none { IfNone result (length self.now ≡ 1) }
@@ -292,12 +310,19 @@ impl Canon {
         requires fits { F.fits reader.old.feed (F.device dev.old).files }
         requires place { reader.old.place ≤ 2 ^ 63 }
         ensures fits { F.fits reader.new.feed (F.device dev.new).files }
-        ensures calm { Calm (F.feeding reader.old.feed) (F.feeding reader.new.feed) (F.device dev.old) (F.device dev.new) }
-        ensures read { IfOk result (λ s. ReadNext F.feeding F.device reader.old reader.new dev.old dev.new (length (codeword self.now s))) }
-        ensures pages { OnErr result (OnlyCodePages F.feeding F.device reader.old reader.new dev.old dev.new (Below (length self.now)) (codeword self.now)) }
+        ensures calm { Calm (F.feeding reader.old.feed) (F.feeding reader.new.feed)
+            (F.device dev.old) (F.device dev.new) }
+        ensures read { IfOk result (λ s.
+            ReadNext F.feeding F.device reader.old reader.new dev.old dev.new
+            (length (codeword self.now s))) }
+        ensures pages { OnErr result
+            (OnlyCodePages F.feeding F.device reader.old reader.new dev.old dev.new
+            (Below (length self.now)) (codeword self.now)) }
         ensures place { MatchResult result (λ s. reader.new.place
-            ≡ reader.old.place + length (codeword self.now s)) (λ _. reader.new.place ≡ reader.old.place) }
-        ensures told { FromNext F.feeding F.device reader.old dev.old (AnswersCode result (Below (length self.now)) (codeword self.now) 1 reader.old.place) }
+            ≡ reader.old.place + length (codeword self.now s))
+            (λ _. reader.new.place ≡ reader.old.place) }
+        ensures told { FromNext F.feeding F.device reader.old dev.old
+            (AnswersCode result (Below (length self.now)) (codeword self.now) 1 reader.old.place) }
         ensures symbol { IfOk result (λ s. s < length self.now) }
         ensures over { (at limit : ℕ) → result ≡ Err (CodeErr.Over at limit) → length self.now ≡ 1 }
         ensures cause { CodeCause result (F.device dev.old).faults (F.device dev.new).faults }

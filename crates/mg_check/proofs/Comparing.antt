@@ -16,7 +16,8 @@ where_bad P Q (Err Memory) f p = tt
 where_bad P Q (Err (Bad bad)) f p = f p
 
 -- what is held more
-pub weighed_held : (old new : Weighing) (files : Option Files) (bytes more : List ℕ) → new.part ≡ old.part → new.held ≡ old.held ++ more → HasWeighed old files bytes → HasWeighed new files (bytes ++ more)
+pub weighed_held : (old new : Weighing) (files : Option Files) (bytes more : List ℕ) → new.part ≡ old.part → new.held ≡ old.held ++ more →
+    HasWeighed old files bytes → HasWeighed new files (bytes ++ more)
 weighed_held old new files bytes more same held it = record {
   done = it.done;
   begun = subst (λ c. HasBegun c files it.done) (sym same) it.begun;
@@ -35,7 +36,8 @@ pub other_more : (part bytes more rest : List ℕ) → part ≢ (bytes ++ more) 
 other_more part bytes more rest other e = other (e ∙ sym (append_assoc bytes more rest))
 
 -- where what is held differs, so does every list that begins with it
-pub weighed_bad : {T : Type 0} (r : Result T PartErr) (old mid : Weighing) (files : Option Files) (more : List ℕ) → mid.part ≡ old.part → mid.held ≡ old.held ++ more → WhereBad ((bytes rest : List ℕ) → HasWeighed mid files bytes → bytes_at files mid.part.name ≢ bytes ++ rest) r →
+pub weighed_bad : {T : Type 0} (r : Result T PartErr) (old mid : Weighing) (files : Option Files) (more : List ℕ) → mid.part ≡ old.part →
+    mid.held ≡ old.held ++ more → WhereBad ((bytes rest : List ℕ) → HasWeighed mid files bytes → bytes_at files mid.part.name ≢ bytes ++ rest) r →
     WhereBad ((bytes rest : List ℕ) → HasWeighed old files bytes → bytes_at files old.part.name ≢ bytes ++ (more ++ rest)) r
 weighed_bad (Ok value) old mid files more same held bad = tt
 weighed_bad (Err Device) old mid files more same held bad = tt
@@ -43,7 +45,8 @@ weighed_bad (Err Memory) old mid files more same held bad = tt
 weighed_bad (Err (Bad b)) old mid files more same held bad = λ bytes rest it e.
     bad (bytes ++ more) rest (weighed_held old mid files bytes more same held it) (ap (λ c. bytes_at files c.name) same ∙ e ∙ sym (append_assoc bytes more rest))
 
-pub weighed_other : {T : Type 0} (r : Result T PartErr) (w : Weighing) (files : Option Files) → WhereBad ((bytes rest : List ℕ) → HasWeighed w files bytes → bytes_at files w.part.name ≢ bytes ++ rest) r →
+pub weighed_other : {T : Type 0} (r : Result T PartErr) (w : Weighing) (files : Option Files) →
+    WhereBad ((bytes rest : List ℕ) → HasWeighed w files bytes → bytes_at files w.part.name ≢ bytes ++ rest) r →
     WhereBad ((bytes : List ℕ) → HasWeighed w files bytes → bytes_at files w.part.name ≢ bytes) r
 weighed_other (Ok value) w files bad = tt
 weighed_other (Err Device) w files bad = tt
@@ -54,7 +57,9 @@ pub on_ok : {T E : Type 0} (P Q : Type 0) (r : Result T E) → (P → Q) → OnO
 on_ok P Q (Ok value) f p = f p
 on_ok P Q (Err e) f p = tt
 
-pub weighed_done : {T E : Type 0} (r : Result T E) (old new : Weighing) (part : Comparing) (f0 f1 : Option Files) → f1 ≡ f0 → part ≡ new.part → new.held ≡ [] → new.part.name ≡ old.part.name → ((bytes : List ℕ) → HasWeighed old f0 bytes → HasWeighed new f1 bytes) → OnOk r ((done : List ℕ) → HasBegun part f1 done → bytes_at f1 part.name ≡ done) →
+pub weighed_done : {T E : Type 0} (r : Result T E) (old new : Weighing) (part : Comparing) (f0 f1 : Option Files) → f1 ≡ f0 → part ≡ new.part → new.held ≡ [] →
+    new.part.name ≡ old.part.name → ((bytes : List ℕ) → HasWeighed old f0 bytes → HasWeighed new f1 bytes) →
+    OnOk r ((done : List ℕ) → HasBegun part f1 done → bytes_at f1 part.name ≡ done) →
     OnOk r ((bytes : List ℕ) → HasWeighed old f0 bytes → bytes_at f0 old.part.name ≡ bytes)
 weighed_done (Ok value) old new part f0 f1 files same none name kept known = λ bytes it.
     let begun : HasBegun part f1 bytes = subst (λ c. HasBegun c f1 bytes) (sym same) (weighed_all new f1 bytes none (kept bytes it)) in

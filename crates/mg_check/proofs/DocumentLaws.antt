@@ -33,7 +33,8 @@ map_cond : (f : ℕ × ℕ → Posting) (b : Bool) (e : ℕ × ℕ) (es : List (
 map_cond f true e es = refl
 map_cond f false e es = refl
 
-first_entry : (d m : ℕ) (b : Bool) (e : ℕ × ℕ) (es : List (ℕ × ℕ)) → postings_in d (cond b (e ∷ es) es) m ≡ cond b (cond (nat_eq e.0 m) (record { doc = d; freq = e.1 } ∷ []) []) [] ++ postings_in d es m
+first_entry : (d m : ℕ) (b : Bool) (e : ℕ × ℕ) (es : List (ℕ × ℕ)) → postings_in d (cond b (e ∷ es) es) m
+    ≡ cond b (cond (nat_eq e.0 m) (record { doc = d; freq = e.1 } ∷ []) []) [] ++ postings_in d es m
 first_entry d m true e es = map_cond (λ (e : ℕ × ℕ). record { doc = d; freq = e.1 }) (nat_eq e.0 m) e (filter (λ (e : ℕ × ℕ). nat_eq e.0 m) es)
 first_entry d m false e es = refl
 
@@ -86,7 +87,8 @@ pub holds_upto : (w : Ranged) (collection : List ℕ) (n : ℕ) → n < length (
     HoldsLists w (with_document (lists_upto n collection) (n + 1) (counted_in (dictionary collection) (get_or (documents collection) n []))) → HoldsLists w (lists_upto (n + 1) collection)
 holds_upto w collection n lt within holds = record { each = λ k in_range. holds.each k in_range ∙ upto_more collection n (w.first + k) lt (omega (arith, within, in_range)) }
 
-pub room_upto : (w : Ranged) (collection : List ℕ) (n : ℕ) → n < length (documents collection) → w.first + length w.next ≤ length (dictionary collection) → HasRoomFor w (lists_upto (n + 1) collection) →
+pub room_upto : (w : Ranged) (collection : List ℕ) (n : ℕ) → n < length (documents collection) → w.first + length w.next ≤ length (dictionary collection) →
+    HasRoomFor w (lists_upto (n + 1) collection) →
     HasRoomFor w (with_document (lists_upto n collection) (n + 1) (counted_in (dictionary collection) (get_or (documents collection) n [])))
 room_upto w collection n lt within room = record {
   each = λ k in_range. subst (λ ps. length ps ≤ room_at w k) (sym (upto_more collection n (w.first + k) lt (omega (arith, within, in_range)))) (room.each k in_range);
@@ -101,7 +103,8 @@ grows_to collection t n (suc more) is =
     let next = ap (λ (ps : List Posting). length ps) (grows-by collection t n (omega (arith, is))) ∙ length-append (postings_upto n collection t) (one (n + 1) (freq collection (n + 1) t)) in
     omega (arith, grows_to collection t (n + 1) more (omega (arith, is)), next)
 
-pub room_for_all : (w : Ranged) (collection : List ℕ) (n : ℕ) → n ≤ length (documents collection) → ((k : ℕ) → k < length w.next → room_at w k ≡ docs collection (get_or (dictionary collection) (w.first + k) [])) → HasRoomFor w (lists_upto n collection)
+pub room_for_all : (w : Ranged) (collection : List ℕ) (n : ℕ) → n ≤ length (documents collection) →
+    ((k : ℕ) → k < length w.next → room_at w k ≡ docs collection (get_or (dictionary collection) (w.first + k) [])) → HasRoomFor w (lists_upto n collection)
 room_for_all w collection n le rooms = record {
   each = λ k in_range. omega (arith, rooms k in_range, grows_to collection (get_or (dictionary collection) (w.first + k) []) n (length (documents collection) - n) (omega (arith, le)));
 }
@@ -127,10 +130,13 @@ room_stays w v collection same room = record {
       (subst (λ n. room_at w k ≡ docs collection (get_or (dictionary collection) (n + k) [])) (sym same.first) (room.each k (omega (arith, in_range, same.count))));
 }
 
-pub counted_is : (r : TextReading) (table : TermNumbers) (files : Option Files) (collection : List ℕ) (before : ℕ) (doc : List ℕ) (found told : List (ℕ × ℕ)) → doc ≡ get_or (documents collection) before [] → table ≡ terms_and_numbers r.code.words.pieces →
+pub counted_is : (r : TextReading) (table : TermNumbers) (files : Option Files) (collection : List ℕ) (before : ℕ) (doc : List ℕ) (found told : List (ℕ × ℕ)) →
+    doc ≡ get_or (documents collection) before [] → table ≡ terms_and_numbers r.code.words.pieces →
     TextStands r files collection → found ≡ counted_in table.terms doc → told ≡ found → told ≡ counted_in (dictionary collection) (get_or (documents collection) before [])
 counted_is r table files collection before doc found told doc_is table_is stand found_is told_is =
     told_is ∙ found_is ∙ ap (λ ts. counted_in ts doc) (table_terms table r files collection table_is stand) ∙ ap (λ d. counted_in (dictionary collection) d) doc_is
 
-pub range_in : (w : Ranged) (table : TermNumbers) (r : TextReading) (files : Option Files) (collection : List ℕ) → table ≡ terms_and_numbers r.code.words.pieces → TextStands r files collection → w.first + length w.next ≤ length table.terms → w.first + length w.next ≤ length (dictionary collection)
+pub range_in : (w : Ranged) (table : TermNumbers) (r : TextReading) (files : Option Files) (collection : List ℕ) →
+    table ≡ terms_and_numbers r.code.words.pieces → TextStands r files collection → w.first + length w.next ≤ length table.terms →
+    w.first + length w.next ≤ length (dictionary collection)
 range_in w table r files collection table_is stand range = omega (arith, range, ap (λ (ts : List (List ℕ)). length ts) (table_terms table r files collection table_is stand))

@@ -60,7 +60,11 @@ has_filter p [] s h k = absurd (false≢true h)
 has_filter p (x ∷ xs) s h k = by (p x) refl (λ there. has_filter p xs s there k)
   where
     by : (b : Bool) → p x ≡ b → (has xs s ≡ true → has (filter p xs) s ≡ true) → has (cond b (x ∷ filter p xs) (filter p xs)) s ≡ true
-    by true is more = elim (or_cases (bytes_eq s x) (has xs s) h) [ inl same ↦ or_left (bytes_eq s x) (has (filter p xs) s) same | inr there ↦ or_right (bytes_eq s x) (has (filter p xs) s) (more there) ]
+    by true is more = elim (or_cases (bytes_eq s x) (has xs s) h) [
+      | inl same ↦ or_left (bytes_eq s x) (has (filter p xs) s) same
+      | inr there
+          ↦ or_right (bytes_eq s x) (has (filter p xs) s) (more there)
+    ]
     by false isnt more = elim (or_cases (bytes_eq s x) (has xs s) h) [ inl same ↦ absurd (false≢true (sym isnt ∙ (ap p (sym (same-is s x same)) ∙ k))) | inr there ↦ more there ]
 
 -- what has a number below the count is there
@@ -108,11 +112,14 @@ squares_same k (d ∷ ds) doc =
     let test : nat_lt 0 (freq_in doc d) ≡ has_term doc d = any_count (same_term d) (terms doc) in
     ap (λ b. sum_by square_of (cond b ((k, freq_in doc d) ∷ freqs_from (k + 1) ds doc) (freqs_from (k + 1) ds doc))) test ∙ by (has_term doc d) (squares_same (k + 1) ds doc)
   where
-    by : (b : Bool) → sum_by square_of (freqs_from (k + 1) ds doc) ≡ sum_by (square_in doc) (filter (has_term doc) ds) → sum_by square_of (cond b ((k, freq_in doc d) ∷ freqs_from (k + 1) ds doc) (freqs_from (k + 1) ds doc)) ≡ sum_by (square_in doc) (cond b (d ∷ filter (has_term doc) ds) (filter (has_term doc) ds))
+    by : (b : Bool) → sum_by square_of (freqs_from (k + 1) ds doc) ≡ sum_by (square_in doc) (filter (has_term doc) ds) →
+        sum_by square_of (cond b ((k, freq_in doc d) ∷ freqs_from (k + 1) ds doc) (freqs_from (k + 1) ds doc))
+        ≡ sum_by (square_in doc) (cond b (d ∷ filter (has_term doc) ds) (filter (has_term doc) ds))
     by true rest = sum_by-cons square_of (k, freq_in doc d) (freqs_from (k + 1) ds doc) ∙ ap (λ n. square_in doc d + n) rest ∙ sym (sum_by-cons (square_in doc) d (filter (has_term doc) ds))
     by false rest = rest
 
-pub weight_is : (ts : List (List ℕ)) (doc : List ℕ) (counted : List (ℕ × ℕ)) → IsRising ts → All (λ n. n < length ts) (numbers_in ts doc) → counted ≡ counted_in ts doc → weight_of_counts counted ≡ weight doc
+pub weight_is : (ts : List (List ℕ)) (doc : List ℕ) (counted : List (ℕ × ℕ)) → IsRising ts → All (λ n. n < length ts) (numbers_in ts doc) →
+    counted ≡ counted_in ts doc → weight_of_counts counted ≡ weight doc
 unfolding weight
 weight_is ts doc counted up low is =
     ap weight_of_counts is ∙ ap isqrt (squares_same 0 ts doc ∙ ap (sum_by (square_in doc)) (sym (terms_had ts doc up low)))
@@ -131,7 +138,8 @@ length_front : (front : List ℕ) (x : ℕ) → length (front ++ x ∷ []) ≡ l
 length_front [] x = omega arith
 length_front (f ∷ front) x = omega (arith, length_front front x)
 
-each_more : (k : ℕ) (ds : List (List ℕ)) (doc front : List ℕ) (f g : List ℕ → ℕ) → k ≡ length front → ((t : List ℕ) → f t < 2 ^ 32 - 1) → ((t : List ℕ) → g t ≡ f t + one_if (has_term doc t)) → one_more_each (freqs_from k ds doc) (front ++ map f ds) ≡ front ++ map g ds
+each_more : (k : ℕ) (ds : List (List ℕ)) (doc front : List ℕ) (f g : List ℕ → ℕ) → k ≡ length front → ((t : List ℕ) → f t < 2 ^ 32 - 1) →
+    ((t : List ℕ) → g t ≡ f t + one_if (has_term doc t)) → one_more_each (freqs_from k ds doc) (front ++ map f ds) ≡ front ++ map g ds
 each_more k [] doc front f g at few more = refl
 each_more k (d ∷ ds) doc front f g at few more =
     let test : nat_lt 0 (freq_in doc d) ≡ has_term doc d = any_count (same_term d) (terms doc) in
@@ -143,7 +151,9 @@ each_more k (d ∷ ds) doc front f g at few more =
     by true e rest =
         let old : slice_index (front ++ f d ∷ map f ds) k ≡ f d = ap (λ n. slice_index (front ++ f d ∷ map f ds) n) at ∙ get_here front (map f ds) (f d) in
         let new : min (slice_index (front ++ f d ∷ map f ds) k + 1) (2 ^ 32 - 1) ≡ g d = omega (arith, old, few d, more d, ap one_if e) in
-        let now : slice_set (front ++ f d ∷ map f ds) k (min (slice_index (front ++ f d ∷ map f ds) k + 1) (2 ^ 32 - 1)) ≡ (front ++ g d ∷ []) ++ map f ds = ap (λ y. slice_set (front ++ f d ∷ map f ds) k y) new ∙ ap (λ n. slice_set (front ++ f d ∷ map f ds) n (g d)) at ∙ set_here front (map f ds) (f d) (g d) in
+        let now : slice_set (front ++ f d ∷ map f ds) k (min (slice_index (front ++ f d ∷ map f ds) k + 1) (2 ^ 32 - 1)) ≡ (front ++ g d ∷ [])
+        ++ map f ds = ap (λ y. slice_set (front ++ f d ∷ map f ds) k y) new ∙ ap (λ n. slice_set (front ++ f d ∷ map f ds) n (g d)) at
+        ∙ set_here front (map f ds) (f d) (g d) in
         ap (one_more_each (freqs_from (k + 1) ds doc)) now ∙ rest (g d) ∙ append_assoc front (g d ∷ []) (map g ds)
     by false e rest =
         let same : f d ≡ g d = omega (arith, more d, ap one_if e) in
@@ -155,10 +165,12 @@ among_end (d ∷ docs) doc t = omega (arith, sum_by-cons (λ u. one_if (has_term
 
 among_few : (docs : List (List ℕ)) (t : List ℕ) → docs_among docs t ≤ length docs
 among_few [] t = omega arith
-among_few (d ∷ docs) t = let one : one_if (has_term d t) ≤ 1 = elim (cases_Bool (has_term d t)) [ inl e ↦ rw e (omega arith) | inr e ↦ rw e (omega arith) ] in omega (arith, sum_by-cons (λ u. one_if (has_term u t)) d docs, among_few docs t)
+among_few (d ∷ docs) t = let one : one_if (has_term d t) ≤ 1 = elim (cases_Bool (has_term d t)) [ inl e ↦ rw e (omega arith) | inr e ↦ rw e (omega arith) ] in
+    omega (arith, sum_by-cons (λ u. one_if (has_term u t)) d docs, among_few docs t)
 
 -- one document more
-pub docs_counted : (ts docs : List (List ℕ)) (doc : List ℕ) (counted : List (ℕ × ℕ)) (old new : List ℕ) → length docs < 2 ^ 32 - 1 → counted ≡ counted_in ts doc → old ≡ map (docs_among docs) ts → new ≡ one_more_each counted old → new ≡ map (docs_among (docs ++ doc ∷ [])) ts
+pub docs_counted : (ts docs : List (List ℕ)) (doc : List ℕ) (counted : List (ℕ × ℕ)) (old new : List ℕ) → length docs < 2 ^ 32 - 1 →
+    counted ≡ counted_in ts doc → old ≡ map (docs_among docs) ts → new ≡ one_more_each counted old → new ≡ map (docs_among (docs ++ doc ∷ [])) ts
 docs_counted ts docs doc counted old new few is was made =
     made ∙ ap (λ es. one_more_each es old) is ∙ ap (one_more_each (counted_in ts doc)) was
     ∙ each_more 0 ts doc [] (docs_among docs) (docs_among (docs ++ doc ∷ [])) refl (λ t. omega (arith, among_few docs t)) (λ t. among_end docs doc t)
@@ -168,7 +180,8 @@ pub record IsCounting (i : ℕ) (counted : List (ℕ × ℕ)) (first now : List 
   pub is : one_more_each (drop i counted) now ≡ one_more_each counted first
   pub long : length now ≡ length first
 
-pub counting_next : (i : ℕ) (counted : List (ℕ × ℕ)) (e : ℕ × ℕ) (first old new : List ℕ) (v : ℕ) → i < length counted → e ≡ get_or counted i e → v ≡ min (slice_index old e.0 + 1) (2 ^ 32 - 1) → new ≡ slice_set old e.0 v → IsCounting i counted first old → IsCounting (i + 1) counted first new
+pub counting_next : (i : ℕ) (counted : List (ℕ × ℕ)) (e : ℕ × ℕ) (first old new : List ℕ) (v : ℕ) → i < length counted → e ≡ get_or counted i e →
+    v ≡ min (slice_index old e.0 + 1) (2 ^ 32 - 1) → new ≡ slice_set old e.0 v → IsCounting i counted first old → IsCounting (i + 1) counted first new
 counting_next i counted e first old new v low at is made it =
     let one_up : suc i ≡ i + 1 = omega arith in
     let one : drop i counted ≡ get_or counted i e ∷ drop (suc i) counted = drop-cons counted i e low in
@@ -184,7 +197,9 @@ counting_all i counted first now all it = ap (λ es. one_more_each es now) (sym 
     drop_end : (n : ℕ) (xs : List (ℕ × ℕ)) → length xs ≤ n → drop n xs ≡ []
     drop_end n xs h = grind (arith, common_steps)
 
-pub counting_next_at : (i : ℕ) (counted : List (ℕ × ℕ)) (first old : List ℕ) (x v : ℕ) → i < length counted → ((k : ℕ) (d : ℕ × ℕ) → k < length counted → (get_or counted k d).0 < length first) → x ≡ get_or old (get_or counted i (0, 0)).0 x → v ≡ min (x + 1) (2 ^ 32 - 1) → IsCounting i counted first old → IsCounting (i + 1) counted first (slice_set old (get_or counted i (0, 0)).0 v)
+pub counting_next_at : (i : ℕ) (counted : List (ℕ × ℕ)) (first old : List ℕ) (x v : ℕ) → i < length counted →
+    ((k : ℕ) (d : ℕ × ℕ) → k < length counted → (get_or counted k d).0 < length first) → x ≡ get_or old (get_or counted i (0, 0)).0 x →
+    v ≡ min (x + 1) (2 ^ 32 - 1) → IsCounting i counted first old → IsCounting (i + 1) counted first (slice_set old (get_or counted i (0, 0)).0 v)
 counting_next_at i counted first old x v low all at is it =
     let e : ℕ × ℕ = get_or counted i (0, 0) in
     let here : e ≡ get_or counted i e = get_or_default counted i (0, 0) e low in

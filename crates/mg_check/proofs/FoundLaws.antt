@@ -40,17 +40,25 @@ outside bad = elim (cases_lt bad.found bad.low) [ inl below ↦ inl below | inr 
 
 -- a head that was refused is that of no set
 pub head-refused : (files : Option Files) (base : List ℕ) (refusal : PartErr) (before now : ℕ) → (IsSome files → AnswersHead 1 2 (bytes_at files (full_name base part.Head)) (Err refusal)) →
-    (IsSome files → (h : defs.Head) → IsHead 1 2 (bytes_at files (full_name base part.Head)) h → AnswersBack h (Err refusal)) → HasPartCause {T = Option Head} before now (Err refusal) → CheckStops (Rose before now) files base (fault_of_part refusal)
+    (IsSome files → (h : defs.Head) → IsHead 1 2 (bytes_at files (full_name base part.Head)) h → AnswersBack h (Err refusal)) →
+    HasPartCause {T = Option Head} before now (Err refusal) → CheckStops (Rose before now) files base (fault_of_part refusal)
 head-refused files base Device before now answer back cause = cause.device
 head-refused files base Memory before now answer back cause = tt
 head-refused files base (Bad bad) before now answer back cause = λ told. record { head = (answer told).0; none = λ collection stands. back told _ (own_head files base collection stands) }
 
 -- parts of a set with a head, of which one was refused
-pub set-refused : (files : Option Files) (base : List ℕ) (head : Head) (refusal : PartErr) (before now : ℕ) → (IsSome files → IsHead 1 2 (bytes_at files (full_name base part.Head)) (fields_of head)) → (IsSome files → IfBad refusal (StandForNone (parts_at files base))) →
+pub set-refused : (files : Option Files) (base : List ℕ) (head : Head) (refusal : PartErr) (before now : ℕ) →
+    (IsSome files → IsHead 1 2 (bytes_at files (full_name base part.Head)) (fields_of head)) →
+    (IsSome files → IfBad refusal (StandForNone (parts_at files base))) →
     HasPartCause {T = Unit {0}} before now (Err refusal) → CheckStops (Rose before now) files base (fault_of_part refusal)
 set-refused files base head Device before now is none cause = cause.device
 set-refused files base head Memory before now is none cause = tt
-set-refused files base head (Bad bad) before now is none cause = λ told. record { head = no_empty_head (bytes_at files (full_name base part.Head)) (fields_of head) (is told); none = λ collection stands. none told collection stands.stand }
+set-refused files base head (Bad bad) before now is none cause = λ told.
+    record {
+      head = no_empty_head (bytes_at files (full_name base part.Head)) (fields_of head) (is told);
+      none = λ collection stands.
+          none told collection stands.stand;
+    }
 
 -- memory is not what a head wants
 pub early-refused : (refusal : PartErr) → AnswersWithin (Err refusal) → (fault_of_part refusal ≢ fault.Memory)
@@ -68,12 +76,17 @@ early-err refusal f is within same =
 
 -- ---- a set with a head
 
-pub set-found : (files now : Option Files) (base : List ℕ) (head : Head) (n m : ℕ) → now ≡ files → (IsSome now → IsHead 1 2 (bytes_at now (full_name base part.Head)) (fields_of head) → StandsWith now base n m) → IsSome files → IsHead 1 2 (bytes_at files (full_name base part.Head)) (fields_of head) → StandsWith files base n m
+pub set-found : (files now : Option Files) (base : List ℕ) (head : Head) (n m : ℕ) → now ≡ files →
+    (IsSome now → IsHead 1 2 (bytes_at now (full_name base part.Head)) (fields_of head) → StandsWith now base n m) → IsSome files →
+    IsHead 1 2 (bytes_at files (full_name base part.Head)) (fields_of head) → StandsWith files base n m
 set-found files now base head n m same found = subst (λ (f : Option Files). IsSome f → IsHead 1 2 (bytes_at f (full_name base part.Head)) (fields_of head) → StandsWith f base n m) same found
 
-pub set-none-here : (files now : Option Files) (base : List ℕ) (head : Head) (refusal : PartErr) → now ≡ files → (IsSome now → IsHead 1 2 (bytes_at now (full_name base part.Head)) (fields_of head) → IfBad refusal (StandForNone (parts_at now base))) → IsSome files → IsHead 1 2 (bytes_at files (full_name base part.Head)) (fields_of head) →
+pub set-none-here : (files now : Option Files) (base : List ℕ) (head : Head) (refusal : PartErr) → now ≡ files →
+    (IsSome now → IsHead 1 2 (bytes_at now (full_name base part.Head)) (fields_of head) → IfBad refusal (StandForNone (parts_at now base))) → IsSome files →
+    IsHead 1 2 (bytes_at files (full_name base part.Head)) (fields_of head) →
     IfBad refusal (StandForNone (parts_at files base))
-set-none-here files now base head refusal same none = subst (λ (f : Option Files). IsSome f → IsHead 1 2 (bytes_at f (full_name base part.Head)) (fields_of head) → IfBad refusal (StandForNone (parts_at f base))) same none
+set-none-here files now base head refusal same none = subst (λ (f : Option Files). IsSome f →
+    IsHead 1 2 (bytes_at f (full_name base part.Head)) (fields_of head) → IfBad refusal (StandForNone (parts_at f base))) same none
 
 -- ---- what follows from the causes
 
@@ -117,12 +130,14 @@ only-memory rose files base collection fault.InputTooLong stands fine stops = ab
 only-memory rose files base collection fault.SameName stands fine stops = absurd stops
 only-memory rose files base collection (fault.TooManyRotations count) stands fine stops = absurd stops
 
-pub completes : (rose : Type 0) (files : Option Files) (base collection : List ℕ) (r : Result Found Fault) → IfErr r (CheckStops rose files base) → Stands files base collection → ¬ rose → IfErr r (λ f. f ≡ fault.Memory)
+pub completes : (rose : Type 0) (files : Option Files) (base collection : List ℕ) (r : Result Found Fault) → IfErr r (CheckStops rose files base) →
+    Stands files base collection → ¬ rose → IfErr r (λ f. f ≡ fault.Memory)
 completes rose files base collection (Ok found) cause stands fine = tt
 completes rose files base collection (Err f) cause stands fine = only-memory rose files base collection f stands fine cause
 
 -- where there is no head
-not-built : (rose : Type 0) (files : Option Files) (base : List ℕ) (f : Fault) → IsSome files → bytes_at files (full_name base part.Head) ≡ [] → CheckStops rose files base f → (f ≡ fault.NotBuilt) ⊎ (f ≡ fault.StoreFault) ⊎ (f ≡ fault.Memory)
+not-built : (rose : Type 0) (files : Option Files) (base : List ℕ) (f : Fault) → IsSome files → bytes_at files (full_name base part.Head) ≡ [] →
+    CheckStops rose files base f → (f ≡ fault.NotBuilt) ⊎ (f ≡ fault.StoreFault) ⊎ (f ≡ fault.Memory)
 not-built rose files base fault.Usage told none stops = absurd stops
 not-built rose files base fault.StoreFault told none stops = inr (inl refl)
 not-built rose files base fault.ReadFault told none stops = absurd stops
@@ -143,7 +158,9 @@ not-built rose files base (fault.TooManyRotations count) told none stops = absur
 abbrev AnswersNotBuilt : Result Found Fault → Type 0
 AnswersNotBuilt r = (r ≡ Err fault.NotBuilt) ⊎ (r ≡ Err fault.StoreFault) ⊎ (r ≡ Err fault.Memory)
 
-pub refused-unbuilt : (rose : Type 0) (files : Option Files) (base : List ℕ) (r : Result Found Fault) → (IsSome files → IfOk r (λ found. StandsWith files base found.documents found.bytes)) → IfErr r (CheckStops rose files base) → IsSome files → bytes_at files (full_name base part.Head) ≡ [] → AnswersNotBuilt r
+pub refused-unbuilt : (rose : Type 0) (files : Option Files) (base : List ℕ) (r : Result Found Fault) →
+    (IsSome files → IfOk r (λ found. StandsWith files base found.documents found.bytes)) → IfErr r (CheckStops rose files base) → IsSome files →
+    bytes_at files (full_name base part.Head) ≡ [] → AnswersNotBuilt r
 refused-unbuilt rose files base (Ok found) stands cause told none = absurd (head_there files base (stands told).collection (stands told).stands none)
 refused-unbuilt rose files base (Err f) stands cause told none = elim (not-built rose files base f told none cause) [
   | inl is ↦ inl (ap Err is)

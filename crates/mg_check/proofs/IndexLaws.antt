@@ -29,14 +29,17 @@ use Rattle.mg_check_text.proofs.CallerLemmas.{stands_on, terms_stay}
 most_docs : (collection t : List ℕ) → docs collection t ≤ length (documents collection)
 most_docs collection t = count_by-le-length (λ doc. list_any (same_term t) (terms doc)) (documents collection)
 
-docs_at : (r : TextReading) (files : Option Files) (ts : List (List ℕ)) (sizes collection : List ℕ) (n : ℕ) → IsIndexOf r files ts sizes collection → n < length sizes → slice_index sizes n ≡ docs collection (get_or (dictionary collection) n [])
+docs_at : (r : TextReading) (files : Option Files) (ts : List (List ℕ)) (sizes collection : List ℕ) (n : ℕ) → IsIndexOf r files ts sizes collection →
+    n < length sizes → slice_index sizes n ≡ docs collection (get_or (dictionary collection) n [])
 docs_at r files ts sizes collection n is lt =
-    ap (λ xs. slice_index xs n) is.docs_are ∙ get_or-map (docs collection) (dictionary collection) n [] 0 (omega (arith, lt, ap (λ (xs : List ℕ). length xs) is.docs_are, length-map (dictionary collection) (docs collection)))
+    ap (λ xs. slice_index xs n) is.docs_are ∙ get_or-map (docs collection) (dictionary collection) n [] 0
+    (omega (arith, lt, ap (λ (xs : List ℕ). length xs) is.docs_are, length-map (dictionary collection) (docs collection)))
 
 pub sizes_long : (r : TextReading) (files : Option Files) (ts : List (List ℕ)) (sizes collection : List ℕ) → IsIndexOf r files ts sizes collection → length sizes ≡ length (dictionary collection)
 sizes_long r files ts sizes collection is = ap (λ (xs : List ℕ). length xs) is.docs_are ∙ length-map (dictionary collection) (docs collection)
 
-pub sizes_of : (r : TextReading) (files : Option Files) (ts : List (List ℕ)) (sizes collection : List ℕ) (all : ℕ) → IsIndexOf r files ts sizes collection → all ≡ r.documents → AreSizes sizes (length ts) all
+pub sizes_of : (r : TextReading) (files : Option Files) (ts : List (List ℕ)) (sizes collection : List ℕ) (all : ℕ) → IsIndexOf r files ts sizes collection →
+    all ≡ r.documents → AreSizes sizes (length ts) all
 sizes_of r files ts sizes collection all is all_is =
     let long = sizes_long r files ts sizes collection is in
     record {
@@ -56,10 +59,12 @@ rooms_of w sizes first end terms all has are within = record {
   within = λ k lt. omega (arith, has.rooms k lt, are.within (first + k) (omega (arith, lt, has.count, within)));
 }
 
-pub room_of_docs : (w : Ranged) (r : TextReading) (files : Option Files) (ts : List (List ℕ)) (sizes collection : List ℕ) (first end : ℕ) → IsIndexOf r files ts sizes collection → HasRooms w sizes first end → end ≤ length sizes → HasRoomForAll w collection
+pub room_of_docs : (w : Ranged) (r : TextReading) (files : Option Files) (ts : List (List ℕ)) (sizes collection : List ℕ) (first end : ℕ) →
+    IsIndexOf r files ts sizes collection → HasRooms w sizes first end → end ≤ length sizes → HasRoomForAll w collection
 room_of_docs w r files ts sizes collection first end is has within = record {
   each = λ k lt.
-      has.rooms k lt ∙ docs_at r files ts sizes collection (first + k) is (omega (arith, lt, has.count, within)) ∙ ap (λ n. docs collection (get_or (dictionary collection) (n + k) [])) (sym has.first_is);
+      has.rooms k lt ∙ docs_at r files ts sizes collection (first + k) is (omega (arith, lt, has.count, within))
+      ∙ ap (λ n. docs collection (get_or (dictionary collection) (n + k) [])) (sym has.first_is);
 }
 
 pub rooms_stay : (w v : Ranged) (all : ℕ) → SameRooms w v → AreRooms w all → AreRooms v all
@@ -69,7 +74,9 @@ rooms_stay w v all same rooms = record {
 }
 
 -- the lists that were read are those of the collection
-pub range_of_index : (w v : Ranged) (r : TextReading) (files : Option Files) (ts : List (List ℕ)) (sizes collection : List ℕ) (first end all : ℕ) → IsIndexOf r files ts sizes collection → HasRooms w sizes first end → end ≤ length sizes → SameRooms w v → all ≡ r.documents → HoldsLists v (lists_of collection) → IsRangeOf v ts all collection
+pub range_of_index : (w v : Ranged) (r : TextReading) (files : Option Files) (ts : List (List ℕ)) (sizes collection : List ℕ) (first end all : ℕ) →
+    IsIndexOf r files ts sizes collection → HasRooms w sizes first end → end ≤ length sizes → SameRooms w v → all ≡ r.documents →
+    HoldsLists v (lists_of collection) → IsRangeOf v ts all collection
 range_of_index w v r files ts sizes collection first end all is has within same all_is holds = record {
   terms_are = is.terms_are;
   all_are = all_is ∙ is.stands.documents;
@@ -91,7 +98,8 @@ no_skip collection = refl
 begins_none : (bytes front : List ℕ) → front ≡ [] → BeginsAt bytes 0 front
 begins_none bytes front none = record { place_is = sym (ap (λ (b : List ℕ). length b) none); bytes_are = sym none }
 
-pub compared_none : (files : Option Files) (base collection : List ℕ) (lex : LexWriting) (lex_files : Option Files) → TookTerms lex lex_files [] → HasCompared files base collection 0 (record { post = 0; skip = 0 }) lex lex_files
+pub compared_none : (files : Option Files) (base collection : List ℕ) (lex : LexWriting) (lex_files : Option Files) → TookTerms lex lex_files [] →
+    HasCompared files base collection 0 (record { post = 0; skip = 0 }) lex lex_files
 compared_none files base collection lex lex_files took = record {
   lists = record {
     post_is = begins_none (bytes_at files (full_name base Post)) (post_upto 0 collection) (no_post collection);
@@ -112,13 +120,16 @@ skip_all collection = ap (λ ls. as_bytes (flat_map entry_bits (lists_entries (l
 whole_is : (bytes front : List ℕ) (place : ℕ) → BeginsAt bytes place front → length bytes ≡ place → bytes ≡ front
 whole_is bytes front place begins long = sym (take_all place bytes (omega (arith, long))) ∙ begins.bytes_are
 
-pub post_ends : (files : Option Files) (base collection : List ℕ) (ends : Places) → ListsAgree files base collection (length (dictionary collection)) ends → ListsStand files base collection → length (bytes_at files (full_name base Post)) ≡ ends.post
+pub post_ends : (files : Option Files) (base collection : List ℕ) (ends : Places) → ListsAgree files base collection (length (dictionary collection)) ends →
+    ListsStand files base collection → length (bytes_at files (full_name base Post)) ≡ ends.post
 post_ends files base collection ends agree stand = ap (λ (b : List ℕ). length b) (stand.post ∙ sym (post_all collection)) ∙ sym agree.post_is.place_is
 
-pub skip_ends : (files : Option Files) (base collection : List ℕ) (ends : Places) → ListsAgree files base collection (length (dictionary collection)) ends → ListsStand files base collection → length (bytes_at files (full_name base Skip)) ≡ ends.skip
+pub skip_ends : (files : Option Files) (base collection : List ℕ) (ends : Places) → ListsAgree files base collection (length (dictionary collection)) ends →
+    ListsStand files base collection → length (bytes_at files (full_name base Skip)) ≡ ends.skip
 skip_ends files base collection ends agree stand = ap (λ (b : List ℕ). length b) (stand.skip ∙ sym (skip_all collection)) ∙ sym agree.skip_is.place_is
 
-pub lists_stand : (files : Option Files) (base collection : List ℕ) (ends : Places) → ListsAgree files base collection (length (dictionary collection)) ends → length (bytes_at files (full_name base Post)) ≡ ends.post → length (bytes_at files (full_name base Skip)) ≡ ends.skip →
+pub lists_stand : (files : Option Files) (base collection : List ℕ) (ends : Places) → ListsAgree files base collection (length (dictionary collection)) ends →
+    length (bytes_at files (full_name base Post)) ≡ ends.post → length (bytes_at files (full_name base Skip)) ≡ ends.skip →
     ListsStand files base collection
 lists_stand files base collection ends agree post skip = record {
   post = whole_is (bytes_at files (full_name base Post)) (post_upto (length (dictionary collection)) collection) ends.post agree.post_is post ∙ post_all collection;
@@ -127,7 +138,8 @@ lists_stand files base collection ends agree post skip = record {
 
 -- ---- from range to range
 
-pub index_stays : (r now : TextReading) (files files_now : Option Files) (ts : List (List ℕ)) (sizes collection : List ℕ) → SameText r now → files_now ≡ files → IsIndexOf r files ts sizes collection → IsIndexOf now files_now ts sizes collection
+pub index_stays : (r now : TextReading) (files files_now : Option Files) (ts : List (List ℕ)) (sizes collection : List ℕ) → SameText r now → files_now ≡ files →
+    IsIndexOf r files ts sizes collection → IsIndexOf now files_now ts sizes collection
 index_stays r now files files_now ts sizes collection same stay is = record {
   stands = stands_on r now files files_now collection same stay is.stands;
   terms_are = is.terms_are;
@@ -138,15 +150,18 @@ index_stays r now files files_now ts sizes collection same stay is = record {
 pub can_on : (ts : List (List ℕ)) (m n : ℕ) (places : Places) (lex : LexWriting) (lex_files : Option Files) → n ≡ m → CanCompare ts m places lex lex_files → CanCompare ts n places lex lex_files
 can_on ts m n places lex lex_files is can = subst (λ k. CanCompare ts k places lex lex_files) (sym is) can
 
-pub compared_on : (f g : Option Files) (base collection : List ℕ) (m n : ℕ) (places : Places) (lex : LexWriting) (lex_files : Option Files) → g ≡ f → n ≡ m → HasCompared f base collection m places lex lex_files → HasCompared g base collection n places lex lex_files
-compared_on f g base collection m n places lex lex_files same is has = subst (λ h. HasCompared h base collection n places lex lex_files) (sym same) (subst (λ k. HasCompared f base collection k places lex lex_files) (sym is) has)
+pub compared_on : (f g : Option Files) (base collection : List ℕ) (m n : ℕ) (places : Places) (lex : LexWriting) (lex_files : Option Files) → g ≡ f → n ≡ m →
+    HasCompared f base collection m places lex lex_files → HasCompared g base collection n places lex lex_files
+compared_on f g base collection m n places lex lex_files same is has = subst (λ h. HasCompared h base collection n places lex lex_files) (sym same)
+    (subst (λ k. HasCompared f base collection k places lex lex_files) (sym is) has)
 
 pub lists_stand_on : (f g : Option Files) (base collection : List ℕ) → g ≡ f → ListsStand f base collection → ListsStand g base collection
 lists_stand_on f g base collection same stand = subst (λ h. ListsStand h base collection) (sym same) stand
 
 -- ---- the whole index
 
-pub took_all : (files : Option Files) (base collection : List ℕ) (n : ℕ) (places : Places) (lex : LexWriting) (lex_files : Option Files) → n ≡ length (dictionary collection) → HasCompared files base collection n places lex lex_files → TookTerms lex lex_files (terms_of collection)
+pub took_all : (files : Option Files) (base collection : List ℕ) (n : ℕ) (places : Places) (lex : LexWriting) (lex_files : Option Files) →
+    n ≡ length (dictionary collection) → HasCompared files base collection n places lex lex_files → TookTerms lex lex_files (terms_of collection)
 took_all files base collection n places lex lex_files all has = subst (λ ts. TookTerms lex lex_files ts) (take_all n (terms_of collection) (omega (arith, all, terms_long collection))) has.terms
 
 pub lexicon_on : (f g : Option Files) (base collection : List ℕ) → g ≡ f → LexiconStands g base collection → LexiconStands f base collection

@@ -45,17 +45,21 @@ refutes_wider P Q (Bad bad) wider none = λ q. none (wider q)
 
 -- ---- the lexicon of a collection
 
-pub lex_is : (base : List ℕ) (files : Option Files) (collection found : List ℕ) → base ≡ codes "new" → entries_of (terms_of collection) ≡ lexicon collection → TermsStand base files (terms_of collection) → found ≡ bytes_at files (codes "new.lex") → found ≡ lex_part collection
+pub lex_is : (base : List ℕ) (files : Option Files) (collection found : List ℕ) → base ≡ codes "new" → entries_of (terms_of collection) ≡ lexicon collection →
+    TermsStand base files (terms_of collection) → found ≡ bytes_at files (codes "new.lex") → found ≡ lex_part collection
 lex_is base files collection found base_is entries stand is =
     is ∙ ap (λ n. bytes_at files n) (sym (ap (λ b. full_name b Lex) base_is ∙ lex_name)) ∙ stand.lex ∙ ap front entries
 
-pub lex_at_is : (base : List ℕ) (files : Option Files) (collection found : List ℕ) → base ≡ codes "new" → entries_of (terms_of collection) ≡ lexicon collection → TermsStand base files (terms_of collection) → found ≡ bytes_at files (codes "new.lexat") → found ≡ lex_at_part collection
+pub lex_at_is : (base : List ℕ) (files : Option Files) (collection found : List ℕ) → base ≡ codes "new" →
+    entries_of (terms_of collection) ≡ lexicon collection → TermsStand base files (terms_of collection) → found ≡ bytes_at files (codes "new.lexat") →
+    found ≡ lex_at_part collection
 lex_at_is base files collection found base_is entries stand is =
     is ∙ ap (λ n. bytes_at files n) (sym (ap (λ b. full_name b LexAt) base_is ∙ lex_at_name)) ∙ stand.lex_at ∙ ap whole_at entries
 
 -- ---- terms rise
 
-next_above : (terms : List (List ℕ)) (k : ℕ) (a b : List ℕ) → IsStrictlySortedBy (slice_cmp nat_cmp) terms → slice_get terms k ≡ Some a → slice_get terms (suc k) ≡ Some b → slice_cmp nat_cmp a b ≡ Less
+next_above : (terms : List (List ℕ)) (k : ℕ) (a b : List ℕ) → IsStrictlySortedBy (slice_cmp nat_cmp) terms → slice_get terms k ≡ Some a →
+    slice_get terms (suc k) ≡ Some b → slice_cmp nat_cmp a b ≡ Less
 unfolding IsStrictlySortedBy
 next_above [] k a b rising here there = absurd cc
 next_above (x ∷ []) zero a b rising here there = absurd cc
@@ -65,7 +69,8 @@ next_above (x ∷ y ∷ terms) zero a b rising here there =
     subst (λ z. slice_cmp nat_cmp a z ≡ Less) b_is (subst (λ z. slice_cmp nat_cmp z y ≡ Less) a_is rising.0.0)
 next_above (x ∷ terms) (suc k) a b rising here there = next_above terms k a b rising.1 here there
 
-pub above : (terms : List (List ℕ)) (n count : ℕ) (last t : List ℕ) → IsStrictlySortedBy (slice_cmp nat_cmp) terms → count ≡ n → ((k : ℕ) → k + 1 ≡ n → slice_get terms k ≡ Some last) → slice_get terms n ≡ Some t →
+pub above : (terms : List (List ℕ)) (n count : ℕ) (last t : List ℕ) → IsStrictlySortedBy (slice_cmp nat_cmp) terms → count ≡ n →
+    ((k : ℕ) → k + 1 ≡ n → slice_get terms k ≡ Some last) → slice_get terms n ≡ Some t →
     (count == 0 || is_below last t) ≡ true
 above terms n count last t rising count_is before here = subst (λ m. (m == 0 || is_below last t) ≡ true) (sym count_is) (by_number n before here)
   where

@@ -48,13 +48,15 @@ entries_both : (all : ℕ) (before some : List (List Posting)) → length (lists
 unfolding lists_entries
 entries_both all before some = ap length (flat_map-append (entries_of_list all) before some) ∙ length-append (flat_map (entries_of_list all) before) (flat_map (entries_of_list all) some)
 
-entry_behind : (all : ℕ) (before some : List (List Posting)) → length (as_bytes (flat_map entry_bits (lists_entries all before))) / 16 + length (lists_entries all some) ≡ length (lists_entries all (before ++ some))
+entry_behind : (all : ℕ) (before some : List (List Posting)) → length (as_bytes (flat_map entry_bits (lists_entries all before))) / 16
+    + length (lists_entries all some) ≡ length (lists_entries all (before ++ some))
 entry_behind all before some =
     omega (arith, entries_sized (lists_entries all before), entries_both all before some)
 
 -- ---- one list of a range
 
-pub range_within : (w : Ranged) (terms : List (List ℕ)) (all : ℕ) (collection : List ℕ) (index : ℕ) → IsRangeOf w terms all collection → index < length w.next → w.first + length w.next ≤ length terms → w.first + index < length (dictionary collection)
+pub range_within : (w : Ranged) (terms : List (List ℕ)) (all : ℕ) (collection : List ℕ) (index : ℕ) → IsRangeOf w terms all collection → index < length w.next →
+    w.first + length w.next ≤ length terms → w.first + index < length (dictionary collection)
 range_within w terms all collection index of lt range = omega (arith, lt, range, ap (λ (ts : List (List ℕ)). length ts) of.terms_are)
 
 pub range_rises : (w : Ranged) (terms : List (List ℕ)) (all : ℕ) (collection : List ℕ) (index : ℕ) → IsRangeOf w terms all collection → index < length w.next → Rises all 0 (list_at w index)
@@ -62,7 +64,8 @@ range_rises w terms all collection index of lt =
     subst (λ n. Rises n 0 (list_at w index)) (sym of.all_are)
     (subst (λ ps. Rises (length (documents collection)) 0 ps) (sym (of.lists.each index lt)) (list_rises collection (get_or (dictionary collection) (w.first + index) []) of.few))
 
-pub range_full : (w : Ranged) (terms : List (List ℕ)) (all : ℕ) (collection : List ℕ) (index : ℕ) → IsRangeOf w terms all collection → index < length w.next → length (list_at w index) ≡ room_at w index
+pub range_full : (w : Ranged) (terms : List (List ℕ)) (all : ℕ) (collection : List ℕ) (index : ℕ) → IsRangeOf w terms all collection → index < length w.next →
+    length (list_at w index) ≡ room_at w index
 range_full w terms all collection index of lt =
     ap (λ (ps : List Posting). length ps) (of.lists.each index lt) ∙ docs-are collection (get_or (dictionary collection) (w.first + index) []) ∙ sym (of.rooms.each index lt)
 
@@ -93,7 +96,8 @@ pub same_info : (a b c d e f : ℕ) → a ≡ d → b ≡ e → c ≡ f → ◌�
 same_info a b c d e f p q r = rw (p, q, r) refl
 
 -- the term that is written next is that of the collection
-pub info_is : (w : Ranged) (terms : List (List ℕ)) (all : ℕ) (before : Places) (collection : List ℕ) (index count post_at skip_at : ℕ) (t : List ℕ) → IsRangeOf w terms all collection → ArePlacesOf w.first before collection → index < length w.next → w.first + length w.next ≤ length terms →
+pub info_is : (w : Ranged) (terms : List (List ℕ)) (all : ℕ) (before : Places) (collection : List ℕ) (index count post_at skip_at : ℕ) (t : List ℕ) →
+    IsRangeOf w terms all collection → ArePlacesOf w.first before collection → index < length w.next → w.first + length w.next ≤ length terms →
     slice_get terms (w.first + index) ≡ Some t → count ≡ room_at w index → post_at ≡ before.post + length (lists_bits all (take index (drop w.first (inverted collection)))) / 8 →
     skip_at ≡ before.skip / 16 + length (lists_entries all (take index (drop w.first (inverted collection)))) →
     take (w.first + index + 1) (terms_of collection) ≡ take (w.first + index) (terms_of collection) ++ record { string = t; info = record { docs = count; post_at = post_at; skip_at = skip_at } } ∷ []
@@ -101,20 +105,28 @@ info_is w terms all before collection index count post_at skip_at t of behind lt
     let n = w.first + index in
     let string : get_or (dictionary collection) n [] ≡ t = sym (ap (λ xs. get_or xs n []) of.terms_are) ∙ get_or_from_slice_get terms n t [] t_is in
     let told : info_of collection n (get_or (dictionary collection) n []) ≡ record { docs = count; post_at = post_at; skip_at = skip_at } =
-    same_info _ _ _ _ _ _ (sym (count_is ∙ of.rooms.each index lt)) (sym (post_is ∙ post_behind w terms all before collection index of behind)) (sym (skip_is ∙ skip_behind w terms all before collection index of behind)) in
+    same_info _ _ _ _ _ _ (sym (count_is ∙ of.rooms.each index lt)) (sym (post_is ∙ post_behind w terms all before collection index of behind))
+    (sym (skip_is ∙ skip_behind w terms all before collection index of behind)) in
     terms_more collection n (range_within w terms all collection index of lt range)
     ∙ ap (λ s. take n (terms_of collection) ++ record { string = s; info = info_of collection n (get_or (dictionary collection) n []) } ∷ []) string
     ∙ ap (λ i. take n (terms_of collection) ++ record { string = t; info = i } ∷ []) told
 
-pub listed_more : (w : Ranged) (terms : List (List ℕ)) (before : Places) (index : ℕ) (collection : List ℕ) (lists now : Listing) (f g : Option Files) (lex lexed : LexWriting) (h k : Option Files) (t : List ℕ) (info : TermInfo) → HasListed w terms before index collection lists f lex h →
+pub listed_more : (w : Ranged) (terms : List (List ℕ)) (before : Places) (index : ℕ) (collection : List ℕ) (lists now : Listing) (f g : Option Files)
+    (lex lexed : LexWriting) (h k : Option Files) (t : List ℕ) (info : TermInfo) → HasListed w terms before index collection lists f lex h →
     index < length w.next → w.first + length w.next ≤ length terms → now.all ≡ lists.all → slice_get terms (w.first + index) ≡ Some t →
-    info ≡ record { docs = room_at w index; post_at = before.post + length (lists_bits lists.all (take index (drop w.first (inverted collection)))) / 8; skip_at = before.skip / 16 + length (lists_entries lists.all (take index (drop w.first (inverted collection)))) } →
-    ((done : List (List Posting)) → Took lists f done [] → Took now g (done ++ list_at w index ∷ []) []) → ((ts : List Term) → TookTerms lex h ts → TookTerms lexed k (ts ++ record { string = t; info = info } ∷ [])) →
+    info ≡ record {
+      docs = room_at w index;
+      post_at = before.post + length (lists_bits lists.all (take index (drop w.first (inverted collection)))) / 8;
+      skip_at = before.skip / 16 + length (lists_entries lists.all (take index (drop w.first (inverted collection))));
+    } →
+    ((done : List (List Posting)) → Took lists f done [] → Took now g (done ++ list_at w index ∷ []) []) →
+    ((ts : List Term) → TookTerms lex h ts → TookTerms lexed k (ts ++ record { string = t; info = info } ∷ [])) →
     HasListed w terms before (index + 1) collection now g lexed k
 listed_more w terms before index collection lists now f g lex lexed h k t info has lt range all t_is info_eq took took_terms =
     let some = take index (drop w.first (inverted collection)) in
     let within = range_within w terms lists.all collection index has.of lt range in
-    let next : some ++ list_at w index ∷ [] ≡ take (index + 1) (drop w.first (inverted collection)) = ap (λ ps. some ++ ps ∷ []) (has.of.lists.each index lt) ∙ sym (lists_more collection w.first index within) in
+    let next : some ++ list_at w index ∷ [] ≡ take (index + 1) (drop w.first (inverted collection)) = ap (λ ps. some ++ ps ∷ []) (has.of.lists.each index lt)
+    ∙ sym (lists_more collection w.first index within) in
     let at : w.first + index + 1 ≡ w.first + (index + 1) = omega arith in
     let more = info_is w terms lists.all before collection index _ _ _ t has.of has.places lt range t_is refl refl refl in
     let terms_next : take (w.first + index) (terms_of collection) ++ record { string = t; info = info } ∷ [] ≡ take (w.first + (index + 1)) (terms_of collection) =
@@ -127,7 +139,9 @@ listed_more w terms before index collection lists now f g lex lexed h k t info h
     }
 
 -- no list of the range was written
-pub listed_none : (w : Ranged) (terms : List (List ℕ)) (before : Places) (collection : List ℕ) (lists : Listing) (f : Option Files) (lex : LexWriting) (h : Option Files) (all : ℕ) (set : Option Files) (base : List ℕ) → lists.all ≡ all → IsRangeOf w terms all collection → HasCompared set base collection w.first before lex h → Took lists f [] [] →
+pub listed_none : (w : Ranged) (terms : List (List ℕ)) (before : Places) (collection : List ℕ) (lists : Listing) (f : Option Files) (lex : LexWriting)
+    (h : Option Files) (all : ℕ) (set : Option Files) (base : List ℕ) → lists.all ≡ all → IsRangeOf w terms all collection →
+    HasCompared set base collection w.first before lex h → Took lists f [] [] →
     HasListed w terms before 0 collection lists f lex h
 listed_none w terms before collection lists f lex h all set base all_is of has took =
     let at : w.first ≡ w.first + 0 = omega arith in

@@ -41,7 +41,9 @@ use Rattle.mg_check.proofs.RunSteps.{same_runs}
 
 -- ---- all parts
 
-head-meant : (files : Option Files) (base : List ℕ) (head : Head) (r : TextReading) (docs : List (List ℕ)) → IsLoaded files base head r → IsMeant (parts_at files base) (fields_of head) r.code docs → AreNumbers head (joined docs head.open_end) → fields_of head ≡ head_of head.version head.cap r.code (joined docs head.open_end)
+head-meant : (files : Option Files) (base : List ℕ) (head : Head) (r : TextReading) (docs : List (List ℕ)) → IsLoaded files base head r →
+    IsMeant (parts_at files base) (fields_of head) r.code docs → AreNumbers head (joined docs head.open_end) →
+    fields_of head ≡ head_of head.version head.cap r.code (joined docs head.open_end)
 head-meant files base head r docs loaded meant numbers =
     let code = code-meant (parts_at files base) (fields_of head) r.code docs meant in
     let end : head.open_end ≡ has_open_end (joined docs head.open_end) = (split_unique (joined docs head.open_end) docs head.open_end meant.split).1 in
@@ -49,7 +51,8 @@ head-meant files base head r docs loaded meant numbers =
     let words : head.words ≡ length (sorted_pieces Words (joined docs head.open_end)) = loaded.words ∙ ap length code.0.pieces in
     let others : head.others ≡ length (sorted_pieces Others (joined docs head.open_end)) = loaded.others ∙ ap length code.1.pieces in
     let runs : head.runs ≡ run_count (length (occurrences (joined docs head.open_end))) head.cap = loaded.tell.head.within.runs ∙ ap (λ (n : ℕ). run_count n head.cap) numbers.occurrences in
-    let text : head.text_bytes ≡ length (text_part r.code (joined docs head.open_end)) = sym loaded.text ∙ ap length (meant.mean.text ∙ ap (docs_bytes r.code) (own-docs (parts_at files base) (fields_of head) r.code docs meant)) in
+    let text : head.text_bytes ≡ length (text_part r.code (joined docs head.open_end)) = sym loaded.text
+    ∙ ap length (meant.mean.text ∙ ap (docs_bytes r.code) (own-docs (parts_at files base) (fields_of head) r.code docs meant)) in
     let size : head.collection ≡ length (joined docs head.open_end) = meant.bytes in
     let terms = numbers.terms in
     let occurrences_are = numbers.occurrences in
@@ -58,18 +61,29 @@ head-meant files base head r docs loaded meant numbers =
     cc
 
 -- where the other parts are those of the collection that is meant, the set stands for it
-pub rest-stands : (files : Option Files) (base : List ℕ) (head : Head) (r : TextReading) (docs : List (List ℕ)) → IsLoaded files base head r → IsMeant (parts_at files base) (fields_of head) r.code docs → RestStands files base head (joined docs head.open_end) → Stand (parts_at files base) (joined docs head.open_end)
+pub rest-stands : (files : Option Files) (base : List ℕ) (head : Head) (r : TextReading) (docs : List (List ℕ)) → IsLoaded files base head r →
+    IsMeant (parts_at files base) (fields_of head) r.code docs → RestStands files base head (joined docs head.open_end) →
+    Stand (parts_at files base) (joined docs head.open_end)
 rest-stands files base head r docs loaded meant rest = record {
   version = head.version;
   cap = head.cap;
   code = r.code;
   are =
       whole-set (parts_at files base) (fields_of head) r.code docs meant.mean meant.split meant.words meant.others (head-meant files base head r docs loaded meant rest.numbers)
-      (record { places = meant.places; lex = rest.index.lexicon.lex; lex_at = rest.index.lexicon.lex_at; post = rest.index.lists.post; skip = rest.index.lists.skip; weights = rest.terms.weights; run = rest.terms.run });
+      (record {
+        places = meant.places;
+        lex = rest.index.lexicon.lex;
+        lex_at = rest.index.lexicon.lex_at;
+        post = rest.index.lists.post;
+        skip = rest.index.lists.skip;
+        weights = rest.terms.weights;
+        run = rest.terms.run;
+      });
 }
 
 -- and where the set stands for any collection, they are
-pub stands-rest : (files : Option Files) (base : List ℕ) (head : Head) (r : TextReading) (docs : List (List ℕ)) (collection : List ℕ) → IsMeant (parts_at files base) (fields_of head) r.code docs → Stand (parts_at files base) collection → RestStands files base head (joined docs head.open_end)
+pub stands-rest : (files : Option Files) (base : List ℕ) (head : Head) (r : TextReading) (docs : List (List ℕ)) (collection : List ℕ) →
+    IsMeant (parts_at files base) (fields_of head) r.code docs → Stand (parts_at files base) collection → RestStands files base head (joined docs head.open_end)
 stands-rest files base head r docs collection meant stand =
     let only = stands-only (parts_at files base) (fields_of head) r.code docs collection meant.mean stand in
     let are = only.2 in
@@ -86,7 +100,9 @@ stands-rest files base head r docs collection meant stand =
     }
 
 -- so a refusal of one of them shows that the set stands for none
-pub refuted-none : (files : Option Files) (base : List ℕ) (head : Head) (r : TextReading) (docs : List (List ℕ)) (refusal : PartErr) → IsMeant (parts_at files base) (fields_of head) r.code docs → Refutes (RestStands files base head (joined docs head.open_end)) refusal → IfBad refusal (StandForNone (parts_at files base))
+pub refuted-none : (files : Option Files) (base : List ℕ) (head : Head) (r : TextReading) (docs : List (List ℕ)) (refusal : PartErr) →
+    IsMeant (parts_at files base) (fields_of head) r.code docs → Refutes (RestStands files base head (joined docs head.open_end)) refusal →
+    IfBad refusal (StandForNone (parts_at files base))
 refuted-none files base head r docs Device meant other = tt
 refuted-none files base head r docs Memory meant other = tt
 refuted-none files base head r docs (Bad bad) meant other = λ collection stand. other (stands-rest files base head r docs collection meant stand)
@@ -101,7 +117,8 @@ sizes-of files base head collection rest = record {
 }
 
 -- and these sizes, where Post and Skip are a collection's own, are the numbers that the head is to have
-pub numbers-of : (files : Option Files) (base : List ℕ) (head : Head) (collection : List ℕ) → head.terms ≡ length (dictionary collection) → head.occurrences ≡ length (occurrences collection) → HaveSizes (parts_at files base) head → IndexStands files base collection → AreNumbers head collection
+pub numbers-of : (files : Option Files) (base : List ℕ) (head : Head) (collection : List ℕ) → head.terms ≡ length (dictionary collection) →
+    head.occurrences ≡ length (occurrences collection) → HaveSizes (parts_at files base) head → IndexStands files base collection → AreNumbers head collection
 numbers-of files base head collection terms occurrences_are sizes index =
     let entries : length (parts_at files base).skip ≡ 16 * skip_count collection = ap length index.lists.skip ∙ entries_sized (lists_entries (length (documents collection)) (inverted collection)) in
     record {
@@ -123,11 +140,13 @@ pub head-runs : (head : Head) (size : ℕ) (collection : List ℕ) → 341 ≤ s
 head-runs head size collection least most enough count =
     runs-same size head.cap (occurrences collection) (omega arith) (eq-or-lt_of_le most) (λ below. omega (arith, enough below, count))
 
-pub terms-of-size : (files : Option Files) (base : List ℕ) (head : Head) (size : ℕ) (collection : List ℕ) → as_bytes (run_part_bits size (occurrences collection)) ≡ as_bytes (run_part_bits head.cap (occurrences collection))
+pub terms-of-size : (files : Option Files) (base : List ℕ) (head : Head) (size : ℕ) (collection : List ℕ) →
+    as_bytes (run_part_bits size (occurrences collection)) ≡ as_bytes (run_part_bits head.cap (occurrences collection))
     → TermsStand base files head.cap collection → TermsStand base files size collection
 terms-of-size files base head size collection runs terms = record { weights = terms.weights; run = terms.run ∙ sym runs }
 
-pub terms-of-head : (files : Option Files) (base : List ℕ) (head : Head) (size : ℕ) (collection : List ℕ) → as_bytes (run_part_bits size (occurrences collection)) ≡ as_bytes (run_part_bits head.cap (occurrences collection))
+pub terms-of-head : (files : Option Files) (base : List ℕ) (head : Head) (size : ℕ) (collection : List ℕ) →
+    as_bytes (run_part_bits size (occurrences collection)) ≡ as_bytes (run_part_bits head.cap (occurrences collection))
     → TermsStand base files size collection → TermsStand base files head.cap collection
 terms-of-head files base head size collection runs terms = record { weights = terms.weights; run = terms.run ∙ runs }
 
@@ -147,7 +166,8 @@ ok-so P Q (Ok done) so p = so p
 ok-so P Q (Err refusal) so p = tt
 
 -- what was compared of a head and of the parts is all
-pub rest-of : (files : Option Files) (base : List ℕ) (head : Head) (terms : ℕ) (collection : List ℕ) → terms ≡ length (dictionary collection) → IsTold (parts_at files base) head terms → PartsStand files base head collection → RestStands files base head collection
+pub rest-of : (files : Option Files) (base : List ℕ) (head : Head) (terms : ℕ) (collection : List ℕ) → terms ≡ length (dictionary collection) →
+    IsTold (parts_at files base) head terms → PartsStand files base head collection → RestStands files base head collection
 rest-of files base head terms collection count told parts = record {
   numbers = numbers-of files base head collection (told.terms_are ∙ count) parts.occurrences_are told.sizes parts.index;
   terms = parts.terms;
@@ -156,15 +176,18 @@ rest-of files base head terms collection count told parts = record {
 
 -- ---- a set whose text was read
 
-pub stands-here : (files now : Option Files) (base : List ℕ) (head : Head) (r : TextReading) (result : Result (Unit {0}) PartErr) → now ≡ files → (IsLoaded now base head r → OnOk result (StandsWith now base head.documents head.collection))
+pub stands-here : (files now : Option Files) (base : List ℕ) (head : Head) (r : TextReading) (result : Result (Unit {0}) PartErr) → now ≡ files →
+    (IsLoaded now base head r → OnOk result (StandsWith now base head.documents head.collection))
     → IsLoaded files base head r → OnOk result (StandsWith files base head.documents head.collection)
 stands-here files now base head r result same so = subst (λ (f : Option Files). IsLoaded f base head r → OnOk result (StandsWith f base head.documents head.collection)) same so
 
-pub none-here : (files now : Option Files) (base : List ℕ) (head : Head) (r : TextReading) (result : Result (Unit {0}) PartErr) → now ≡ files → (IsLoaded now base head r → OnBad result (StandForNone (parts_at now base)))
+pub none-here : (files now : Option Files) (base : List ℕ) (head : Head) (r : TextReading) (result : Result (Unit {0}) PartErr) → now ≡ files →
+    (IsLoaded now base head r → OnBad result (StandForNone (parts_at now base)))
     → IsLoaded files base head r → OnBad result (StandForNone (parts_at files base))
 none-here files now base head r result same none = subst (λ (f : Option Files). IsLoaded f base head r → OnBad result (StandForNone (parts_at f base))) same none
 
-pub set-stands : (files now : Option Files) (base : List ℕ) (head : Head) (r next : TextReading) (result : Result (Unit {0}) PartErr) → now ≡ files → SameText r next → IsLoaded files base head r → FoundText (parts_at files base) (fields_of head) r.code →
+pub set-stands : (files now : Option Files) (base : List ℕ) (head : Head) (r next : TextReading) (result : Result (Unit {0}) PartErr) → now ≡ files →
+    SameText r next → IsLoaded files base head r → FoundText (parts_at files base) (fields_of head) r.code →
     ((collection : List ℕ) → TextStands next now collection → OnOk result (RestStands now base head collection)) → OnOk result (StandsWith files base head.documents head.collection)
 set-stands files now base head r next (Ok done) same_files same loaded found stand =
     let c : List ℕ = joined found.docs head.open_end in
@@ -178,7 +201,8 @@ set-stands files now base head r next (Ok done) same_files same loaded found sta
     }
 set-stands files now base head r next (Err refusal) same_files same loaded found stand = tt
 
-pub set-none : (files now : Option Files) (base : List ℕ) (head : Head) (r next : TextReading) (result : Result (Unit {0}) PartErr) → now ≡ files → SameText r next → IsLoaded files base head r → FoundText (parts_at files base) (fields_of head) r.code →
+pub set-none : (files now : Option Files) (base : List ℕ) (head : Head) (r next : TextReading) (result : Result (Unit {0}) PartErr) → now ≡ files →
+    SameText r next → IsLoaded files base head r → FoundText (parts_at files base) (fields_of head) r.code →
     ((collection : List ℕ) → TextStands next now collection → IfErr result (Refutes (RestStands now base head collection))) → OnBad result (StandForNone (parts_at files base))
 set-none files now base head r next (Ok done) same_files same loaded found other = tt
 set-none files now base head r next (Err refusal) same_files same loaded found other =
@@ -189,7 +213,8 @@ set-none files now base head r next (Err refusal) same_files same loaded found o
 -- ---- the terms of the text
 
 -- what is told to who compares the lists and the lexicon
-pub index-of : (files now : Option Files) (head : Head) (r next : TextReading) (table : TermNumbers) (docs_of collection : List ℕ) → now ≡ files → SameText r next → table ≡ terms_and_numbers r.code.words.pieces → docs_of ≡ map (docs collection) (dictionary collection) → r.documents ≡ head.documents →
+pub index-of : (files now : Option Files) (head : Head) (r next : TextReading) (table : TermNumbers) (docs_of collection : List ℕ) → now ≡ files →
+    SameText r next → table ≡ terms_and_numbers r.code.words.pieces → docs_of ≡ map (docs collection) (dictionary collection) → r.documents ≡ head.documents →
     defs.IsWithin (fields_of head) → TextStands r files collection → IsIndexOf next now table.terms docs_of collection
 index-of files now head r next table docs_of collection same_files same table_is docs_are documents_are within stand = record {
   stands = stands_on r next files now collection same same_files stand;

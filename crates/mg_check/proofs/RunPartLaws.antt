@@ -20,7 +20,8 @@ use Rattle.mg_check.proofs.RunSteps.{RunsJoin, done_bytes, last_bytes, pool_byte
 abbrev pub of : ℕ → ℕ → ℕ × ℕ
 of doc n = (n, doc)
 
-pub first_more : (fed : List (ℕ × ℕ)) (numbers : List ℕ) (i doc : ℕ) → i < length numbers → (fed ++ map (of doc) (take i numbers)) ++ (get_or numbers i 0, doc) ∷ [] ≡ fed ++ map (of doc) (take (i + 1) numbers)
+pub first_more : (fed : List (ℕ × ℕ)) (numbers : List ℕ) (i doc : ℕ) → i < length numbers →
+    (fed ++ map (of doc) (take i numbers)) ++ (get_or numbers i 0, doc) ∷ [] ≡ fed ++ map (of doc) (take (i + 1) numbers)
 first_more fed numbers i doc low =
     append_assoc fed (map (of doc) (take i numbers)) ((get_or numbers i 0, doc) ∷ [])
     ∙ ap (λ o. fed ++ o) (sym (map-append (of doc) (take i numbers) (get_or numbers i 0 ∷ [])))
@@ -48,10 +49,12 @@ halves fed rest numbers i doc =
     let both : map (of doc) numbers ≡ front ++ back = ap (map (of doc)) (sym (take-append-drop i numbers)) ∙ map-append (of doc) (take i numbers) (drop i numbers) in
     ap (λ o. fed ++ (o ++ rest)) both ∙ ap (λ o. fed ++ o) (append_assoc front back rest) ∙ sym (append_assoc fed front (back ++ rest))
 
-pub all_bad : {T : Type 0} (x : Result T PartErr) (old now : RunReading) (f0 f1 : Option Files) (numbers : List ℕ) (i doc : ℕ) → f1 ≡ f0 → now.part.name ≡ old.part.name → now.pool.limit ≡ old.pool.limit
+pub all_bad : {T : Type 0} (x : Result T PartErr) (old now : RunReading) (f0 f1 : Option Files) (numbers : List ℕ) (i doc : ℕ) → f1 ≡ f0 →
+    now.part.name ≡ old.part.name → now.pool.limit ≡ old.pool.limit
     → ((fed : List (ℕ × ℕ)) → length fed + length numbers < 2 ^ 32 → HasTaken old f0 fed → HasTaken now f1 (fed ++ map (λ n. (n, doc)) (take i numbers)))
     → WhereBad ((fed rest : List (ℕ × ℕ)) → HasTaken now f1 fed → bytes_at f1 now.part.name ≢ as_bytes (run_part_bits (cap_of now.pool) (fed ++ rest))) x
-    → WhereBad ((fed rest : List (ℕ × ℕ)) → length fed + length numbers < 2 ^ 32 → HasTaken old f0 fed → bytes_at f0 old.part.name ≢ as_bytes (run_part_bits (cap_of old.pool) (fed ++ (map (λ n. (n, doc)) numbers ++ rest)))) x
+    → WhereBad ((fed rest : List (ℕ × ℕ)) → length fed + length numbers < 2 ^ 32 → HasTaken old f0 fed →
+    bytes_at f0 old.part.name ≢ as_bytes (run_part_bits (cap_of old.pool) (fed ++ (map (λ n. (n, doc)) numbers ++ rest)))) x
 all_bad (Ok value) old now f0 f1 numbers i doc files name limit taken bad = tt
 all_bad (Err Device) old now f0 f1 numbers i doc files name limit taken bad = tt
 all_bad (Err Memory) old now f0 f1 numbers i doc files name limit taken bad = tt
@@ -81,7 +84,8 @@ pub run_done : {T E : Type 0} (x : Result T E) (old new : RunReading) (part : Co
     → OnOk x ((done : List ℕ) → HasBegun part f1 done → bytes_at f1 part.name ≡ done)
     → OnOk x ((fed : List (ℕ × ℕ)) → HasTaken old f0 fed → bytes_at f0 old.part.name ≡ as_bytes (run_part_bits (cap_of old.pool) fed))
 run_done (Ok value) old new part f0 f1 files same name begun known = λ fed is.
-    named old new part f0 f1 files same name ∙ known (as_bytes (run_part_bits (cap_of old.pool) fed)) (subst (λ c. HasBegun c f1 (as_bytes (run_part_bits (cap_of old.pool) fed))) (sym same) (begun fed is))
+    named old new part f0 f1 files same name ∙ known (as_bytes (run_part_bits (cap_of old.pool) fed))
+    (subst (λ c. HasBegun c f1 (as_bytes (run_part_bits (cap_of old.pool) fed))) (sym same) (begun fed is))
 run_done (Err e) old new part f0 f1 files same name begun known = tt
 
 pub run_longer : {T : Type 0} (x : Result T PartErr) (old new : RunReading) (part : Comparing) (f0 f1 : Option Files) → f1 ≡ f0 → part ≡ new.part → new.part.name ≡ old.part.name
@@ -92,4 +96,5 @@ run_longer (Ok value) old new part f0 f1 files same name begun bad = tt
 run_longer (Err Device) old new part f0 f1 files same name begun bad = tt
 run_longer (Err Memory) old new part f0 f1 files same name begun bad = tt
 run_longer (Err (Bad b)) old new part f0 f1 files same name begun bad = λ fed is e.
-    bad (as_bytes (run_part_bits (cap_of old.pool) fed)) (subst (λ c. HasBegun c f1 (as_bytes (run_part_bits (cap_of old.pool) fed))) (sym same) (begun fed is)) (sym (named old new part f0 f1 files same name) ∙ e)
+    bad (as_bytes (run_part_bits (cap_of old.pool) fed)) (subst (λ c. HasBegun c f1 (as_bytes (run_part_bits (cap_of old.pool) fed))) (sym same) (begun fed is))
+    (sym (named old new part f0 f1 files same name) ∙ e)

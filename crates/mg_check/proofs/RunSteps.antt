@@ -126,7 +126,9 @@ taken_place r files fed is =
     let few = is.few in
     omega arith
 
-pub taken_room : (r0 r1 : RunReading) (f : Option Files) (fed : List (ℕ × ℕ)) (o : ℕ × ℕ) → HasTaken r0 f fed → length r0.pool.entries < cap_of r0.pool → IsOccurrence o → length fed < 2 ^ 32 - 1 → r1.pool.entries ≡ r0.pool.entries ++ once o ∷ [] → r1.pool.slots ≡ [] → r1.pool.limit ≡ r0.pool.limit → r1.part ≡ r0.part → HasTaken r1 f (fed ++ o ∷ [])
+pub taken_room : (r0 r1 : RunReading) (f : Option Files) (fed : List (ℕ × ℕ)) (o : ℕ × ℕ) → HasTaken r0 f fed → length r0.pool.entries < cap_of r0.pool →
+    IsOccurrence o → length fed < 2 ^ 32 - 1 → r1.pool.entries ≡ r0.pool.entries ++ once o ∷ [] → r1.pool.slots ≡ [] → r1.pool.limit ≡ r0.pool.limit →
+    r1.part ≡ r0.part → HasTaken r1 f (fed ++ o ∷ [])
 taken_room r0 r1 f fed o is room doc room_left entries slots limit part =
     let n : ℕ = length fed in
     let cap : ℕ = cap_of r0.pool in
@@ -138,14 +140,18 @@ taken_room r0 r1 f fed o is room doc room_left entries slots limit part =
     let e1 : length (fed ++ o ∷ []) ≡ n + 1 = length_end fed o in
     let e2 : finished cap (length (fed ++ o ∷ [])) ≡ q = ap (λ k. finished cap k) e1 ∙ finished-room cap n some (omega arith) in
     let e3 : finished (cap_of r1.pool) (length (fed ++ o ∷ [])) ≡ q = ap (λ k. finished k (length (fed ++ o ∷ []))) e0 ∙ e2 in
-    let runs : first_runs (cap_of r1.pool) (finished (cap_of r1.pool) (length (fed ++ o ∷ []))) (fed ++ o ∷ []) ≡ first_runs cap q fed = ap (λ k. first_runs k (finished k (length (fed ++ o ∷ []))) (fed ++ o ∷ [])) e0 ∙ ap (λ k. first_runs cap k (fed ++ o ∷ [])) e2 ∙ first_runs-more cap q fed o (omega arith) in
+    let runs : first_runs (cap_of r1.pool) (finished (cap_of r1.pool) (length (fed ++ o ∷ []))) (fed ++ o ∷ [])
+    ≡ first_runs cap q fed = ap (λ k. first_runs k (finished k (length (fed ++ o ∷ []))) (fed ++ o ∷ [])) e0 ∙ ap (λ k. first_runs cap k (fed ++ o ∷ [])) e2
+    ∙ first_runs-more cap q fed o (omega arith) in
     let at : finished (cap_of r1.pool) (length (fed ++ o ∷ [])) * cap_of r1.pool ≡ q * cap = ap (λ k. k * cap_of r1.pool) e3 ∙ ap (λ k. q * k) e0 in
     record {
       least = let l = is.least in omega arith;
       most = let l = is.most in omega arith;
       slots = slots;
-      entries = entries ∙ ap (λ xs. xs ++ once o ∷ []) is.entries ∙ sym (map_end once (drop (q * cap) fed) o) ∙ ap (λ xs. map once xs) (sym (drop_end fed (q * cap) o (omega arith)) ∙ ap (λ k. drop k (fed ++ o ∷ [])) (sym at));
-      begun = subst (λ (b : List ℕ). HasBegun r1.part f b) (ap (λ rs. as_bytes (runs_bits rs)) (sym runs)) (subst (λ c. HasBegun c f (as_bytes (runs_bits (first_runs cap q fed)))) (sym part) is.begun);
+      entries = entries ∙ ap (λ xs. xs ++ once o ∷ []) is.entries ∙ sym (map_end once (drop (q * cap) fed) o)
+          ∙ ap (λ xs. map once xs) (sym (drop_end fed (q * cap) o (omega arith)) ∙ ap (λ k. drop k (fed ++ o ∷ [])) (sym at));
+      begun = subst (λ (b : List ℕ). HasBegun r1.part f b) (ap (λ rs. as_bytes (runs_bits rs)) (sym runs))
+          (subst (λ c. HasBegun c f (as_bytes (runs_bits (first_runs cap q fed)))) (sym part) is.begun);
       below = subst (λ k. r1.part.at ≤ 64 * k) (sym at) (subst (λ c. c.at ≤ 64 * (q * cap)) (sym part) is.below);
       occurrences = occurrences_end fed o is.occurrences doc;
       few = omega (arith, e1, room_left);
@@ -167,7 +173,10 @@ place_step q cap p0 p1 at e some a b =
     omega arith
 
 -- a full pool is the next run
-full_run : (r : RunReading) (f : Option Files) (fed : List (ℕ × ℕ)) → HasTaken r f fed → length r.pool.entries ≡ cap_of r.pool → (suc (finished (cap_of r.pool) (length fed)) * cap_of r.pool ≡ length fed) × (first_runs (cap_of r.pool) (suc (finished (cap_of r.pool) (length fed))) fed ≡ first_runs (cap_of r.pool) (finished (cap_of r.pool) (length fed)) fed ++ gathered r.pool.entries ∷ [])
+full_run : (r : RunReading) (f : Option Files) (fed : List (ℕ × ℕ)) → HasTaken r f fed → length r.pool.entries ≡ cap_of r.pool →
+    (suc (finished (cap_of r.pool) (length fed)) * cap_of r.pool ≡ length fed)
+    × (first_runs (cap_of r.pool) (suc (finished (cap_of r.pool) (length fed))) fed ≡ first_runs (cap_of r.pool) (finished (cap_of r.pool) (length fed)) fed
+    ++ gathered r.pool.entries ∷ [])
 full_run r f fed is full =
     let n : ℕ = length fed in
     let cap : ℕ = cap_of r.pool in
@@ -180,7 +189,10 @@ full_run r f fed is full =
     let run : gathered r.pool.entries ≡ term_postings (drop (q * cap) fed) = ap (λ xs. gathered xs) is.entries in
     (whole, first_runs-full cap q fed (sym whole) ∙ ap (λ t. first_runs cap q fed ++ t ∷ []) (sym run))
 
-pub taken_full : RunsJoin → (r0 r1 : RunReading) (f0 f1 : Option Files) (fed : List (ℕ × ℕ)) (o : ℕ × ℕ) → HasTaken r0 f0 fed → length r0.pool.entries ≡ cap_of r0.pool → IsOccurrence o → length fed < 2 ^ 32 - 1 → ((done : List ℕ) → HasBegun r0.part f0 done → HasBegun r1.part f1 (done ++ pool_bytes r0)) → r1.part.at ≤ r0.part.at + 16 + 32 * length r0.pool.entries → r1.pool.entries ≡ once o ∷ [] → r1.pool.slots ≡ [] → r1.pool.limit ≡ r0.pool.limit → HasTaken r1 f1 (fed ++ o ∷ [])
+pub taken_full : RunsJoin → (r0 r1 : RunReading) (f0 f1 : Option Files) (fed : List (ℕ × ℕ)) (o : ℕ × ℕ) → HasTaken r0 f0 fed →
+    length r0.pool.entries ≡ cap_of r0.pool → IsOccurrence o → length fed < 2 ^ 32 - 1 →
+    ((done : List ℕ) → HasBegun r0.part f0 done → HasBegun r1.part f1 (done ++ pool_bytes r0)) → r1.part.at ≤ r0.part.at + 16 + 32 * length r0.pool.entries →
+    r1.pool.entries ≡ once o ∷ [] → r1.pool.slots ≡ [] → r1.pool.limit ≡ r0.pool.limit → HasTaken r1 f1 (fed ++ o ∷ [])
 taken_full join r0 r1 f0 f1 fed o is full doc room_left begun below entries slots limit =
     let n : ℕ = length fed in
     let cap : ℕ = cap_of r0.pool in
@@ -194,7 +206,9 @@ taken_full join r0 r1 f0 f1 fed o is full doc room_left begun below entries slot
     let e2 : finished cap (length (fed ++ o ∷ [])) ≡ suc q = ap (λ k. finished cap k) e1 ∙ finished-full cap n some (sym len ∙ full) in
     let e3 : finished (cap_of r1.pool) (length (fed ++ o ∷ [])) ≡ suc q = ap (λ k. finished k (length (fed ++ o ∷ []))) e0 ∙ e2 in
     let at : finished (cap_of r1.pool) (length (fed ++ o ∷ [])) * cap_of r1.pool ≡ suc q * cap = ap (λ k. k * cap_of r1.pool) e3 ∙ ap (λ k. suc q * k) e0 in
-    let runs : first_runs (cap_of r1.pool) (finished (cap_of r1.pool) (length (fed ++ o ∷ []))) (fed ++ o ∷ []) ≡ first_runs cap q fed ++ gathered r0.pool.entries ∷ [] = ap (λ k. first_runs k (finished k (length (fed ++ o ∷ []))) (fed ++ o ∷ [])) e0 ∙ ap (λ k. first_runs cap k (fed ++ o ∷ [])) e2 ∙ first_runs-more cap (suc q) fed o fits ∙ run.1 in
+    let runs : first_runs (cap_of r1.pool) (finished (cap_of r1.pool) (length (fed ++ o ∷ []))) (fed ++ o ∷ []) ≡ first_runs cap q fed
+    ++ gathered r0.pool.entries ∷ [] = ap (λ k. first_runs k (finished k (length (fed ++ o ∷ []))) (fed ++ o ∷ [])) e0
+    ∙ ap (λ k. first_runs cap k (fed ++ o ∷ [])) e2 ∙ first_runs-more cap (suc q) fed o fits ∙ run.1 in
     let bytes : done_bytes r1 (fed ++ o ∷ []) ≡ done_bytes r0 fed ++ pool_bytes r0 = ap (λ rs. as_bytes (runs_bits rs)) runs ∙ join (first_runs cap q fed) (gathered r0.pool.entries ∷ []) in
     let none : drop (suc q * cap) fed ≡ [] = drop_all fed (suc q * cap) (omega (arith, run.0)) in
     record {
@@ -209,7 +223,8 @@ taken_full join r0 r1 f0 f1 fed o is full doc room_left begun below entries slot
     }
 
 -- the runs of more occurrences begin with those that are finished and a full pool's
-full_front : RunsJoin → (r : RunReading) (f : Option Files) (fed rest : List (ℕ × ℕ)) → HasTaken r f fed → length r.pool.entries ≡ cap_of r.pool → (more : List ℕ) × (as_bytes (run_part_bits (cap_of r.pool) (fed ++ rest)) ≡ done_bytes r fed ++ (pool_bytes r ++ more))
+full_front : RunsJoin → (r : RunReading) (f : Option Files) (fed rest : List (ℕ × ℕ)) → HasTaken r f fed → length r.pool.entries ≡ cap_of r.pool →
+    (more : List ℕ) × (as_bytes (run_part_bits (cap_of r.pool) (fed ++ rest)) ≡ done_bytes r fed ++ (pool_bytes r ++ more))
 full_front join r f fed rest is full =
     let cap : ℕ = cap_of r.pool in
     let q : ℕ = finished cap (length fed) in
@@ -223,7 +238,8 @@ full_front join r f fed rest is full =
           ∙ append_assoc (done_bytes r fed) (pool_bytes r) more,
     )
 
-pub full_bad : {T : Type 0} → RunsJoin → (x : Result T PartErr) (r : RunReading) (f : Option Files) → length r.pool.entries ≡ cap_of r.pool → WhereBad ((done rest : List ℕ) → HasBegun r.part f done → bytes_at f r.part.name ≢ done ++ (pool_bytes r ++ rest)) x →
+pub full_bad : {T : Type 0} → RunsJoin → (x : Result T PartErr) (r : RunReading) (f : Option Files) → length r.pool.entries ≡ cap_of r.pool →
+    WhereBad ((done rest : List ℕ) → HasBegun r.part f done → bytes_at f r.part.name ≢ done ++ (pool_bytes r ++ rest)) x →
     WhereBad ((fed rest : List (ℕ × ℕ)) → HasTaken r f fed → bytes_at f r.part.name ≢ as_bytes (run_part_bits (cap_of r.pool) (fed ++ rest))) x
 full_bad join (Ok value) r f full bad = tt
 full_bad join (Err Device) r f full bad = tt
@@ -245,7 +261,8 @@ fed_none r f (o ∷ fed) is none =
     absurd (omega (arith, taken_length r f (o ∷ fed) is))
 
 -- with the pool's entries behind the finished runs, these are all
-pub last_bytes : RunsJoin → (r : RunReading) (f : Option Files) (fed : List (ℕ × ℕ)) → HasTaken r f fed → 1 ≤ length r.pool.entries → done_bytes r fed ++ pool_bytes r ≡ as_bytes (run_part_bits (cap_of r.pool) fed)
+pub last_bytes : RunsJoin → (r : RunReading) (f : Option Files) (fed : List (ℕ × ℕ)) → HasTaken r f fed → 1 ≤ length r.pool.entries →
+    done_bytes r fed ++ pool_bytes r ≡ as_bytes (run_part_bits (cap_of r.pool) fed)
 last_bytes join r f fed is some =
     let cap : ℕ = cap_of r.pool in
     let q : ℕ = finished cap (length fed) in

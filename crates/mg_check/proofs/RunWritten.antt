@@ -20,7 +20,8 @@ whole_bits place bits whole =
     ap (λ n. bits ++ digits n 0) none ∙ append-nil bits
 
 -- what was written first is all
-pub written_bits : (w0 w1 : BitWriting) (f0 f1 : Option Files) (bits made : Bits) → IsSome f0 → bits_put w0 f0 ≡ [] → WroteBits w0 w1 f0 f1 bits → w1.place % 8 ≡ 0 → made ≡ bits_put w1 f1 ++ digits (to_byte w1.place) 0 → made ≡ bits
+pub written_bits : (w0 w1 : BitWriting) (f0 f1 : Option Files) (bits made : Bits) → IsSome f0 → bits_put w0 f0 ≡ [] → WroteBits w0 w1 f0 f1 bits →
+    w1.place % 8 ≡ 0 → made ≡ bits_put w1 f1 ++ digits (to_byte w1.place) 0 → made ≡ bits
 written_bits w0 w1 f0 f1 bits made told none wrote whole is = is ∙ whole_bits w1.place (bits_put w1 f1) whole ∙ wrote.told told ∙ ap (λ b. b ++ bits) none
 
 pub run_is : (pool : Pooled) (bytes : List ℕ) → AreBytes bytes → bits_of bytes ≡ filled (run_bits (gathered pool.entries)) → bytes ≡ run_of_pool pool

@@ -55,7 +55,8 @@ weighs words doc t w are is = is ∙ weight_is words doc t.counted are.rising (s
 
 -- ---- a document more
 
-pub tallied_more : (old new : Tallying) (f0 f1 : Option Files) (t : TermsRead) (words docs : List (List ℕ)) (doc numbers : List ℕ) (number w : ℕ) → numbers ≡ t.numbers → 1 + length docs ≡ number → number < 2 ^ 32 → AreTermsOf words doc t → HasTallied old f0 words docs → w ≡ weight_of_counts t.counted
+pub tallied_more : (old new : Tallying) (f0 f1 : Option Files) (t : TermsRead) (words docs : List (List ℕ)) (doc numbers : List ℕ) (number w : ℕ) →
+    numbers ≡ t.numbers → 1 + length docs ≡ number → number < 2 ^ 32 → AreTermsOf words doc t → HasTallied old f0 words docs → w ≡ weight_of_counts t.counted
     → ((bytes : List ℕ) → HasWeighed old.weights f0 bytes → HasWeighed new.weights f1 (bytes ++ four w))
     → new.weights.part.at + length new.weights.held ≡ old.weights.part.at + length old.weights.held + 4
     → ((fed : List (ℕ × ℕ)) → length fed + length numbers < 2 ^ 32 → HasTaken old.runs f0 fed → HasTaken new.runs f1 (fed ++ map (λ n. (n, number)) numbers))
@@ -67,7 +68,8 @@ tallied_more old new f0 f1 t words docs doc numbers number w same e small are is
     let n = is.count in
     let long : length numbers ≡ length t.numbers = ap (λ (ns : List ℕ). length ns) same in
     tallied_next old new f0 f1 words docs doc number w e is (weighs words doc t w are weighed) (weighs_more (flat_map four (map weight docs))) size
-    (subst (λ (ns : List ℕ). HasTaken new.runs f1 (occurrences_from words 1 docs ++ map (λ n. (n, number)) ns)) (same ∙ are.numbers) (taken (occurrences_from words 1 docs) (omega (arith, n, few, long)) is.taken))
+    (subst (λ (ns : List ℕ). HasTaken new.runs f1 (occurrences_from words 1 docs ++ map (λ n. (n, number)) ns)) (same ∙ are.numbers)
+    (taken (occurrences_from words 1 docs) (omega (arith, n, few, long)) is.taken))
     (count ∙ ap (λ (ns : List ℕ). old.occurrences + length ns) are.numbers)
     (docs_counted words docs doc t.counted old.docs new.docs (omega (arith, e, small)) are.counted is.counts counts)
 
@@ -81,8 +83,10 @@ weight_bad (Err Memory) t f number w read is bad = tt
 weight_bad {T} (Err (Bad b)) t f number w read is bad = λ code words doc collection docs are e on it own.
     weights_bad {T = T} (Err (Bad b)) code words doc number w t f f refl (weighs words doc read w are is) bad collection docs e on it own
 
-pub run_bad : {T : Type 0} (x : Result T PartErr) (t : Tallying) (f f1 : Option Files) (number : ℕ) (read : TermsRead) (numbers : List ℕ) → numbers ≡ read.numbers → f1 ≡ f → t.occurrences + length numbers < 2 ^ 32
-    → WhereBad ((fed rest : List (ℕ × ℕ)) → length fed + length numbers < 2 ^ 32 → HasTaken t.runs f1 fed → bytes_at f1 t.runs.part.name ≢ as_bytes (run_part_bits (cap_of t.runs.pool) (fed ++ (map (λ n. (n, number)) numbers ++ rest)))) x
+pub run_bad : {T : Type 0} (x : Result T PartErr) (t : Tallying) (f f1 : Option Files) (number : ℕ) (read : TermsRead) (numbers : List ℕ) →
+    numbers ≡ read.numbers → f1 ≡ f → t.occurrences + length numbers < 2 ^ 32
+    → WhereBad ((fed rest : List (ℕ × ℕ)) → length fed + length numbers < 2 ^ 32 → HasTaken t.runs f1 fed →
+    bytes_at f1 t.runs.part.name ≢ as_bytes (run_part_bits (cap_of t.runs.pool) (fed ++ (map (λ n. (n, number)) numbers ++ rest)))) x
     → WhereBad (NoneGoesOn t f number read) x
 run_bad (Ok value) t f f1 number read numbers same files few bad = tt
 run_bad (Err Device) t f f1 number read numbers same files few bad = tt
@@ -110,7 +114,8 @@ have_tallied t f f1 files weighed taken words docs is = record {
   run = ap (λ g. bytes_at g t.runs.part.name) (sym files) ∙ taken (occurrences_from words 1 docs) (subst (λ g. HasTaken t.runs g (occurrences_from words 1 docs)) (sym files) is.taken);
 }
 
-pub weights_other : {T : Type 0} (x : Result T PartErr) (t : Tallying) (f : Option Files) → WhereBad ((bytes : List ℕ) → HasWeighed t.weights f bytes → bytes_at f t.weights.part.name ≢ bytes) x → WhereBad (NotTallied t f) x
+pub weights_other : {T : Type 0} (x : Result T PartErr) (t : Tallying) (f : Option Files) →
+    WhereBad ((bytes : List ℕ) → HasWeighed t.weights f bytes → bytes_at f t.weights.part.name ≢ bytes) x → WhereBad (NotTallied t f) x
 weights_other (Ok value) t f bad = tt
 weights_other (Err Device) t f bad = tt
 weights_other (Err Memory) t f bad = tt

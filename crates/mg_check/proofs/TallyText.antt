@@ -96,10 +96,12 @@ pub goes_on : (t : Tallying) (f : Option Files) (table : TermNumbers) (n : ℕ) 
     → GoesOn r.code table.terms collection it.docs doc
 goes_on t f table n r doc it collection made low stand is =
     let within : n < length (documents collection) = omega (arith, low, stand.documents) in
-    let rest : drop n (documents collection) ≡ doc ∷ drop (suc n) (documents collection) = drop-cons (documents collection) n [] within ∙ ap (λ (d : List ℕ). d ∷ drop (suc n) (documents collection)) (sym is) in
+    let rest : drop n (documents collection) ≡ doc ∷ drop (suc n) (documents collection) = drop-cons (documents collection) n [] within
+    ∙ ap (λ (d : List ℕ). d ∷ drop (suc n) (documents collection)) (sym is) in
     record {
       more = drop (suc n) (documents collection);
-      documents_are = sym (take-append-drop n (documents collection)) ∙ ap (λ ds. take n (documents collection) ++ ds) rest ∙ ap (λ ds. ds ++ doc ∷ drop (suc n) (documents collection)) (sym (it.own collection stand));
+      documents_are = sym (take-append-drop n (documents collection)) ∙ ap (λ ds. take n (documents collection) ++ ds) rest
+          ∙ ap (λ ds. ds ++ doc ∷ drop (suc n) (documents collection)) (sym (it.own collection stand));
       codable = subst (IsCodable r.code) (sym is) (doc_codable r f collection n within stand);
       few = stand.few;
       dictionary_is = table_terms table r f collection made stand;
@@ -107,7 +109,8 @@ goes_on t f table n r doc it collection made low stand is =
 
 -- ---- the terms of the next document
 
-pub can_add : (t : Tallying) (f f1 : Option Files) (words : List (List ℕ)) (n : ℕ) (r : TextReading) (it : TalliedText t f words n r) (doc : List ℕ) (read : TermsRead) → f1 ≡ f → AreTermsOf words doc read → CanAdd t f1 (n + 1) read
+pub can_add : (t : Tallying) (f f1 : Option Files) (words : List (List ℕ)) (n : ℕ) (r : TextReading) (it : TalliedText t f words n r) (doc : List ℕ)
+    (read : TermsRead) → f1 ≡ f → AreTermsOf words doc read → CanAdd t f1 (n + 1) read
 can_add t f f1 words n r it doc read stay are = record {
   words = words;
   docs = it.docs;
@@ -120,7 +123,8 @@ can_add t f f1 words n r it doc read stay are = record {
 -- ---- refusals
 
 -- parts that the next document refutes are no collection's
-pub next_bad : {T : Type 0} (x : Result T PartErr) (t : Tallying) (f f1 : Option Files) (table : TermNumbers) (n : ℕ) (r : TextReading) (it : TalliedText t f table.terms n r) (doc : List ℕ) (read : TermsRead) (collection : List ℕ)
+pub next_bad : {T : Type 0} (x : Result T PartErr) (t : Tallying) (f f1 : Option Files) (table : TermNumbers) (n : ℕ) (r : TextReading)
+    (it : TalliedText t f table.terms n r) (doc : List ℕ) (read : TermsRead) (collection : List ℕ)
     → f1 ≡ f
     → table ≡ terms_and_numbers r.code.words.pieces
     → n < r.documents
@@ -143,23 +147,28 @@ not_bad claim (Err (Bad bad)) h = absurd h
 -- ---- the end
 
 -- the documents of a text that stands, once all were taken
-pub all_taken : (t : Tallying) (f : Option Files) (words : List (List ℕ)) (n : ℕ) (r : TextReading) (it : TalliedText t f words n r) (collection : List ℕ) → n ≡ r.documents → TextStands r f collection → it.docs ≡ documents collection
+pub all_taken : (t : Tallying) (f : Option Files) (words : List (List ℕ)) (n : ℕ) (r : TextReading) (it : TalliedText t f words n r) (collection : List ℕ) →
+    n ≡ r.documents → TextStands r f collection → it.docs ≡ documents collection
 all_taken t f words n r it collection all stand = it.own collection stand ∙ take_whole n (documents collection) (omega (arith, all, stand.documents))
   where
     take_whole : (k : ℕ) (ds : List (List ℕ)) → length ds ≤ k → take k ds ≡ ds
     take_whole k ds h = grind (arith, common_steps)
 
 -- weights and runs of all documents are the collection's
-pub have_own : (t : Tallying) (f : Option Files) (words seen : List (List ℕ)) (collection : List ℕ) → words ≡ dictionary collection → seen ≡ documents collection → HaveTallied t f words seen → AreOwn t f collection
+pub have_own : (t : Tallying) (f : Option Files) (words seen : List (List ℕ)) (collection : List ℕ) → words ≡ dictionary collection →
+    seen ≡ documents collection → HaveTallied t f words seen → AreOwn t f collection
 have_own t f words seen collection all_words all have = record {
   weights = have.weights ∙ ap (λ ds. flat_map four (map weight ds)) all;
-  run = have.run ∙ ap (λ o. as_bytes (run_part_bits (cap_of t.runs.pool) o)) (ap (λ ws. occurrences_from ws 1 seen) all_words ∙ ap (occurrences_from (dictionary collection) 1) all ∙ occ_is collection);
+  run = have.run ∙ ap (λ o. as_bytes (run_part_bits (cap_of t.runs.pool) o)) (ap (λ ws. occurrences_from ws 1 seen) all_words
+      ∙ ap (occurrences_from (dictionary collection) 1) all ∙ occ_is collection);
 }
 
-pub own_have : (t : Tallying) (f : Option Files) (words seen : List (List ℕ)) (collection : List ℕ) → words ≡ dictionary collection → seen ≡ documents collection → AreOwn t f collection → HaveTallied t f words seen
+pub own_have : (t : Tallying) (f : Option Files) (words seen : List (List ℕ)) (collection : List ℕ) → words ≡ dictionary collection →
+    seen ≡ documents collection → AreOwn t f collection → HaveTallied t f words seen
 own_have t f words seen collection all_words all own = record {
   weights = own.weights ∙ ap (λ ds. flat_map four (map weight ds)) (sym all);
-  run = own.run ∙ ap (λ o. as_bytes (run_part_bits (cap_of t.runs.pool) o)) (sym (ap (λ ws. occurrences_from ws 1 seen) all_words ∙ ap (occurrences_from (dictionary collection) 1) all ∙ occ_is collection));
+  run = own.run ∙ ap (λ o. as_bytes (run_part_bits (cap_of t.runs.pool) o))
+      (sym (ap (λ ws. occurrences_from ws 1 seen) all_words ∙ ap (occurrences_from (dictionary collection) 1) all ∙ occ_is collection));
 }
 
 -- a tally of a base, by runs of so many
@@ -195,7 +204,8 @@ refuted P Q (Err (Bad bad)) f h = λ q. h (f q)
 pub parts_back : (a b : Tallying) → SameParts a b → SameParts b a
 parts_back a b same = record { weights = sym same.weights; run = sym same.run; limit = sym same.limit }
 
-pub tally_done : (result : Result (Unit {0}) PartErr) (old mid new : Tallying) (f f1 : Option Files) (table : TermNumbers) (n : ℕ) (r : TextReading) (it : TalliedText mid f1 table.terms n r) (collection : List ℕ)
+pub tally_done : (result : Result (Unit {0}) PartErr) (old mid new : Tallying) (f f1 : Option Files) (table : TermNumbers) (n : ℕ) (r : TextReading)
+    (it : TalliedText mid f1 table.terms n r) (collection : List ℕ)
     → f1 ≡ f
     → SameParts old mid
     → n ≡ r.documents
@@ -218,7 +228,8 @@ tally_done (Ok value) old mid new f f1 table n r it collection stay parts all ma
           ∙ ap (λ (o : List (ℕ × ℕ)). length o) (ap (λ (ws : List (List ℕ)). occurrences_from ws 1 it.docs) words_are ∙ ap (occurrences_from (dictionary collection) 1) seen ∙ occ_is collection);
     }
 
-pub tally_other : (result : Result (Unit {0}) PartErr) (old mid : Tallying) (f f1 : Option Files) (table : TermNumbers) (n : ℕ) (r : TextReading) (it : TalliedText mid f1 table.terms n r) (collection : List ℕ)
+pub tally_other : (result : Result (Unit {0}) PartErr) (old mid : Tallying) (f f1 : Option Files) (table : TermNumbers) (n : ℕ) (r : TextReading)
+    (it : TalliedText mid f1 table.terms n r) (collection : List ℕ)
     → f1 ≡ f
     → SameParts old mid
     → n ≡ r.documents

@@ -43,11 +43,13 @@ pub record HasBegun (c : Comparing) (files : Option Files) (done : List ℕ) : T
 
 -- these bytes more were compared
 abbrev pub HasBegunMore : {X : Type 0} → (X → Option Files) → X → X → Comparing → Comparing → List ℕ → Type 0
-HasBegunMore files before now old new wanted = (done : List ℕ) → HasBegun old (files before) done → HasBegun new (files now) (done ++ wanted)
+HasBegunMore files before now old new wanted = (done : List ℕ) → HasBegun old (files before) done →
+    HasBegun new (files now) (done ++ wanted)
 
 -- the part goes on with other bytes than these
 abbrev pub GoesOnOtherwise : Comparing → Option Files → List ℕ → Type 0
-GoesOnOtherwise c files wanted = (done rest : List ℕ) → HasBegun c files done → bytes_at files c.name ≢ done ++ (wanted ++ rest)
+GoesOnOtherwise c files wanted = (done rest : List ℕ) → HasBegun c files done →
+    bytes_at files c.name ≢ done ++ (wanted ++ rest)
 
 -- the part has the bytes that were compared, and no others
 abbrev pub EndsThere : Comparing → Option Files → Type 0
@@ -72,7 +74,8 @@ pub record HasWeighed (w : Weighing) (files : Option Files) (bytes : List ℕ) :
 
 -- these bytes more were taken
 abbrev pub HasWeighedMore : {X : Type 0} → (X → Option Files) → X → X → Weighing → Weighing → List ℕ → Type 0
-HasWeighedMore files before now old new more = (bytes : List ℕ) → HasWeighed old (files before) bytes → HasWeighed new (files now) (bytes ++ more)
+HasWeighedMore files before now old new more = (bytes : List ℕ) → HasWeighed old (files before) bytes →
+    HasWeighed new (files now) (bytes ++ more)
 
 -- the part does not begin with the bytes that were taken
 abbrev pub WeighsOtherwise : Weighing → Option Files → Type 0
@@ -80,7 +83,8 @@ WeighsOtherwise w files = (bytes rest : List ℕ) → HasWeighed w files bytes �
 
 -- it does not begin with them and these behind them
 abbrev pub WeighsOtherwiseOn : Weighing → Option Files → List ℕ → Type 0
-WeighsOtherwiseOn w files more = (bytes rest : List ℕ) → HasWeighed w files bytes → bytes_at files w.part.name ≢ bytes ++ (more ++ rest)
+WeighsOtherwiseOn w files more = (bytes rest : List ℕ) → HasWeighed w files bytes →
+    bytes_at files w.part.name ≢ bytes ++ (more ++ rest)
 
 -- the part is the bytes that were taken
 abbrev pub AreItsWeights : Weighing → Option Files → Type 0
@@ -115,14 +119,16 @@ pub record HasTaken (r : RunReading) (files : Option Files) (fed : List (ℕ × 
   pub most : r.pool.limit ≤ 2 ^ 30
   pub slots : r.pool.slots ≡ []
   pub entries : r.pool.entries ≡ map once (drop (finished (cap_of r.pool) (length fed) * cap_of r.pool) fed)
-  pub begun : HasBegun r.part files (as_bytes (runs_bits (first_runs (cap_of r.pool) (finished (cap_of r.pool) (length fed)) fed)))
+  pub begun : HasBegun r.part files (as_bytes
+      (runs_bits (first_runs (cap_of r.pool) (finished (cap_of r.pool) (length fed)) fed)))
   pub below : r.part.at ≤ 64 * (finished (cap_of r.pool) (length fed) * cap_of r.pool)
   pub occurrences : AreOccurrences fed
   pub few : length fed < 2 ^ 32
 
 -- one occurrence more was taken
 abbrev pub HasTakenOne : {X : Type 0} → (X → Option Files) → X → X → RunReading → RunReading → ℕ × ℕ → Type 0
-HasTakenOne files before now old new o = (fed : List (ℕ × ℕ)) → length fed < 2 ^ 32 - 1 → HasTaken old (files before) fed → HasTaken new (files now) (fed ++ o ∷ [])
+HasTakenOne files before now old new o = (fed : List (ℕ × ℕ)) → length fed < 2 ^ 32 - 1 →
+    HasTaken old (files before) fed → HasTaken new (files now) (fed ++ o ∷ [])
 
 -- the occurrences of terms in a document, by the terms' numbers
 abbrev pub occurrences_in : ℕ → List ℕ → List (ℕ × ℕ)
@@ -130,20 +136,24 @@ occurrences_in doc numbers = map (λ n. (n, doc)) numbers
 
 -- those of terms in a document were taken
 abbrev pub HasTakenAll : {X : Type 0} → (X → Option Files) → X → X → RunReading → RunReading → ℕ → List ℕ → Type 0
-HasTakenAll files before now old new doc numbers = (fed : List (ℕ × ℕ)) → length fed + length numbers < 2 ^ 32 → HasTaken old (files before) fed → HasTaken new (files now) (fed ++ occurrences_in doc numbers)
+HasTakenAll files before now old new doc numbers = (fed : List (ℕ × ℕ)) → length fed + length numbers < 2 ^ 32 →
+    HasTaken old (files before) fed → HasTaken new (files now) (fed ++ occurrences_in doc numbers)
 
 -- the part is the runs of no occurrences that begin with those that were taken
 abbrev pub RunsOtherwise : RunReading → Option Files → Type 0
-RunsOtherwise r files = (fed rest : List (ℕ × ℕ)) → HasTaken r files fed → bytes_at files r.part.name ≢ run_part_of r (fed ++ rest)
+RunsOtherwise r files = (fed rest : List (ℕ × ℕ)) → HasTaken r files fed →
+    bytes_at files r.part.name ≢ run_part_of r (fed ++ rest)
 
 -- nor of those with these of a document behind them
 abbrev pub RunsOtherwiseOn : RunReading → Option Files → ℕ → List ℕ → Type 0
 RunsOtherwiseOn r files doc numbers =
-    (fed rest : List (ℕ × ℕ)) → length fed + length numbers < 2 ^ 32 → HasTaken r files fed → bytes_at files r.part.name ≢ run_part_of r (fed ++ (occurrences_in doc numbers ++ rest))
+    (fed rest : List (ℕ × ℕ)) → length fed + length numbers < 2 ^ 32 → HasTaken r files fed →
+    bytes_at files r.part.name ≢ run_part_of r (fed ++ (occurrences_in doc numbers ++ rest))
 
 -- the part begins with the runs of the occurrences that were taken
 abbrev pub HasBegunRuns : {X : Type 0} → (X → Option Files) → X → X → RunReading → Comparing → Type 0
-HasBegunRuns files before now r part = (fed : List (ℕ × ℕ)) → HasTaken r (files before) fed → HasBegun part (files now) (run_part_of r fed)
+HasBegunRuns files before now r part = (fed : List (ℕ × ℕ)) → HasTaken r (files before) fed →
+    HasBegun part (files now) (run_part_of r fed)
 
 -- the part is the runs of the occurrences that were taken
 abbrev pub AreItsRuns : RunReading → Option Files → Type 0
@@ -157,7 +167,8 @@ AreOtherRuns r files = (fed : List (ℕ × ℕ)) → HasTaken r files fed → by
 
 -- the occurrences of the terms of documents, the first of them with this number
 abbrev pub occurrences_from : List (List ℕ) → ℕ → List (List ℕ) → List (ℕ × ℕ)
-occurrences_from dictionary first docs = flat_map (λ (d : ℕ × List ℕ). map (λ n. (n, d.0)) (numbers_in dictionary d.1)) (enumerate_from first docs)
+occurrences_from dictionary first docs = flat_map (λ (d : ℕ × List ℕ). map (λ n. (n, d.0)) (numbers_in dictionary d.1))
+    (enumerate_from first docs)
 
 -- how many of these documents have a term
 abbrev pub docs_among : List (List ℕ) → List ℕ → ℕ
@@ -166,7 +177,8 @@ docs_among docs t = count_by (λ doc. list_any (same_term t) (terms doc)) docs
 -- counts of documents after one more document with these terms; none rises above what 32 bits hold
 abbrev pub one_more_each : List (ℕ × ℕ) → List ℕ → List ℕ
 one_more_each [] docs = docs
-one_more_each (e ∷ counted) docs = one_more_each counted (slice_set docs e.0 (min (slice_index docs e.0 + 1) (2 ^ 32 - 1)))
+one_more_each (e ∷ counted) docs = one_more_each counted
+    (slice_set docs e.0 (min (slice_index docs e.0 + 1) (2 ^ 32 - 1)))
 
 -- how many documents have each term, the weights, the runs, and how many occurrences there were
 pub record Tallying : Type 0 where
@@ -204,7 +216,8 @@ pub record AreOwn (t : Tallying) (files : Option Files) (collection : List ℕ) 
   pub run : bytes_at files t.runs.part.name ≡ as_bytes (run_part_bits (cap_of t.runs.pool) (occurrences collection))
 
 -- The documents of a collection begin with these and then this one, which a model can code; it has this dictionary.
-pub record GoesOn (code : TextCode) (words : List (List ℕ)) (collection : List ℕ) (docs : List (List ℕ)) (doc : List ℕ) : Type 0 where
+pub record GoesOn (code : TextCode) (words : List (List ℕ)) (collection : List ℕ) (docs : List (List ℕ))
+    (doc : List ℕ) : Type 0 where
   pub more : List (List ℕ)
   pub documents_are : documents collection ≡ docs ++ doc ∷ more
   pub codable : IsCodable code doc
@@ -214,18 +227,21 @@ pub record GoesOn (code : TextCode) (words : List (List ℕ)) (collection : List
 -- Weights and Run are those of no collection whose documents go on with one that has these terms and this number.
 abbrev pub NoneGoesOn : Tallying → Option Files → ℕ → TermsRead → Type 0
 NoneGoesOn t files number terms_read =
-    (code : TextCode) (words : List (List ℕ)) (doc collection : List ℕ) (docs : List (List ℕ)) → AreTermsOf words doc terms_read → 1 + length docs ≡ number
+    (code : TextCode) (words : List (List ℕ)) (doc collection : List ℕ) (docs : List (List ℕ)) →
+    AreTermsOf words doc terms_read → 1 + length docs ≡ number
     → GoesOn code words collection docs doc → HasTallied t files words docs → AreOwn t files collection → ⊥
 
 -- Weights and Run are those of these documents.
 pub record HaveTallied (t : Tallying) (files : Option Files) (dictionary docs : List (List ℕ)) : Type 0 where
   pub weights : bytes_at files t.weights.part.name ≡ flat_map four (map weight docs)
-  pub run : bytes_at files t.runs.part.name ≡ as_bytes (run_part_bits (cap_of t.runs.pool) (occurrences_from dictionary 1 docs))
+  pub run : bytes_at files t.runs.part.name
+      ≡ as_bytes (run_part_bits (cap_of t.runs.pool) (occurrences_from dictionary 1 docs))
 
 -- the next document was taken, which has this number and these terms
 abbrev pub TalliedNext : {X : Type 0} → (X → Option Files) → X → X → Tallying → Tallying → ℕ → TermsRead → Type 0
 TalliedNext files before now old new number terms_read =
-    (words docs : List (List ℕ)) (doc : List ℕ) → 1 + length docs ≡ number → AreTermsOf words doc terms_read → HasTallied old (files before) words docs → HasTallied new (files now) words (docs ++ doc ∷ [])
+    (words docs : List (List ℕ)) (doc : List ℕ) → 1 + length docs ≡ number → AreTermsOf words doc terms_read →
+    HasTallied old (files before) words docs → HasTallied new (files now) words (docs ++ doc ∷ [])
 
 -- They are those of the documents that were taken.
 abbrev pub AreTallied : Tallying → Option Files → Type 0
@@ -236,14 +252,16 @@ abbrev pub NotTallied : Tallying → Option Files → Type 0
 NotTallied t files = (words docs : List (List ℕ)) → HasTallied t files words docs → HaveTallied t files words docs → ⊥
 
 -- So many documents of the text were taken; where it stands for a collection, they are all of the collection's.
-pub record TalliedText (t : Tallying) (files : Option Files) (words : List (List ℕ)) (documents_read : ℕ) (r : TextReading) : Type 0 where
+pub record TalliedText (t : Tallying) (files : Option Files) (words : List (List ℕ)) (documents_read : ℕ)
+    (r : TextReading) : Type 0 where
   pub docs : List (List ℕ)
   pub tallied : HasTallied t files words docs
   pub count : length docs ≡ documents_read
   pub own : (collection : List ℕ) → TextStands r files collection → docs ≡ take documents_read (documents collection)
 
 -- Documents of a text are tallied, told of the moments before and after: so many of them were taken at the end.
-pub record DocumentsTallied {T : Type 0} (r : TextReading) (words : List (List ℕ)) (documents_read : ℕ) (old new : Tallying) (files files_now : Option Files) (result : Result T PartErr) : Type 0 where
+pub record DocumentsTallied {T : Type 0} (r : TextReading) (words : List (List ℕ)) (documents_read : ℕ)
+    (old new : Tallying) (files files_now : Option Files) (result : Result T PartErr) : Type 0 where
   -- they are the first of the text
   pub taken : OnOk result (TalliedText new files_now words documents_read r)
   -- the same parts are compared
@@ -270,10 +288,11 @@ pub record IsTallyOf (old new : Tallying) (files : Option Files) (collection : L
   pub occurrences : new.occurrences ≡ length (occurrences collection)
 
 -- what was counted of a collection whose Weights and Run were compared
-pub record IsCountOf (base : List ℕ) (files : Option Files) (cap : ℕ) (collection : List ℕ) (counts : Counts) : Type 0 where
-  -- both parts are the collection's
-  pub stand : TermsStand base files cap collection
-  -- how many documents have each term
-  pub docs : counts.docs.items ≡ docs_of_terms collection
-  -- how many occurrences there are
-  pub occurrences : counts.occurrences ≡ length (occurrences collection)
+pub record IsCountOf (base : List ℕ) (files : Option Files) (cap : ℕ) (collection : List ℕ) (counts : Counts) : Type 0
+  where
+    -- both parts are the collection's
+    pub stand : TermsStand base files cap collection
+    -- how many documents have each term
+    pub docs : counts.docs.items ≡ docs_of_terms collection
+    -- how many occurrences there are
+    pub occurrences : counts.occurrences ≡ length (occurrences collection)

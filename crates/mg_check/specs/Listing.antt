@@ -91,7 +91,8 @@ pub record SameRooms (old new : Ranged) : Type 0 where
 
 -- the postings of a document, by the terms that it has and how often each comes, in the list of one of them
 abbrev pub postings_in : ℕ → List (ℕ × ℕ) → ℕ → List Posting
-postings_in doc counted number = map (λ (e : ℕ × ℕ). record { doc = doc; freq = e.1 }) (filter (λ (e : ℕ × ℕ). nat_eq e.0 number) counted)
+postings_in doc counted number = map (λ (e : ℕ × ℕ). record { doc = doc; freq = e.1 })
+    (filter (λ (e : ℕ × ℕ). nat_eq e.0 number) counted)
 
 -- these lists, each with what a document adds
 abbrev pub with_document : (ℕ → List Posting) → ℕ → List (ℕ × ℕ) → ℕ → List Posting
@@ -107,7 +108,8 @@ lists_of collection number = postings collection (get_or (dictionary collection)
 
 -- each list has room for as many postings as documents have its term
 pub record HasRoomForAll (w : Ranged) (collection : List ℕ) : Type 0 where
-  pub each : (k : ℕ) → k < length w.next → room_at w k ≡ docs collection (get_or (dictionary collection) (w.first + k) [])
+  pub each : (k : ℕ) → k < length w.next → room_at w k ≡ docs collection
+      (get_or (dictionary collection) (w.first + k) [])
 
 -- the rooms are those of lists of some of so many documents
 pub record AreRooms (w : Ranged) (all : ℕ) : Type 0 where
@@ -142,7 +144,8 @@ abbrev pub post_upto : ℕ → List ℕ → List ℕ
 post_upto number collection = as_bytes (lists_bits (length (documents collection)) (take number (inverted collection)))
 
 abbrev pub skip_upto : ℕ → List ℕ → List ℕ
-skip_upto number collection = as_bytes (flat_map entry_bits (lists_entries (length (documents collection)) (take number (inverted collection))))
+skip_upto number collection =
+    as_bytes (flat_map entry_bits (lists_entries (length (documents collection)) (take number (inverted collection))))
 
 -- the places are behind the lists of the terms below a number
 pub record ArePlacesOf (number : ℕ) (places : Places) (collection : List ℕ) : Type 0 where
@@ -158,7 +161,8 @@ pub record IsRangeOf (w : Ranged) (terms : List (List ℕ)) (all : ℕ) (collect
   pub rooms : HasRoomForAll w collection
 
 -- The range is one of a collection, and places are behind the lists before it. The lists of its first terms were written, and the lexicon as far as they go.
-pub record HasListed (w : Ranged) (terms : List (List ℕ)) (before : Places) (index : ℕ) (collection : List ℕ) (lists : Listing) (files : Option Files) (lex : LexWriting) (lex_files : Option Files) : Type 0 where
+pub record HasListed (w : Ranged) (terms : List (List ℕ)) (before : Places) (index : ℕ) (collection : List ℕ)
+    (lists : Listing) (files : Option Files) (lex : LexWriting) (lex_files : Option Files) : Type 0 where
   pub of : IsRangeOf w terms lists.all collection
   pub places : ArePlacesOf w.first before collection
   pub took : Took lists files (take index (drop w.first (inverted collection))) []
@@ -177,9 +181,11 @@ pub record ListsAgree (files : Option Files) (base collection : List ℕ) (numbe
   pub skip_is : BeginsAt (bytes_at files (full_name base Skip)) places.skip (skip_upto number collection)
 
 -- these lists stand in Post and Skip from two places on
-pub record ListsFollow (files : Option Files) (base : List ℕ) (all : ℕ) (lists : List (List Posting)) (places : Places) : Type 0 where
+pub record ListsFollow (files : Option Files) (base : List ℕ) (all : ℕ) (lists : List (List Posting))
+    (places : Places) : Type 0 where
   pub post_is : StandAt places.post (as_bytes (lists_bits all lists)) (bytes_at files (full_name base Post))
-  pub skip_is : StandAt places.skip (as_bytes (flat_map entry_bits (lists_entries all lists))) (bytes_at files (full_name base Skip))
+  pub skip_is : StandAt places.skip (as_bytes (flat_map entry_bits (lists_entries all lists)))
+      (bytes_at files (full_name base Skip))
 
 -- two places are behind these lists, which begin at two others
 pub record AreBehind (all : ℕ) (lists : List (List Posting)) (before after : Places) : Type 0 where
@@ -192,13 +198,15 @@ pub record ArePlaces (places : Places) : Type 0 where
   pub skip : places.skip ≤ 2 ^ 63
 
 -- The lexicon in memory has the terms below a number, and the places are those of bytes.
-pub record CanCompare (terms : List (List ℕ)) (number : ℕ) (places : Places) (lex : LexWriting) (lex_files : Option Files) : Type 0 where
+pub record CanCompare (terms : List (List ℕ)) (number : ℕ) (places : Places) (lex : LexWriting)
+    (lex_files : Option Files) : Type 0 where
   pub push : CanPush terms number lex lex_files
   pub base : lex.base ≡ codes "new"
   pub within : ArePlaces places
 
 -- Post and Skip begin with the lists of the terms below a number, and the lexicon in memory has what is to stand of these terms.
-pub record HasCompared (files : Option Files) (base collection : List ℕ) (number : ℕ) (places : Places) (lex : LexWriting) (lex_files : Option Files) : Type 0 where
+pub record HasCompared (files : Option Files) (base collection : List ℕ) (number : ℕ) (places : Places)
+    (lex : LexWriting) (lex_files : Option Files) : Type 0 where
   pub lists : ListsAgree files base collection number places
   pub terms : TookTerms lex lex_files (take number (terms_of collection))
 
@@ -217,7 +225,8 @@ pub record IndexStands (files : Option Files) (base collection : List ℕ) : Typ
   pub lexicon : LexiconStands files base collection
 
 -- The reader reads the text of this collection, and these are its terms and how many documents have each.
-pub record IsIndexOf (r : TextReading) (files : Option Files) (terms : List (List ℕ)) (docs_of : List ℕ) (collection : List ℕ) : Type 0 where
+pub record IsIndexOf (r : TextReading) (files : Option Files) (terms : List (List ℕ)) (docs_of : List ℕ)
+    (collection : List ℕ) : Type 0 where
   pub stands : TextStands r files collection
   pub terms_are : terms ≡ dictionary collection
   pub docs_are : docs_of ≡ map (docs collection) (dictionary collection)
@@ -227,15 +236,19 @@ pub record IsIndexOf (r : TextReading) (files : Option Files) (terms : List (Lis
 
 -- for each of them whose lists have their room
 abbrev pub ForRooms : TextReading → Option Files → Ranged → (List ℕ → Type 0) → Type 0
-ForRooms reader files lists claim = (collection : List ℕ) → TextStands reader files collection → HasRoomForAll lists collection → claim collection
+ForRooms reader files lists claim = (collection : List ℕ) → TextStands reader files collection →
+    HasRoomForAll lists collection → claim collection
 
 -- for each of them whose lists are held as far as so many documents go, and have room for one document more: the lists with that document
 abbrev pub ForNextLists : TextReading → Option Files → Ranged → ℕ → ((ℕ → List Posting) → Type 0) → Type 0
-ForNextLists reader files lists before claim = (collection : List ℕ) → TextStands reader files collection → HoldsLists lists (lists_upto before collection) → HasRoomFor lists (lists_upto (before + 1) collection) → claim (lists_upto (before + 1) collection)
+ForNextLists reader files lists before claim = (collection : List ℕ) → TextStands reader files collection →
+    HoldsLists lists (lists_upto before collection) → HasRoomFor lists (lists_upto (before + 1) collection) →
+    claim (lists_upto (before + 1) collection)
 
 -- for each collection whose text the reader reads, and whose terms and numbers of documents these are
 abbrev pub ForIndex : TextReading → Option Files → Indexed → (List ℕ → Type 0) → Type 0
-ForIndex reader files of claim = (collection : List ℕ) → IsIndexOf reader files of.table.now.terms of.docs.now collection → claim collection
+ForIndex reader files of claim = (collection : List ℕ) →
+    IsIndexOf reader files of.table.now.terms of.docs.now collection → claim collection
 
 -- the number behind the last term of a range
 abbrev pub end_of_range : Ranged → ℕ
@@ -247,21 +260,25 @@ AreListsOf of collection lists = IsRangeOf lists of.table.now.terms of.documents
 
 -- for each collection as far as whose last term Post and Skip were compared
 abbrev pub ForEnds : Option Files → List ℕ → Places → (List ℕ → Type 0) → Type 0
-ForEnds files base ends claim = (collection : List ℕ) → IsSome files → ListsAgree files base collection (length (dictionary collection)) ends → claim collection
+ForEnds files base ends claim = (collection : List ℕ) → IsSome files →
+    ListsAgree files base collection (length (dictionary collection)) ends → claim collection
 
 -- ---- lists in a store in memory, which told its files so
 
 -- one posting more of the list that was begun was taken
 abbrev pub TookPosting : (SureStore → Option Files) → NewLists → NewLists → Posting → Type 0
-TookPosting told old new posting = (done : List (List Posting)) (ps : List Posting) → Took old.writer (told old.store) done ps → Took new.writer (told new.store) done (ps ++ posting ∷ [])
+TookPosting told old new posting = (done : List (List Posting)) (ps : List Posting) →
+    Took old.writer (told old.store) done ps → Took new.writer (told new.store) done (ps ++ posting ∷ [])
 
 -- these postings of the list that was begun were taken
 abbrev pub TookPostings : (SureStore → Option Files) → NewLists → NewLists → List Posting → Type 0
-TookPostings told old new ps = (done : List (List Posting)) → Took old.writer (told old.store) done [] → Took new.writer (told new.store) done ps
+TookPostings told old new ps = (done : List (List Posting)) → Took old.writer (told old.store) done [] →
+    Took new.writer (told new.store) done ps
 
 -- one list more was taken
 abbrev pub TookList : (SureStore → Option Files) → NewLists → NewLists → List Posting → Type 0
-TookList told old new ps = (done : List (List Posting)) → Took old.writer (told old.store) done [] → Took new.writer (told new.store) (done ++ ps ∷ []) []
+TookList told old new ps = (done : List (List Posting)) → Took old.writer (told old.store) done [] →
+    Took new.writer (told new.store) (done ++ ps ∷ []) []
 
 -- for all lists that were taken
 abbrev pub ForWritten : (SureStore → Option Files) → NewLists → (List (List Posting) → Type 0) → Type 0
@@ -269,15 +286,20 @@ ForWritten told lists claim = (done : List (List Posting)) → Took lists.writer
 
 -- the bytes and the skip entries of the lists that were taken end here
 abbrev pub AreEndsOf : (SureStore → Option Files) → NewLists → ℕ → ℕ × ℕ → Type 0
-AreEndsOf told lists all at = ForWritten told lists (λ done. (at.0 ≡ length (lists_bits all done) / 8) × (at.1 ≡ length (lists_entries all done)))
+AreEndsOf told lists all at = ForWritten told lists (λ done. (at.0 ≡ length (lists_bits all done) / 8)
+    × (at.1 ≡ length (lists_entries all done)))
 
 -- these lists stand in Post and Skip from two places on, where the store tells its files
-abbrev pub FindsFollowing : {T : Type 0} → Option Files → List ℕ → NewLists → Places → Result T PartErr → List (List Posting) → Type 0
-FindsFollowing files base lists before result done = IsSome files → OnOk result (ListsFollow files base lists.writer.all done before)
+abbrev pub FindsFollowing : {T : Type 0} → Option Files → List ℕ → NewLists → Places → Result T PartErr →
+    List (List Posting) → Type 0
+FindsFollowing files base lists before result done = IsSome files →
+    OnOk result (ListsFollow files base lists.writer.all done before)
 
 -- a refusal tells that they do not
-abbrev pub RefutesFollowing : {T : Type 0} → Option Files → List ℕ → NewLists → Places → Result T PartErr → List (List Posting) → Type 0
-RefutesFollowing files base lists before result done = IsSome files → IfErr result (Refutes (ListsFollow files base lists.writer.all done before))
+abbrev pub RefutesFollowing : {T : Type 0} → Option Files → List ℕ → NewLists → Places → Result T PartErr →
+    List (List Posting) → Type 0
+RefutesFollowing files base lists before result done = IsSome files →
+    IfErr result (Refutes (ListsFollow files base lists.writer.all done before))
 
 -- ---- a lexicon in a store in memory, which told its files so
 
@@ -286,49 +308,69 @@ abbrev pub CanPushIn : (SureStore → Option Files) → List (List ℕ) → ℕ 
 CanPushIn told terms number lexicon = CanPush terms number lexicon.writer (told lexicon.store)
 
 -- it takes the term of a table of which this is told
-abbrev pub TakesTerm : {T E : Type 0} → (SureStore → Option Files) → List (List ℕ) → TermInfo → Lexicon → Lexicon → Result T E → Type 0
+abbrev pub TakesTerm : {T E : Type 0} → (SureStore → Option Files) → List (List ℕ) → TermInfo → Lexicon → Lexicon →
+    Result T E → Type 0
 TakesTerm told terms info old new result =
-    (ts : List Term) (t : List ℕ) → slice_get terms info.number ≡ Some t → TookTerms old.writer (told old.store) ts → OnOk result (TookTerms new.writer (told new.store) (ts ++ term_of t info ∷ []))
+    (ts : List Term) (t : List ℕ) → slice_get terms info.number ≡ Some t → TookTerms old.writer (told old.store) ts →
+    OnOk result (TookTerms new.writer (told new.store) (ts ++ term_of t info ∷ []))
 
 -- where it has the terms of a collection, Lex and LexAt are its lexicon
-abbrev pub FindsLexicon : {T : Type 0} → (SureStore → Option Files) → Lexicon → Option Files → List ℕ → Result T PartErr → Type 0
-FindsLexicon told lexicon files base result = (collection : List ℕ) → IsSome files → TookTerms lexicon.writer (told lexicon.store) (terms_of collection) → OnOk result (LexiconStands files base collection)
+abbrev pub FindsLexicon : {T : Type 0} → (SureStore → Option Files) → Lexicon → Option Files → List ℕ →
+    Result T PartErr → Type 0
+FindsLexicon told lexicon files base result = (collection : List ℕ) → IsSome files →
+    TookTerms lexicon.writer (told lexicon.store) (terms_of collection) →
+    OnOk result (LexiconStands files base collection)
 
 -- where it has them, a refusal tells that they are not
-abbrev pub RefusesLexicon : {T : Type 0} → (SureStore → Option Files) → Lexicon → Option Files → List ℕ → Result T PartErr → Type 0
-RefusesLexicon told lexicon files base result = (collection : List ℕ) → IsSome files → TookTerms lexicon.writer (told lexicon.store) (terms_of collection) → IfErr result (Refutes (LexiconStands files base collection))
+abbrev pub RefusesLexicon : {T : Type 0} → (SureStore → Option Files) → Lexicon → Option Files → List ℕ →
+    Result T PartErr → Type 0
+RefusesLexicon told lexicon files base result = (collection : List ℕ) → IsSome files →
+    TookTerms lexicon.writer (told lexicon.store) (terms_of collection) →
+    IfErr result (Refutes (LexiconStands files base collection))
 
 -- ---- both
 
 -- the first lists of a range of a collection were written, and the lexicon as far as they go
-abbrev pub ListedIn : (SureStore → Option Files) → Ranged → TermNumbers → Places → ℕ → NewLists → Lexicon → List ℕ → Type 0
-ListedIn told w table before index lists lexicon collection = HasListed w table.terms before index collection lists.writer (told lists.store) lexicon.writer (told lexicon.store)
+abbrev pub ListedIn : (SureStore → Option Files) → Ranged → TermNumbers → Places → ℕ → NewLists → Lexicon → List ℕ →
+    Type 0
+ListedIn told w table before index lists lexicon collection = HasListed w table.terms before index collection
+    lists.writer (told lists.store) lexicon.writer (told lexicon.store)
 
 -- a claim where the range is one of some collection and was written so far
-abbrev pub ForListed : (SureStore → Option Files) → Ranged → TermNumbers → Places → ℕ → NewLists → Lexicon → Type 0 → Type 0
-ForListed told w table before index lists lexicon claim = (collection : List ℕ) → ListedIn told w table before index lists lexicon collection → claim
+abbrev pub ForListed : (SureStore → Option Files) → Ranged → TermNumbers → Places → ℕ → NewLists → Lexicon → Type 0 →
+    Type 0
+ForListed told w table before index lists lexicon claim = (collection : List ℕ) →
+    ListedIn told w table before index lists lexicon collection → claim
 
 -- a range that was written from its start on is written further
-abbrev pub ListsOn : {T : Type 0} → (SureStore → Option Files) → Ranged → TermNumbers → Places → ℕ → ℕ → NewLists → NewLists → Lexicon → Lexicon → Result T PartErr → Type 0
+abbrev pub ListsOn : {T : Type 0} → (SureStore → Option Files) → Ranged → TermNumbers → Places → ℕ → ℕ → NewLists →
+    NewLists → Lexicon → Lexicon → Result T PartErr → Type 0
 ListsOn told w table before index end old new lexicon lexicon_now result =
-    (collection : List ℕ) → ListedIn told w table before index old lexicon collection → OnOk result (ListedIn told w table before end new lexicon_now collection)
+    (collection : List ℕ) → ListedIn told w table before index old lexicon collection →
+    OnOk result (ListedIn told w table before end new lexicon_now collection)
 
 -- what was compared of the terms below a number may be followed by the next term
 abbrev pub CanCompareIn : (SureStore → Option Files) → Indexed → ℕ → Compared → Type 0
-CanCompareIn told of number compared = CanCompare of.table.now.terms number compared.places compared.lexicon.writer (told compared.lexicon.store)
+CanCompareIn told of number compared = CanCompare of.table.now.terms number compared.places compared.lexicon.writer
+    (told compared.lexicon.store)
 
 -- Post, Skip and the lexicon in memory agree with a collection, as far as the terms below a number
 abbrev pub ComparedIn : (SureStore → Option Files) → Option Files → Indexed → List ℕ → ℕ → Compared → Type 0
-ComparedIn told files of collection number compared = HasCompared files of.base.now collection number compared.places compared.lexicon.writer (told compared.lexicon.store)
+ComparedIn told files of collection number compared = HasCompared files of.base.now collection number compared.places
+    compared.lexicon.writer (told compared.lexicon.store)
 
 -- the terms of a range are compared, told of the moments before and after
-pub record RangeCompared {T : Type 0} (told : SureStore → Option Files) (files : Option Files) (of : Indexed) (w : Ranged) (old new : Compared) (result : Result T PartErr) : Type 0 where
+pub record RangeCompared {T : Type 0} (told : SureStore → Option Files) (files : Option Files) (of : Indexed)
+    (w : Ranged) (old new : Compared) (result : Result T PartErr) : Type 0 where
   -- the next range may be compared
   pub can : OnOk result (CanCompareIn told of (end_of_range w) new)
   -- where these are the lists of a collection, and the terms before them agree with it, the terms of the range do
-  pub agree : (collection : List ℕ) → IsSome files → AreListsOf of collection w → ComparedIn told files of collection w.first old → OnOk result (ComparedIn told files of collection (end_of_range w) new)
+  pub agree : (collection : List ℕ) → IsSome files → AreListsOf of collection w →
+      ComparedIn told files of collection w.first old →
+      OnOk result (ComparedIn told files of collection (end_of_range w) new)
   -- where they are, a refusal tells that Post and Skip are not the lists of the collection
-  pub other : (collection : List ℕ) → IsSome files → AreListsOf of collection w → ComparedIn told files of collection w.first old → IfErr result (Refutes (ListsStand files of.base.now collection))
+  pub other : (collection : List ℕ) → IsSome files → AreListsOf of collection w →
+      ComparedIn told files of collection w.first old → IfErr result (Refutes (ListsStand files of.base.now collection))
 
 -- a number is behind a range of terms that begins at one
 pub record IsBehind (of : Indexed) (first next : ℕ) : Type 0 where
@@ -336,27 +378,34 @@ pub record IsBehind (of : Indexed) (first next : ℕ) : Type 0 where
   pub within : next ≤ length of.table.now.terms
 
 -- the range that begins at a term is compared, and the term behind it is answered
-pub record NextCompared (told : SureStore → Option Files) (r : TextReading) (files : Option Files) (of : Indexed) (first : ℕ) (old new : Compared) (result : Result ℕ PartErr) : Type 0 where
+pub record NextCompared (told : SureStore → Option Files) (r : TextReading) (files : Option Files) (of : Indexed)
+    (first : ℕ) (old new : Compared) (result : Result ℕ PartErr) : Type 0 where
   -- the answer is behind the range
   pub behind : IfOk result (IsBehind of first)
   -- the next range may be compared
   pub can : IfOk result (λ next. CanCompareIn told of next new)
   -- where the terms before the range agree with the collection whose text is read, those before the answer do
-  pub agree : ForIndex r files of (λ collection. ComparedIn told files of collection first old → IfOk result (λ next. ComparedIn told files of collection next new))
+  pub agree : ForIndex r files of (λ collection. ComparedIn told files of collection first old →
+      IfOk result (λ next. ComparedIn told files of collection next new))
   -- where they do, a refusal tells that Post and Skip are not the lists of the collection
-  pub other : ForIndex r files of (λ collection. ComparedIn told files of collection first old → IfErr result (Refutes (ListsStand files of.base.now collection)))
+  pub other : ForIndex r files of (λ collection. ComparedIn told files of collection first old →
+      IfErr result (Refutes (ListsStand files of.base.now collection)))
 
 -- all terms are compared, where none was before
-pub record AllCompared {T : Type 0} (told : SureStore → Option Files) (r : TextReading) (files : Option Files) (of : Indexed) (old new : Compared) (result : Result T PartErr) : Type 0 where
+pub record AllCompared {T : Type 0} (told : SureStore → Option Files) (r : TextReading) (files : Option Files)
+    (of : Indexed) (old new : Compared) (result : Result T PartErr) : Type 0 where
   -- the lexicon in memory has them
   pub can : OnOk result (CanCompareIn told of (length of.table.now.terms) new)
   -- they agree with the collection whose text is read
-  pub agree : ForIndex r files of (λ collection. ComparedIn told files of collection 0 old → OnOk result (ComparedIn told files of collection (length of.table.now.terms) new))
+  pub agree : ForIndex r files of (λ collection. ComparedIn told files of collection 0 old →
+      OnOk result (ComparedIn told files of collection (length of.table.now.terms) new))
   -- a refusal tells that Post and Skip are not the lists of that collection
-  pub other : ForIndex r files of (λ collection. ComparedIn told files of collection 0 old → IfErr result (Refutes (ListsStand files of.base.now collection)))
+  pub other : ForIndex r files of (λ collection. ComparedIn told files of collection 0 old →
+      IfErr result (Refutes (ListsStand files of.base.now collection)))
 
 -- the index is compared
-pub record IndexCompared {T : Type 0} (r : TextReading) (files : Option Files) (of : Indexed) (result : Result T PartErr) : Type 0 where
+pub record IndexCompared {T : Type 0} (r : TextReading) (files : Option Files) (of : Indexed)
+    (result : Result T PartErr) : Type 0 where
   -- Post, Skip, Lex and LexAt are those of the collection whose text is read
   pub stand : ForIndex r files of (λ collection. OnOk result (IndexStands files of.base.now collection))
   -- a refusal tells that they are not
@@ -392,11 +441,12 @@ pub record CanFill (w : Ranged) (table : TermNumbers) : Type 0 where
   pub range : w.first + length w.next ≤ length table.terms
 
 -- a range may be compared, behind what was
-pub record CanCompareRange (told : SureStore → Option Files) (of : Indexed) (w : Ranged) (compared : Compared) : Type 0 where
-  -- it is one of the table's terms
-  pub range : IsRange w of
-  -- the terms before it were compared
-  pub can : CanCompareIn told of w.first compared
+pub record CanCompareRange (told : SureStore → Option Files) (of : Indexed) (w : Ranged) (compared : Compared) : Type 0
+  where
+    -- it is one of the table's terms
+    pub range : IsRange w of
+    -- the terms before it were compared
+    pub can : CanCompareIn told of w.first compared
 
 -- no list was written
 pub record IsNewLists (told : SureStore → Option Files) (all : ℕ) (lists : NewLists) : Type 0 where
@@ -417,7 +467,8 @@ pub record WritesOn {T : Type 0} (old new : NewLists) (result : Result T PartErr
   pub own : IfErr result IsNotDevice
 
 -- lists are written, and the lexicon of their terms
-pub record WritesTerms {T : Type 0} (old new : NewLists) (lexicon lexicon_now : Lexicon) (result : Result T PartErr) : Type 0 where
+pub record WritesTerms {T : Type 0} (old new : NewLists) (lexicon lexicon_now : Lexicon) (result : Result T PartErr) :
+    Type 0 where
   pub lists : WritesOn old new result
   -- the lexicon goes where it went
   pub base : lexicon_now.writer.base ≡ lexicon.writer.base
@@ -434,4 +485,5 @@ pub record CanWrite (lists : NewLists) (w : Ranged) (of : Indexed) (before : Pla
 -- nothing was compared
 pub record IsStart (told : SureStore → Option Files) (compared : Compared) : Type 0 where
   pub can : (of : Indexed) → CanCompareIn told of 0 compared
-  pub none : (files : Option Files) (of : Indexed) (collection : List ℕ) → ComparedIn told files of collection 0 compared
+  pub none : (files : Option Files) (of : Indexed) (collection : List ℕ) →
+      ComparedIn told files of collection 0 compared

@@ -45,7 +45,8 @@ pub record RestStands (files : Option Files) (base : List ℕ) (head : Head) (co
   pub index : IndexStands files base collection
 
 -- a set is checked, where this is known of it
-pub record SetChecked {T : Type 0} (known : Type 0) (files : Option Files) (base : List ℕ) (head : Head) (result : Result T PartErr) : Type 0 where
+pub record SetChecked {T : Type 0} (known : Type 0) (files : Option Files) (base : List ℕ) (head : Head)
+    (result : Result T PartErr) : Type 0 where
   -- yes: its files stand for a collection of as many documents and bytes as the head has
   pub stands : known → OnOk result (StandsWith files base head.documents head.collection)
   -- a damage: they stand for none

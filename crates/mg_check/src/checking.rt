@@ -59,8 +59,10 @@ fn expect_number(at: u64, counted: u64, found: u64) -> Result<(), PartErr>
 // Sees that Post and Skip have the sizes that the head tells.
 fn expect_sizes<S: Store>(store: &mut S, base: &str, head: &Head) -> Result<(), PartErr>
     requires entries { head.now.skip_count < 2 ^ 32 }
-    ensures sizes { IsSome (S.files store.old) → OnOk result (HaveSizes (parts_at (S.files store.old) base.now) head.now) }
-    ensures other { IsSome (S.files store.old) → IfErr result (Refutes (HaveSizes (parts_at (S.files store.old) base.now) head.now)) }
+    ensures sizes { IsSome (S.files store.old) →
+        OnOk result (HaveSizes (parts_at (S.files store.old) base.now) head.now) }
+    ensures other { IsSome (S.files store.old) →
+        IfErr result (Refutes (HaveSizes (parts_at (S.files store.old) base.now) head.now)) }
     ensures looks { Between S.files S.reads S.faults store.old store.new (LooksAtSet result) }
 {
     let post = FileRef {
@@ -97,8 +99,10 @@ fn run_size(head: &Head) -> u32
 // Sees that the head tells so many terms, and that Post and Skip have the sizes that it tells.
 fn expect_told<S: Store>(store: &mut S, base: &str, head: &Head, terms: u64) -> Result<(), PartErr>
     requires entries { head.now.skip_count < 2 ^ 32 }
-    ensures told { IsSome (S.files store.old) → OnOk result (IsTold (parts_at (S.files store.old) base.now) head.now terms) }
-    ensures other { IsSome (S.files store.old) → IfErr result (Refutes (IsTold (parts_at (S.files store.old) base.now) head.now terms)) }
+    ensures told { IsSome (S.files store.old) →
+        OnOk result (IsTold (parts_at (S.files store.old) base.now) head.now terms) }
+    ensures other { IsSome (S.files store.old) →
+        IfErr result (Refutes (IsTold (parts_at (S.files store.old) base.now) head.now terms)) }
     ensures looks { Between S.files S.reads S.faults store.old store.new (LooksAtSet result) }
 {
     match expect_number(TERMS_AT, terms, u64::from(head.terms)) {
@@ -120,8 +124,10 @@ fn check_parts<S: Store>(
 ) -> Result<(), PartErr>
     requires reads { ReadsBy reader.old (S.files store.old) head.now }
     requires text { HasTerms reader.old (S.files store.old) table.now head.now.documents }
-    ensures stand { WhereTextStands reader.old (S.files store.old) (λ collection. OnOk result (PartsStand (S.files store.old) base.now head.now collection)) }
-    ensures other { WhereTextStands reader.old (S.files store.old) (RefutesParts (S.files store.old) base.now head.now result) }
+    ensures stand { WhereTextStands reader.old (S.files store.old)
+        (λ collection. OnOk result (PartsStand (S.files store.old) base.now head.now collection)) }
+    ensures other { WhereTextStands reader.old (S.files store.old)
+        (RefutesParts (S.files store.old) base.now head.now result) }
     ensures looks { Between S.files S.reads S.faults store.old store.new (LooksAtSet result) }
 {
     let documents = head.documents;
@@ -154,8 +160,10 @@ fn check_rest<S: Store>(
     reader: &mut TextReader<'_, S>,
 ) -> Result<(), PartErr>
     requires reads { ReadsBy reader.old (S.files store.old) head.now }
-    ensures stand { WhereTextStands reader.old (S.files store.old) (λ collection. OnOk result (RestStands (S.files store.old) base.now head.now collection)) }
-    ensures other { WhereTextStands reader.old (S.files store.old) (RefutesRest (S.files store.old) base.now head.now result) }
+    ensures stand { WhereTextStands reader.old (S.files store.old)
+        (λ collection. OnOk result (RestStands (S.files store.old) base.now head.now collection)) }
+    ensures other { WhereTextStands reader.old (S.files store.old)
+        (RefutesRest (S.files store.old) base.now head.now result) }
     ensures looks { Between S.files S.reads S.faults store.old store.new (LooksAtSet result) }
 {
     let table = match TermTable::of(alloc, reader.model()) {

@@ -44,8 +44,10 @@ impl<'a> Comparison<'a> {
     /// Compares the next bytes of the part with these.
     pub(crate) fn expect<S: Store>(&mut self, store: &mut S, wanted: &[u8]) -> Result<(), PartErr>
         requires place { self.old.at + length wanted.now ≤ 2 ^ 63 }
-        ensures begun { OnOk result (HasBegunMore S.files store.old store.new self.old self.new wanted.now) }
-        ensures bad { IsSome (S.files store.old) → WhereBad (GoesOnOtherwise self.old (S.files store.old) wanted.now) result }
+        ensures begun { OnOk result (HasBegunMore S.files store.old store.new self.old self.new
+            wanted.now) }
+        ensures bad { IsSome (S.files store.old) →
+            WhereBad (GoesOnOtherwise self.old (S.files store.old) wanted.now) result }
         ensures at { OnOk result (self.new.at ≡ self.old.at + length wanted.now) }
         ensures name { self.new.name ≡ self.old.name }
         ensures looks { Between S.files S.reads S.faults store.old store.new (LooksAtSet result) }
@@ -64,8 +66,10 @@ impl<'a> Comparison<'a> {
 
     /// Refuses a part that has more bytes than were compared.
     pub(crate) fn finish<S: Store>(&self, store: &mut S) -> Result<(), PartErr>
-        ensures done { IsSome (S.files store.old) → OnOk result (EndsThere self.now (S.files store.old)) }
-        ensures bad { IsSome (S.files store.old) → WhereBad (EndsElsewhere self.now (S.files store.old)) result }
+        ensures done { IsSome (S.files store.old) →
+            OnOk result (EndsThere self.now (S.files store.old)) }
+        ensures bad { IsSome (S.files store.old) →
+            WhereBad (EndsElsewhere self.now (S.files store.old)) result }
         ensures looks { Between S.files S.reads S.faults store.old store.new (LooksAtSet result) }
     {
         let file = FileRef {

@@ -32,15 +32,20 @@ pub struct Found {
 /// `StoreFault` where the store failed, and `Memory`. Which of several damages is told is not promised.
 pub fn check<S: Store>(alloc: Global, store: &mut S, base: &str) -> Result<Found, Fault>
     // Yes: the files stand for a collection of so many documents and bytes.
-    ensures stands { IsSome (S.files store.old) → IfOk result (λ found. StandsWith (S.files store.old) base.now found.documents found.bytes) }
+    ensures stands { IsSome (S.files store.old) →
+        IfOk result (λ found. StandsWith (S.files store.old) base.now found.documents found.bytes) }
     // No, and every other refusal, has its cause. A damage is told by a number outside its range.
-    ensures cause { IfErr result (CheckStops (Rose (S.faults store.old) (S.faults store.new)) (S.files store.old) base.now) }
+    ensures cause { IfErr result (CheckStops (Rose (S.faults store.old) (S.faults store.new))
+        (S.files store.old) base.now) }
     ensures outside { IfErr result TellsOutside }
     // Where there is no head, that is told, unless the store fails; memory is not wanted there.
-    ensures not_built { IsSome (S.files store.old) → HasNoHead (S.files store.old) base.now → TellsNotBuilt result }
-    ensures early { IsSome (S.files store.old) → HasNoHead (S.files store.old) base.now → result ≢ Err fault.Memory }
+    ensures not_built { IsSome (S.files store.old) → HasNoHead (S.files store.old) base.now →
+        TellsNotBuilt result }
+    ensures early { IsSome (S.files store.old) → HasNoHead (S.files store.old) base.now →
+        result ≢ Err fault.Memory }
     // Where the files stand and the store does not fail, the answer is yes, or memory is wanting.
-    ensures complete { IfStands (S.files store.old) base.now (¬ Rose (S.faults store.old) (S.faults store.new) →
+    ensures complete { IfStands (S.files store.old) base.now
+        (¬ Rose (S.faults store.old) (S.faults store.new) →
         IfErr result (λ refusal. refusal ≡ fault.Memory)) }
     // No file changes.
     ensures files { S.files store.new ≡ S.files store.old }
@@ -53,9 +58,12 @@ pub fn check<S: Store>(alloc: Global, store: &mut S, base: &str) -> Result<Found
 
 // The same, with the clauses from which the others follow.
 fn check_files<S: Store>(alloc: Global, store: &mut S, base: &str) -> Result<Found, Fault>
-    ensures stands { IsSome (S.files store.old) → IfOk result (λ found. StandsWith (S.files store.old) base.now found.documents found.bytes) }
-    ensures cause { IfErr result (CheckStops (Rose (S.faults store.old) (S.faults store.new)) (S.files store.old) base.now) }
-    ensures early { IsSome (S.files store.old) → HasNoHead (S.files store.old) base.now → result ≢ Err fault.Memory }
+    ensures stands { IsSome (S.files store.old) →
+        IfOk result (λ found. StandsWith (S.files store.old) base.now found.documents found.bytes) }
+    ensures cause { IfErr result (CheckStops (Rose (S.faults store.old) (S.faults store.new))
+        (S.files store.old) base.now) }
+    ensures early { IsSome (S.files store.old) → HasNoHead (S.files store.old) base.now →
+        result ≢ Err fault.Memory }
     ensures files { S.files store.new ≡ S.files store.old }
     ensures unread { reads_outside (S.reads store.new) ≡ reads_outside (S.reads store.old) }
     ensures later { S.faults store.old ≤ S.faults store.new }

@@ -116,8 +116,11 @@ fn check_ranges<S: Store>(
 
 // Sees that Post and Skip have no bytes behind two places.
 fn expect_ends<S: Store>(store: &mut S, base: &str, ends: Places) -> Result<(), PartErr>
-    ensures stand { ForEnds (S.files store.old) base.now ends (λ collection. OnOk result (ListsStand (S.files store.old) base.now collection)) }
-    ensures other { ForEnds (S.files store.old) base.now ends (λ collection. IfErr result (Refutes (ListsStand (S.files store.old) base.now collection))) }
+    ensures stand { ForEnds (S.files store.old) base.now ends
+        (λ collection. OnOk result (ListsStand (S.files store.old) base.now collection)) }
+    ensures other { ForEnds (S.files store.old) base.now ends
+        (λ collection.
+        IfErr result (Refutes (ListsStand (S.files store.old) base.now collection))) }
     ensures looks { Between S.files S.reads S.faults store.old store.new (LooksAtSet result) }
 {
     let lists = FileRef {

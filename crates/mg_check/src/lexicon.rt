@@ -26,8 +26,10 @@ pub(crate) struct Lexicon<'a> {
 impl<'a> Lexicon<'a> {
     /// The lexicon of no term.
     pub(crate) fn start(alloc: Global) -> Result<Self, AllocError>
-        ensures took { IfOk result (λ lexicon. TookTerms lexicon.writer (⟦<SureStore as Store>⟧.files lexicon.store) []) }
-        ensures can { IfOk result (λ lexicon. (terms : List (List ℕ)) → CanPush terms 0 lexicon.writer (⟦<SureStore as Store>⟧.files lexicon.store)) }
+        ensures took { IfOk result (λ lexicon.
+            TookTerms lexicon.writer (⟦<SureStore as Store>⟧.files lexicon.store) []) }
+        ensures can { IfOk result (λ lexicon. (terms : List (List ℕ)) →
+            CanPush terms 0 lexicon.writer (⟦<SureStore as Store>⟧.files lexicon.store)) }
         ensures base { IfOk result (λ lexicon. lexicon.writer.base ≡ codes "new") }
     {
         let mut store = SureStore::new(alloc);
@@ -39,12 +41,15 @@ impl<'a> Lexicon<'a> {
 
     /// Writes what is to stand of the next term of a table.
     pub(crate) fn push(&mut self, table: &TermTable, info: &TermInfo) -> Result<(), AllocError>
-        requires can { CanPush table.now.terms info.now.number self.old.writer (⟦<SureStore as Store>⟧.files self.old.store) }
+        requires can { CanPush table.now.terms info.now.number self.old.writer
+            (⟦<SureStore as Store>⟧.files self.old.store) }
         requires number { info.now.number < length table.now.terms }
         requires few { length table.now.terms ≤ 2 ^ 22 }
         requires rising { IsStrictlySortedBy (slice_cmp nat_cmp) table.now.terms }
-        ensures can { OnOk result (CanPush table.now.terms (info.now.number + 1) self.new.writer (⟦<SureStore as Store>⟧.files self.new.store)) }
-        ensures took { TakesTerm ⟦<SureStore as Store>⟧.files table.now.terms info.now self.old self.new result }
+        ensures can { OnOk result (CanPush table.now.terms (info.now.number + 1) self.new.writer
+            (⟦<SureStore as Store>⟧.files self.new.store)) }
+        ensures took { TakesTerm ⟦<SureStore as Store>⟧.files table.now.terms info.now self.old
+            self.new result }
         ensures base { self.new.writer.base ≡ self.old.writer.base }
     {
         match self
@@ -58,10 +63,13 @@ impl<'a> Lexicon<'a> {
 
     /// Sees that Lex and LexAt are the lexicon of the terms that were pushed, and nothing else.
     pub(crate) fn check<S: Store>(&mut self, store: &mut S, base: &str) -> Result<(), PartErr>
-        requires can { (terms : List (List ℕ)) × (number : ℕ) × CanPush terms number self.old.writer (⟦<SureStore as Store>⟧.files self.old.store) }
+        requires can { (terms : List (List ℕ)) × (number : ℕ)
+            × CanPush terms number self.old.writer (⟦<SureStore as Store>⟧.files self.old.store) }
         requires base { self.old.writer.base ≡ codes "new" }
-        ensures stand { FindsLexicon ⟦<SureStore as Store>⟧.files self.old (S.files store.old) base.now result }
-        ensures other { RefusesLexicon ⟦<SureStore as Store>⟧.files self.old (S.files store.old) base.now result }
+        ensures stand { FindsLexicon ⟦<SureStore as Store>⟧.files self.old (S.files store.old)
+            base.now result }
+        ensures other { RefusesLexicon ⟦<SureStore as Store>⟧.files self.old (S.files store.old)
+            base.now result }
         ensures looks { Between S.files S.reads S.faults store.old store.new (LooksAtSet result) }
     {
         // By this law the entries of a collection's terms are its lexicon.

@@ -64,7 +64,8 @@ fn other_list(found: u64, low: u64, high: u64) -> Bad
 fn info_behind(number: u32, docs: u32, before: Places, at: (u64, u32)) -> Option<TermInfo>
     requires post { before.post + at.0 < 2 ^ 64 }
     ensures number { IfSome result (λ info. info.number ≡ number) }
-    ensures info { IfSome result (λ info. info_of info ≡ record { docs = docs; post_at = before.post + at.0; skip_at = before.skip / 16 + at.1 }) }
+    ensures info { IfSome result (λ info. info_of info ≡
+        record { docs = docs; post_at = before.post + at.0; skip_at = before.skip / 16 + at.1 }) }
     ensures some { before.skip / 16 + at.1 < 2 ^ 32 → IsSome result }
 {
     match u32::try_from(before.skip / SKIP_ENTRY_BYTES + u64::from(at.1)) {
@@ -93,16 +94,19 @@ impl<'a> NewLists<'a> {
 
     // One posting more of the list that was begun, which is to be of a later document than the last one.
     fn push(&mut self, posting: Posting, last: u32, all: u32) -> Result<(), PartErr>
-        requires took { (done : List (List Posting)) × (ps : List Posting) × Took self.old.writer (⟦<SureStore as Store>⟧.files self.old.store) done ps }
+        requires took { (done : List (List Posting)) × (ps : List Posting)
+            × Took self.old.writer (⟦<SureStore as Store>⟧.files self.old.store) done ps }
         requires last { self.old.writer.last ≡ last }
         requires few { last ≤ 2 ^ 24 }
         requires all { self.old.writer.all ≡ all }
         requires more { self.old.writer.pushed < self.old.writer.docs }
         requires total { self.old.writer.total < 2 ^ 32 }
-        ensures took { OnOk result (TookPosting ⟦<SureStore as Store>⟧.files self.old self.new posting) }
+        ensures took { OnOk result (TookPosting ⟦<SureStore as Store>⟧.files self.old self.new
+            posting) }
         ensures pushed { OnOk result (Pushed self.old.writer self.new.writer posting.doc) }
         ensures within { OnOk result (posting.doc ≤ all) }
-        ensures never_bad { (left : List Posting) → Rises all last (posting ∷ left) → IfErr result (λ refusal. IsNotBad refusal) }
+        ensures never_bad { (left : List Posting) → Rises all last (posting ∷ left) →
+            IfErr result (λ refusal. IsNotBad refusal) }
         ensures step { WritesOn self.old self.new result }
     {
         let doc = u64::from(posting.doc);
@@ -123,15 +127,18 @@ impl<'a> NewLists<'a> {
 
     // All postings of the list that was begun.
     fn push_all(&mut self, postings: &[Posting], all: u32) -> Result<(), PartErr>
-        requires took { (done : List (List Posting)) × Took self.old.writer (⟦<SureStore as Store>⟧.files self.old.store) done [] }
+        requires took { (done : List (List Posting)) × Took self.old.writer
+            (⟦<SureStore as Store>⟧.files self.old.store) done [] }
         requires none { self.old.writer.pushed ≡ 0 }
         requires last { self.old.writer.last ≡ 0 }
         requires all { self.old.writer.all ≡ all }
         requires few { all ≤ 2 ^ 24 }
         requires more { length postings.now ≤ self.old.writer.docs }
         requires total { self.old.writer.total + length postings.now ≤ 2 ^ 32 }
-        ensures took { OnOk result (TookPostings ⟦<SureStore as Store>⟧.files self.old self.new postings.now) }
-        ensures pushed { OnOk result (PushedMore self.old.writer self.new.writer (length postings.now)) }
+        ensures took { OnOk result (TookPostings ⟦<SureStore as Store>⟧.files self.old self.new
+            postings.now) }
+        ensures pushed { OnOk result
+            (PushedMore self.old.writer self.new.writer (length postings.now)) }
         ensures never_bad { Rises all 0 postings.now → IfErr result (λ refusal. IsNotBad refusal) }
         ensures step { WritesOn self.old self.new result }
     {
@@ -148,17 +155,20 @@ impl<'a> NewLists<'a> {
 
     // A whole list of so many postings. Answers the byte where it begins and the number of its first skip entry.
     fn write(&mut self, postings: &[Posting], count: u32, all: u32) -> Result<(u64, u32), PartErr>
-        requires took { (done : List (List Posting)) × Took self.old.writer (⟦<SureStore as Store>⟧.files self.old.store) done [] }
+        requires took { (done : List (List Posting)) × Took self.old.writer
+            (⟦<SureStore as Store>⟧.files self.old.store) done [] }
         requires all { self.old.writer.all ≡ all }
         requires few { all ≤ 2 ^ 24 }
         requires some { 1 ≤ count }
         requires within { count ≤ all }
         requires total { self.old.writer.total + count ≤ 2 ^ 32 }
-        ensures took { OnOk result (TookList ⟦<SureStore as Store>⟧.files self.old self.new postings.now) }
+        ensures took { OnOk result (TookList ⟦<SureStore as Store>⟧.files self.old self.new
+            postings.now) }
         ensures answer { IfOk result (AreEndsOf ⟦<SureStore as Store>⟧.files self.old all) }
         ensures between { OnOk result (self.new.writer.pushed ≡ 0) }
         ensures total { OnOk result (self.new.writer.total ≡ self.old.writer.total + count) }
-        ensures never_bad { Rises all 0 postings.now → length postings.now ≡ count → IfErr result (λ refusal. IsNotBad refusal) }
+        ensures never_bad { Rises all 0 postings.now → length postings.now ≡ count →
+            IfErr result (λ refusal. IsNotBad refusal) }
         ensures step { WritesOn self.old self.new result }
     {
         if postings.len() != count as usize {
@@ -191,10 +201,12 @@ impl<'a> NewLists<'a> {
     ) -> Result<(), PartErr>
         requires write { CanWrite self.old lists.now of.now before }
         requires index { index < length lists.now.next }
-        requires can { CanList lists.now index self.old.writer (⟦<SureStore as Store>⟧.files self.old.store) }
+        requires can { CanList lists.now index self.old.writer
+            (⟦<SureStore as Store>⟧.files self.old.store) }
         requires push { CanPushIn ⟦<SureStore as Store>⟧.files of.now.table.now.terms
             (lists.now.first + index) lexicon.old }
-        ensures can { OnOk result (CanList lists.now (index + 1) self.new.writer (⟦<SureStore as Store>⟧.files self.new.store)) }
+        ensures can { OnOk result (CanList lists.now (index + 1) self.new.writer
+            (⟦<SureStore as Store>⟧.files self.new.store)) }
         ensures push { OnOk result (CanPushIn ⟦<SureStore as Store>⟧.files of.now.table.now.terms
             (lists.now.first + (index + 1)) lexicon.new) }
         ensures listed { ListsOn ⟦<SureStore as Store>⟧.files lists.now of.now.table.now before
@@ -227,10 +239,12 @@ impl<'a> NewLists<'a> {
         lexicon: &mut Lexicon<'_>,
     ) -> Result<(), PartErr>
         requires write { CanWrite self.old lists.now of.now before }
-        requires can { CanList lists.now 0 self.old.writer (⟦<SureStore as Store>⟧.files self.old.store) }
+        requires can { CanList lists.now 0 self.old.writer
+            (⟦<SureStore as Store>⟧.files self.old.store) }
         requires push { CanPushIn ⟦<SureStore as Store>⟧.files of.now.table.now.terms
             lists.now.first lexicon.old }
-        ensures can { OnOk result (CanList lists.now (length lists.now.next) self.new.writer (⟦<SureStore as Store>⟧.files self.new.store)) }
+        ensures can { OnOk result (CanList lists.now (length lists.now.next) self.new.writer
+            (⟦<SureStore as Store>⟧.files self.new.store)) }
         ensures push { OnOk result (CanPushIn ⟦<SureStore as Store>⟧.files of.now.table.now.terms
             (lists.now.first + length lists.now.next) lexicon.new) }
         ensures listed { ListsOn ⟦<SureStore as Store>⟧.files lists.now of.now.table.now before
@@ -256,13 +270,17 @@ impl<'a> NewLists<'a> {
         base: &str,
         before: Places,
     ) -> Result<Places, PartErr>
-        requires took { (done : List (List Posting)) × Took self.old.writer (⟦<SureStore as Store>⟧.files self.old.store) done [] }
+        requires took { (done : List (List Posting)) × Took self.old.writer
+            (⟦<SureStore as Store>⟧.files self.old.store) done [] }
         requires post { self.old.writer.post.name ≡ full_name (codes "new") part.Post }
         requires skip { self.old.writer.skip.name ≡ full_name (codes "new") part.Skip }
         requires places { ArePlaces before }
-        ensures stand { ForWritten ⟦<SureStore as Store>⟧.files self.old (FindsFollowing (S.files store.old) base.now self.old before result) }
-        ensures other { ForWritten ⟦<SureStore as Store>⟧.files self.old (RefutesFollowing (S.files store.old) base.now self.old before result) }
-        ensures behind { ForWritten ⟦<SureStore as Store>⟧.files self.old (λ done. IfOk result (λ after. AreBehind self.old.writer.all done before after)) }
+        ensures stand { ForWritten ⟦<SureStore as Store>⟧.files self.old
+            (FindsFollowing (S.files store.old) base.now self.old before result) }
+        ensures other { ForWritten ⟦<SureStore as Store>⟧.files self.old
+            (RefutesFollowing (S.files store.old) base.now self.old before result) }
+        ensures behind { ForWritten ⟦<SureStore as Store>⟧.files self.old
+            (λ done. IfOk result (λ after. AreBehind self.old.writer.all done before after)) }
         ensures places { IfOk result (λ after. ArePlaces after) }
         ensures looks { Between S.files S.reads S.faults store.old store.new (LooksAtSet result) }
     {
@@ -297,7 +315,8 @@ impl<'a> NewLists<'a> {
         compared: &mut Compared<'_>,
     ) -> Result<(), PartErr>
         requires new { IsNewLists ⟦<SureStore as Store>⟧.files of.now.documents self.old }
-        requires range { CanCompareRange ⟦<SureStore as Store>⟧.files of.now lists.now compared.old }
+        requires range { CanCompareRange ⟦<SureStore as Store>⟧.files of.now lists.now
+            compared.old }
         ensures range { RangeCompared ⟦<SureStore as Store>⟧.files (S.files store.old) of.now
             lists.now compared.old compared.new result }
         ensures looks { Between S.files S.reads S.faults store.old store.new (LooksAtSet result) }

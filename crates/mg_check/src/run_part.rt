@@ -49,8 +49,10 @@ fn write_into<S: Store>(alloc: Global, store: &mut S, pool: &mut Pool) -> Result
     requires some { 1 ≤ length pool.old.entries }
     requires many { length pool.old.entries ≤ 2 ^ 32 }
     requires entries { AreEntries pool.old.entries }
-    ensures bytes { IsSome (S.files store.old) → OnOk result (run_bytes (S.files store.new) ≡ run_of_pool pool.old) }
-    ensures few { IsSome (S.files store.old) → OnOk result (length (run_bytes (S.files store.new)) ≤ 16 + 32 * length pool.old.entries) }
+    ensures bytes { IsSome (S.files store.old) →
+        OnOk result (run_bytes (S.files store.new) ≡ run_of_pool pool.old) }
+    ensures few { IsSome (S.files store.old) →
+        OnOk result (length (run_bytes (S.files store.new)) ≤ 16 + 32 * length pool.old.entries) }
     ensures empty { OnOk result (pool.new.entries ≡ []) }
     ensures slots { OnOk result (pool.old.slots ≡ [] → pool.new.slots ≡ []) }
     ensures limit { pool.new.limit ≡ pool.old.limit }
@@ -78,8 +80,10 @@ fn write_run(alloc: Global, pool: &mut Pool) -> Result<SureStore, AllocError>
     requires some { 1 ≤ length pool.old.entries }
     requires many { length pool.old.entries ≤ 2 ^ 32 }
     requires entries { AreEntries pool.old.entries }
-    ensures bytes { IfOk result (λ store. run_bytes (⟦<SureStore as Store>⟧.files store) ≡ run_of_pool pool.old) }
-    ensures few { IfOk result (λ store. length (run_bytes (⟦<SureStore as Store>⟧.files store)) ≤ 16 + 32 * length pool.old.entries) }
+    ensures bytes { IfOk result (λ store. run_bytes (⟦<SureStore as Store>⟧.files store)
+        ≡ run_of_pool pool.old) }
+    ensures few { IfOk result (λ store. length (run_bytes (⟦<SureStore as Store>⟧.files store))
+        ≤ 16 + 32 * length pool.old.entries) }
     ensures empty { OnOk result (pool.new.entries ≡ []) }
     ensures slots { OnOk result (pool.old.slots ≡ [] → pool.new.slots ≡ []) }
     ensures limit { pool.new.limit ≡ pool.old.limit }
@@ -124,9 +128,13 @@ impl<'a> RunPart<'a> {
         requires many { length self.old.pool.entries ≤ 2 ^ 32 }
         requires entries { AreEntries self.old.pool.entries }
         requires place { self.old.part.at ≤ 2 ^ 62 }
-        ensures begun { OnOk result (HasBegunMore S.files store.old store.new self.old.part self.new.part (run_of_pool self.old.pool)) }
-        ensures bad { IsSome (S.files store.old) → WhereBad (GoesOnOtherwise self.old.part (S.files store.old) (run_of_pool self.old.pool)) result }
-        ensures place { OnOk result (self.new.part.at ≤ self.old.part.at + 16 + 32 * length self.old.pool.entries) }
+        ensures begun { OnOk result (HasBegunMore S.files store.old store.new self.old.part
+            self.new.part (run_of_pool self.old.pool)) }
+        ensures bad { IsSome (S.files store.old) →
+            WhereBad (GoesOnOtherwise self.old.part (S.files store.old) (run_of_pool self.old.pool))
+            result }
+        ensures place { OnOk result (self.new.part.at ≤ self.old.part.at + 16 + 32
+            * length self.old.pool.entries) }
         ensures empty { OnOk result (self.new.pool.entries ≡ []) }
         ensures slots { OnOk result (self.old.pool.slots ≡ [] → self.new.pool.slots ≡ []) }
         ensures limit { self.new.pool.limit ≡ self.old.pool.limit }
@@ -150,10 +158,13 @@ impl<'a> RunPart<'a> {
         term: u32,
         doc: u32,
     ) -> Result<(), PartErr>
-        requires taken { (fed : List (ℕ × ℕ)) × (length fed < 2 ^ 32 - 1) × HasTaken self.old (S.files store.old) fed }
+        requires taken { (fed : List (ℕ × ℕ)) × (length fed < 2 ^ 32 - 1)
+            × HasTaken self.old (S.files store.old) fed }
         requires doc { 1 ≤ doc }
-        ensures taken { OnOk result (HasTakenOne S.files store.old store.new self.old self.new (term, doc)) }
-        ensures bad { IsSome (S.files store.old) → WhereBad (RunsOtherwise self.old (S.files store.old)) result }
+        ensures taken { OnOk result (HasTakenOne S.files store.old store.new self.old self.new
+            (term, doc)) }
+        ensures bad { IsSome (S.files store.old) →
+            WhereBad (RunsOtherwise self.old (S.files store.old)) result }
         ensures limit { self.new.pool.limit ≡ self.old.pool.limit }
         ensures name { self.new.part.name ≡ self.old.part.name }
         ensures looks { Between S.files S.reads S.faults store.old store.new (LooksAtSet result) }
@@ -177,10 +188,13 @@ impl<'a> RunPart<'a> {
         numbers: &[u32],
         doc: u32,
     ) -> Result<(), PartErr>
-        requires taken { (fed : List (ℕ × ℕ)) × (length fed + length numbers.now < 2 ^ 32) × HasTaken self.old (S.files store.old) fed }
+        requires taken { (fed : List (ℕ × ℕ)) × (length fed + length numbers.now < 2 ^ 32)
+            × HasTaken self.old (S.files store.old) fed }
         requires doc { 1 ≤ doc }
-        ensures taken { OnOk result (HasTakenAll S.files store.old store.new self.old self.new doc numbers.now) }
-        ensures bad { IsSome (S.files store.old) → WhereBad (RunsOtherwiseOn self.old (S.files store.old) doc numbers.now) result }
+        ensures taken { OnOk result (HasTakenAll S.files store.old store.new self.old self.new doc
+            numbers.now) }
+        ensures bad { IsSome (S.files store.old) →
+            WhereBad (RunsOtherwiseOn self.old (S.files store.old) doc numbers.now) result }
         ensures limit { self.new.pool.limit ≡ self.old.pool.limit }
         ensures name { self.new.part.name ≡ self.old.part.name }
         ensures looks { Between S.files S.reads S.faults store.old store.new (LooksAtSet result) }
@@ -197,8 +211,10 @@ impl<'a> RunPart<'a> {
     // Compares what is left in the pool as the last run.
     fn compare_rest<S: Store>(&mut self, store: &mut S) -> Result<(), PartErr>
         requires taken { (fed : List (ℕ × ℕ)) × HasTaken self.old (S.files store.old) fed }
-        ensures begun { OnOk result (HasBegunRuns S.files store.old store.new self.old self.new.part) }
-        ensures bad { IsSome (S.files store.old) → WhereBad (AreOtherRuns self.old (S.files store.old)) result }
+        ensures begun { OnOk result (HasBegunRuns S.files store.old store.new self.old
+            self.new.part) }
+        ensures bad { IsSome (S.files store.old) →
+            WhereBad (AreOtherRuns self.old (S.files store.old)) result }
         ensures name { self.new.part.name ≡ self.old.part.name }
         ensures looks { Between S.files S.reads S.faults store.old store.new (LooksAtSet result) }
     {
@@ -216,8 +232,10 @@ impl<'a> RunPart<'a> {
     /// Compares what is left as the last run, and refuses a part with more bytes.
     pub(crate) fn finish<S: Store>(&mut self, store: &mut S) -> Result<(), PartErr>
         requires taken { (fed : List (ℕ × ℕ)) × HasTaken self.old (S.files store.old) fed }
-        ensures done { IsSome (S.files store.old) → OnOk result (AreItsRuns self.old (S.files store.old)) }
-        ensures bad { IsSome (S.files store.old) → WhereBad (AreOtherRuns self.old (S.files store.old)) result }
+        ensures done { IsSome (S.files store.old) →
+            OnOk result (AreItsRuns self.old (S.files store.old)) }
+        ensures bad { IsSome (S.files store.old) →
+            WhereBad (AreOtherRuns self.old (S.files store.old)) result }
         ensures looks { Between S.files S.reads S.faults store.old store.new (LooksAtSet result) }
     {
         match self.compare_rest(store) {

@@ -72,8 +72,10 @@ impl<'a> Tally<'a> {
     ) -> Result<Self, AllocError>
         requires least { 341 ≤ cap }
         requires most { cap ≤ 89478485 }
-        ensures tallied { IfOk result (λ t. (files : Option Files) (words : List (List ℕ)) → length words ≡ terms → HasTallied t files words []) }
-        ensures weights { IfOk result (λ t. t.weights.part.name ≡ full_name base.entry.now part.Weights) }
+        ensures tallied { IfOk result (λ t. (files : Option Files) (words : List (List ℕ)) →
+            length words ≡ terms → HasTallied t files words []) }
+        ensures weights { IfOk result (λ t. t.weights.part.name
+            ≡ full_name base.entry.now part.Weights) }
         ensures run { IfOk result (λ t. t.runs.part.name ≡ full_name base.entry.now part.Run) }
         ensures cap { IfOk result (λ t. cap_of t.runs.pool ≡ cap) }
     {
@@ -95,8 +97,10 @@ impl<'a> Tally<'a> {
         terms: &TermReader,
     ) -> Result<(), PartErr>
         requires can { CanAdd self.old (S.files store.old) number terms.now }
-        ensures tallied { OnOk result (TalliedNext S.files store.old store.new self.old self.new number terms.now) }
-        ensures bad { IsSome (S.files store.old) → WhereBad (NoneGoesOn self.old (S.files store.old) number terms.now) result }
+        ensures tallied { OnOk result
+            (TalliedNext S.files store.old store.new self.old self.new number terms.now) }
+        ensures bad { IsSome (S.files store.old) →
+            WhereBad (NoneGoesOn self.old (S.files store.old) number terms.now) result }
         ensures same { SameParts self.old self.new }
         ensures looks { Between S.files S.reads S.faults store.old store.new (LooksAtSet result) }
     {
@@ -121,9 +125,12 @@ impl<'a> Tally<'a> {
 
     /// Compares what is left of both parts, and refuses more bytes.
     pub(crate) fn finish<S: Store>(&mut self, store: &mut S) -> Result<(), PartErr>
-        requires tallied { (words docs : List (List ℕ)) × (length docs < 2 ^ 32) × HasTallied self.old (S.files store.old) words docs }
-        ensures done { IsSome (S.files store.old) → OnOk result (AreTallied self.old (S.files store.old)) }
-        ensures bad { IsSome (S.files store.old) → WhereBad (NotTallied self.old (S.files store.old)) result }
+        requires tallied { (words docs : List (List ℕ)) × (length docs < 2 ^ 32)
+            × HasTallied self.old (S.files store.old) words docs }
+        ensures done { IsSome (S.files store.old) →
+            OnOk result (AreTallied self.old (S.files store.old)) }
+        ensures bad { IsSome (S.files store.old) →
+            WhereBad (NotTallied self.old (S.files store.old)) result }
         ensures docs { self.new.docs ≡ self.old.docs }
         ensures occurrences { self.new.occurrences ≡ self.old.occurrences }
         ensures looks { Between S.files S.reads S.faults store.old store.new (LooksAtSet result) }

@@ -49,9 +49,12 @@ impl<'a> Weights<'a> {
     /// Takes the weight of the next document.
     pub(crate) fn push<S: Store>(&mut self, store: &mut S, weight: u32) -> Result<(), PartErr>
         requires place { self.old.part.at + length self.old.held + 4 ≤ 2 ^ 63 }
-        ensures weighed { OnOk result (HasWeighedMore S.files store.old store.new self.old self.new (four weight)) }
-        ensures bad { IsSome (S.files store.old) → WhereBad (WeighsOtherwiseOn self.old (S.files store.old) (four weight)) result }
-        ensures size { OnOk result (self.new.part.at + length self.new.held ≡ self.old.part.at + length self.old.held + 4) }
+        ensures weighed { OnOk result
+            (HasWeighedMore S.files store.old store.new self.old self.new (four weight)) }
+        ensures bad { IsSome (S.files store.old) →
+            WhereBad (WeighsOtherwiseOn self.old (S.files store.old) (four weight)) result }
+        ensures size { OnOk result (self.new.part.at + length self.new.held
+            ≡ self.old.part.at + length self.old.held + 4) }
         ensures name { self.new.part.name ≡ self.old.part.name }
         ensures looks { Between S.files S.reads S.faults store.old store.new (LooksAtSet result) }
     {
@@ -77,10 +80,14 @@ impl<'a> Weights<'a> {
     // Compares what is held.
     fn compare<S: Store>(&mut self, store: &mut S) -> Result<(), PartErr>
         requires place { self.old.part.at + length self.old.held ≤ 2 ^ 63 }
-        ensures weighed { OnOk result ((bytes : List ℕ) → HasWeighed self.old (S.files store.old) bytes → HasWeighed self.new (S.files store.new) bytes) }
+        ensures weighed { OnOk result ((bytes : List ℕ) →
+            HasWeighed self.old (S.files store.old) bytes →
+            HasWeighed self.new (S.files store.new) bytes) }
         ensures none { OnOk result (self.new.held ≡ []) }
-        ensures bad { IsSome (S.files store.old) → WhereBad (WeighsOtherwise self.old (S.files store.old)) result }
-        ensures size { OnOk result (self.new.part.at + length self.new.held ≡ self.old.part.at + length self.old.held) }
+        ensures bad { IsSome (S.files store.old) →
+            WhereBad (WeighsOtherwise self.old (S.files store.old)) result }
+        ensures size { OnOk result (self.new.part.at + length self.new.held
+            ≡ self.old.part.at + length self.old.held) }
         ensures name { self.new.part.name ≡ self.old.part.name }
         ensures looks { Between S.files S.reads S.faults store.old store.new (LooksAtSet result) }
     {
@@ -95,8 +102,10 @@ impl<'a> Weights<'a> {
     /// Compares what is still held, and refuses a part with more bytes.
     pub(crate) fn finish<S: Store>(&mut self, store: &mut S) -> Result<(), PartErr>
         requires place { self.old.part.at + length self.old.held ≤ 2 ^ 63 }
-        ensures done { IsSome (S.files store.old) → OnOk result (AreItsWeights self.old (S.files store.old)) }
-        ensures bad { IsSome (S.files store.old) → WhereBad (AreOtherWeights self.old (S.files store.old)) result }
+        ensures done { IsSome (S.files store.old) →
+            OnOk result (AreItsWeights self.old (S.files store.old)) }
+        ensures bad { IsSome (S.files store.old) →
+            WhereBad (AreOtherWeights self.old (S.files store.old)) result }
         ensures looks { Between S.files S.reads S.faults store.old store.new (LooksAtSet result) }
     {
         match self.compare(store) {

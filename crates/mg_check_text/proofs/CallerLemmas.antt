@@ -59,11 +59,13 @@ all_at P [] n d lt all = absurd (omega (arith, lt))
 all_at P (x ∷ xs) zero d lt all = all.0
 all_at P (x ∷ xs) (suc n) d lt all = all_at P xs n d (omega (arith, lt)) all.1
 
-pub table_terms : (table : TermNumbers) (r : TextReading) (files : Option Files) (collection : List ℕ) → table ≡ terms_and_numbers r.code.words.pieces → TextStands r files collection → table.terms ≡ dictionary collection
+pub table_terms : (table : TermNumbers) (r : TextReading) (files : Option Files) (collection : List ℕ) → table ≡ terms_and_numbers r.code.words.pieces →
+    TextStands r files collection → table.terms ≡ dictionary collection
 table_terms table r files collection is stand =
     ap (λ (t : TermNumbers). t.terms) is ∙ ap (λ pieces. (terms_and_numbers pieces).terms) stand.code.0.pieces ∙ sym (dictionary-of_words collection)
 
-pub doc_codable : (r : TextReading) (files : Option Files) (collection : List ℕ) (n : ℕ) → n < length (documents collection) → TextStands r files collection → IsCodable r.code (get_or (documents collection) n [])
+pub doc_codable : (r : TextReading) (files : Option Files) (collection : List ℕ) (n : ℕ) → n < length (documents collection) → TextStands r files collection →
+    IsCodable r.code (get_or (documents collection) n [])
 doc_codable r files collection n lt stand = all_at (IsCodable r.code) (documents collection) n [] lt (docs-codable r.code collection stand.code stand.few)
 
 pub doc_short : (collection : List ℕ) (n : ℕ) → length collection < 2 ^ 32 → length (get_or (documents collection) n []) ≤ 2 ^ 32 - 1
@@ -75,14 +77,16 @@ doc_short collection n few = by_place (cases_lt n (length (documents collection)
 
 -- what stands for a reader does so for what the reader became, while no file changes
 pub stands_on : (r now : TextReading) (files files_now : Option Files) (collection : List ℕ) → SameText r now → files_now ≡ files → TextStands r files collection → TextStands now files_now collection
-stands_on r now files files_now collection same stay stands = text_stays r now files files_now collection same (ap is_some stay) (ap (λ f. file_at f r.text.name) stay) (ap (λ f. file_at f r.places.name) stay) stands
+stands_on r now files files_now collection same stay stands = text_stays r now files files_now collection same (ap is_some stay)
+    (ap (λ f. file_at f r.text.name) stay) (ap (λ f. file_at f r.places.name) stay) stands
 
 -- ---- a document that was read
 
 pub doc_of_reader : (collection : List ℕ) (before : ℕ) (held bytes : List ℕ) → held ≡ get_or (documents collection) (before + 1 - 1) [] → bytes ≡ held → bytes ≡ get_or (documents collection) before []
 doc_of_reader collection before held bytes is same = let at : before + 1 - 1 ≡ before = omega arith in same ∙ is ∙ ap (λ k. get_or (documents collection) k []) at
 
-pub known_is : (r now : TextReading) (files : Option Files) (code : TextCode) (doc : List ℕ) (collection : List ℕ) (before : ℕ) → SameText r now → code ≡ now.code → doc ≡ get_or (documents collection) before [] → before < r.documents → TextStands r files collection → IsCodable code doc
+pub known_is : (r now : TextReading) (files : Option Files) (code : TextCode) (doc : List ℕ) (collection : List ℕ) (before : ℕ) → SameText r now →
+    code ≡ now.code → doc ≡ get_or (documents collection) before [] → before < r.documents → TextStands r files collection → IsCodable code doc
 known_is r now files code doc collection before same code_is doc_is lt stand =
     subst (λ x. IsCodable x doc) (sym (code_is ∙ same.code)) (subst (IsCodable r.code) (sym doc_is) (doc_codable r files collection before (omega (arith, lt, stand.documents)) stand))
 
@@ -94,8 +98,14 @@ own-docs parts h code docs meant = (split_unique (joined docs h.open_end) docs h
 pub code-meant : (parts : Parts) (h : defs.Head) (code : TextCode) (docs : List (List ℕ)) → IsMeant parts h code docs → IsTextCode (joined docs h.open_end) code
 code-meant parts h code docs meant =
     let own = own-docs parts h code docs meant in (
-      code-of Words (joined docs h.open_end) code.words meant.mean.tell.model.words (λ k d within. all-get (Contains code.words.pieces) (all_pieces Words (joined docs h.open_end)) k d (subst (λ (ds : List (List ℕ)). AllByRecursion (Contains code.words.pieces) (flat_map (pieces_in Words) ds)) own (all-words code docs meant.mean.each)) within) meant.words,
-      code-of Others (joined docs h.open_end) code.others meant.mean.tell.model.others (λ k d within. all-get (Contains code.others.pieces) (all_pieces Others (joined docs h.open_end)) k d (subst (λ (ds : List (List ℕ)). AllByRecursion (Contains code.others.pieces) (flat_map (pieces_in Others) ds)) own (all-others code docs meant.mean.each)) within) meant.others,
+      code-of Words (joined docs h.open_end) code.words meant.mean.tell.model.words (λ k d within.
+          all-get (Contains code.words.pieces) (all_pieces Words (joined docs h.open_end)) k d
+          (subst (λ (ds : List (List ℕ)). AllByRecursion (Contains code.words.pieces) (flat_map (pieces_in Words) ds)) own
+          (all-words code docs meant.mean.each)) within) meant.words,
+      code-of Others (joined docs h.open_end) code.others meant.mean.tell.model.others (λ k d within.
+          all-get (Contains code.others.pieces) (all_pieces Others (joined docs h.open_end)) k d
+          (subst (λ (ds : List (List ℕ)). AllByRecursion (Contains code.others.pieces) (flat_map (pieces_in Others) ds)) own
+          (all-others code docs meant.mean.each)) within) meant.others,
     )
 
 text-meant : (parts : Parts) (h : defs.Head) (code : TextCode) (docs : List (List ℕ)) → IsMeant parts h code docs → parts.text ≡ text_part code (joined docs h.open_end)
@@ -109,7 +119,8 @@ small-text : (version : ℕ) (code : TextCode) (collection : List ℕ) → IsTex
 small-text version code collection is within = room (version == 1) (length (text_part code collection)) (text-room version collection code within is)
 
 -- the reader reads its text
-pub meant-stands : (files : Option Files) (base : List ℕ) (head : Head) (r : TextReading) (docs : List (List ℕ)) → IsLoaded files base head r → IsMeant (parts_at files base) (fields_of head) r.code docs → TextStands r files (joined docs head.open_end)
+pub meant-stands : (files : Option Files) (base : List ℕ) (head : Head) (r : TextReading) (docs : List (List ℕ)) → IsLoaded files base head r →
+    IsMeant (parts_at files base) (fields_of head) r.code docs → TextStands r files (joined docs head.open_end)
 meant-stands files base head r docs loaded meant =
     let parts = parts_at files base in
     let own = own-docs (parts_at files base) (fields_of head) r.code docs meant in
@@ -125,7 +136,8 @@ meant-stands files base head r docs loaded meant =
       size = size;
       documents = loaded.reader.documents_are ∙ sym meant.mean.count ∙ ap length own;
       few = (most head.version (joined docs head.open_end) meant.limits).0;
-      small = subst (λ (v : ℕ). r.size ≤ most_text v) (sym loaded.reader.version_is) (subst (λ (n : ℕ). n ≤ most_text head.version) (sym size) (small-text head.version r.code (joined docs head.open_end) code meant.limits));
+      small = subst (λ (v : ℕ). r.size ≤ most_text v) (sym loaded.reader.version_is)
+          (subst (λ (n : ℕ). n ≤ most_text head.version) (sym size) (small-text head.version r.code (joined docs head.open_end) code meant.limits));
     }
 
 -- ---- ranges, terms and reads

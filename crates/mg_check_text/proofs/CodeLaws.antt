@@ -28,7 +28,8 @@ use Rattle.mg_check_text.specs.declared.uses.Uses.{Uses}
 
 -- ---- one piece more
 
-map-but-one : (f g : List ℕ → ℕ) (xs : List (List ℕ)) (s v : ℕ) → s < length xs → ((k : ℕ) → k < length xs → k ≢ s → f (get_or xs k []) ≡ g (get_or xs k [])) → f (get_or xs s []) ≡ v → map f xs ≡ set (map g xs) s v
+map-but-one : (f g : List ℕ → ℕ) (xs : List (List ℕ)) (s v : ℕ) → s < length xs → ((k : ℕ) → k < length xs → k ≢ s → f (get_or xs k []) ≡ g (get_or xs k [])) →
+    f (get_or xs s []) ≡ v → map f xs ≡ set (map g xs) s v
 map-but-one f g [] s v within others here = absurd (omega arith)
 map-but-one f g (x ∷ xs) zero v within others here =
     let rest : map f xs ≡ map g xs = same xs (λ k l. others (suc k) (omega (arith, l)) (omega arith)) in
@@ -42,7 +43,8 @@ map-but-one f g (x ∷ xs) (suc s) v within others here =
     (map-but-one f g xs s v (omega (arith, within)) (λ k l other. others (suc k) (omega (arith, l)) (omega (arith, other))) here)
 
 count-push : (ps : List (List ℕ)) (p q : List ℕ) → count_in (ps ++ p ∷ []) q ≡ count_in ps q + cond (bytes_eq q p) 1 0
-count-push ps p q = sum_by-append (λ (r : List ℕ). cond (bytes_eq q r) 1 0) ps (p ∷ []) ∙ ap (λ (n : ℕ). count_in ps q + n) (sum_by-cons (λ (r : List ℕ). cond (bytes_eq q r) 1 0) p [] ∙ add-zero (cond (bytes_eq q p) 1 0))
+count-push ps p q = sum_by-append (λ (r : List ℕ). cond (bytes_eq q r) 1 0) ps (p ∷ []) ∙
+    ap (λ (n : ℕ). count_in ps q + n) (sum_by-cons (λ (r : List ℕ). cond (bytes_eq q r) 1 0) p [] ∙ add-zero (cond (bytes_eq q p) 1 0))
 
 -- a piece that is another one is not counted
 count-other : (ps : List (List ℕ)) (p q : List ℕ) → q ≢ p → count_in (ps ++ p ∷ []) q ≡ count_in ps q
@@ -61,7 +63,8 @@ sum-set xs s within =
     let e : sum (set xs s (get_or xs s 0 + 1)) + get_or xs s 0 ≡ sum xs + (get_or xs s 0 + 1) = sum_by-set (λ (x : ℕ). x) xs s (get_or xs s 0 + 1) 0 within in
     omega (arith, e)
 
-pub counted-one : (code : StreamCode) (p : List ℕ) (s : ℕ) (old now : List ℕ) → IsStreamCode code → slice_get code.pieces s ≡ Some p → length old ≡ length code.pieces → now ≡ set old s (get_or old s 0 + 1) → Counted code (p ∷ []) old now
+pub counted-one : (code : StreamCode) (p : List ℕ) (s : ℕ) (old now : List ℕ) → IsStreamCode code → slice_get code.pieces s ≡ Some p →
+    length old ≡ length code.pieces → now ≡ set old s (get_or old s 0 + 1) → Counted code (p ∷ []) old now
 counted-one code p s old now is there size now_is =
     let within : s < length code.pieces = slice_get_within code.pieces s p there in
     let here : get_or code.pieces s [] ≡ p = get_or_from_slice_get code.pieces s p [] there in record {
@@ -74,12 +77,14 @@ counted-one code p s old now is there size now_is =
     apart k within here l other same =
         other (sym (number-at code.pieces k [] is.rising l) ∙ ap (number_of code.pieces) (same ∙ sym here) ∙ number-at code.pieces s [] is.rising within)
 
-    counts : (before : List (List ℕ)) → AreCounts code before old → s < length code.pieces → get_or code.pieces s [] ≡ p → set old s (get_or old s 0 + 1) ≡ map (count_in (before ++ p ∷ [])) code.pieces
+    counts : (before : List (List ℕ)) → AreCounts code before old → s < length code.pieces → get_or code.pieces s [] ≡ p →
+        set old s (get_or old s 0 + 1) ≡ map (count_in (before ++ p ∷ [])) code.pieces
     counts before are within here =
         let value : get_or old s 0 + 1 ≡ count_in (before ++ p ∷ []) (get_or code.pieces s []) =
         ap (λ (ns : List ℕ). get_or ns s 0 + 1) are ∙ ap (λ (n : ℕ). n + 1) (get-map (count_in before) code.pieces s within) ∙ sym (count-same before p (get_or code.pieces s []) here) in
         ap (λ (ns : List ℕ). set ns s (get_or old s 0 + 1)) are
-        ∙ sym (map-but-one (count_in (before ++ p ∷ [])) (count_in before) code.pieces s (get_or old s 0 + 1) within (λ k l other. count-other before p (get_or code.pieces k []) (apart k within here l other)) (sym value))
+        ∙ sym (map-but-one (count_in (before ++ p ∷ [])) (count_in before) code.pieces s (get_or old s 0 + 1) within
+        (λ k l other. count-other before p (get_or code.pieces k []) (apart k within here l other)) (sym value))
 
 -- ---- one after the other
 
@@ -100,7 +105,8 @@ counted-more code xs ys a b c x y = record {
 pub known-of : (code : StreamCode) (piece : List ℕ) (s : ℕ) → slice_get code.pieces s ≡ Some piece → Contains code.pieces piece
 known-of code piece s there = (s, slice_get_within code.pieces s piece there, get_or_from_slice_get code.pieces s piece piece there)
 
-pub piece-put : (code : StreamCode) (piece : List ℕ) (s : ℕ) (w0 w1 : TextWriting) (f0 f1 : Option Files) (bits codeword : Bits) → IsOnText w1 f1 [] (bits ++ codeword) → codeword ≡ codeword_of code piece → IsOnText w1 f1 [] (bits ++ codeword_of code piece)
+pub piece-put : (code : StreamCode) (piece : List ℕ) (s : ℕ) (w0 w1 : TextWriting) (f0 f1 : Option Files) (bits codeword : Bits) →
+    IsOnText w1 f1 [] (bits ++ codeword) → codeword ≡ codeword_of code piece → IsOnText w1 f1 [] (bits ++ codeword_of code piece)
 piece-put code piece s w0 w1 f0 f1 bits codeword on is = subst (λ (b : Bits). IsOnText w1 f1 [] (bits ++ b)) is on
 
 all-join : {X : Type 0} (P : X → Type 0) (xs ys : List X) → AllByRecursion P xs → AllByRecursion P ys → AllByRecursion P (xs ++ ys)
@@ -128,9 +134,11 @@ pairs-none code w f uses = record {
   others = counted-none code.others uses.others.items;
 }
 
-pub pairs-more : (code : TextCode) (xs ys : List Pair) (w0 w1 w2 : TextWriting) (f0 f1 f2 : Option Files) (u0 u1 u2 : Uses) → PutPairs code xs w0 w1 f0 f1 u0 u1 → PutPairs code ys w1 w2 f1 f2 u1 u2 → PutPairs code (xs ++ ys) w0 w2 f0 f2 u0 u2
+pub pairs-more : (code : TextCode) (xs ys : List Pair) (w0 w1 w2 : TextWriting) (f0 f1 f2 : Option Files) (u0 u1 u2 : Uses) →
+    PutPairs code xs w0 w1 f0 f1 u0 u1 → PutPairs code ys w1 w2 f1 f2 u1 u2 → PutPairs code (xs ++ ys) w0 w2 f0 f2 u0 u2
 pairs-more code xs ys w0 w1 w2 f0 f1 f2 u0 u1 u2 x y = record {
-  took = λ bits on. subst (λ (b : Bits). IsOnText w2 f2 [] b) (append_assoc bits (flat_map (coded_pair code) xs) (flat_map (coded_pair code) ys) ∙ ap (λ (b : Bits). bits ++ b) (sym (flat_map-append (coded_pair code) xs ys))) (y.took (bits ++ flat_map (coded_pair code) xs) (x.took bits on));
+  took = λ bits on. subst (λ (b : Bits). IsOnText w2 f2 [] b) (append_assoc bits (flat_map (coded_pair code) xs) (flat_map (coded_pair code) ys)
+      ∙ ap (λ (b : Bits). bits ++ b) (sym (flat_map-append (coded_pair code) xs ys))) (y.took (bits ++ flat_map (coded_pair code) xs) (x.took bits on));
   left = omega (arith, x.left, y.left, length-append xs ys);
   docs = y.docs ∙ x.docs;
   pairs_are = y.pairs_are ∙ x.pairs_are;
@@ -138,14 +146,18 @@ pairs-more code xs ys w0 w1 w2 f0 f1 f2 u0 u1 u2 x y = record {
   base = y.base ∙ x.base;
   told = y.told ∙ x.told;
   known = all-join (HasCodewords code) xs ys x.known y.known;
-  words = subst (λ (ps : List (List ℕ)). Counted code.words ps u0.words.items u2.words.items) (sym (map-append (piece_of_pair Words) xs ys)) (counted-more code.words (map (piece_of_pair Words) xs) (map (piece_of_pair Words) ys) u0.words.items u1.words.items u2.words.items x.words y.words);
-  others = subst (λ (ps : List (List ℕ)). Counted code.others ps u0.others.items u2.others.items) (sym (map-append (piece_of_pair Others) xs ys)) (counted-more code.others (map (piece_of_pair Others) xs) (map (piece_of_pair Others) ys) u0.others.items u1.others.items u2.others.items x.others y.others);
+  words = subst (λ (ps : List (List ℕ)). Counted code.words ps u0.words.items u2.words.items) (sym (map-append (piece_of_pair Words) xs ys))
+      (counted-more code.words (map (piece_of_pair Words) xs) (map (piece_of_pair Words) ys) u0.words.items u1.words.items u2.words.items x.words y.words);
+  others = subst (λ (ps : List (List ℕ)). Counted code.others ps u0.others.items u2.others.items) (sym (map-append (piece_of_pair Others) xs ys))
+      (counted-more code.others (map (piece_of_pair Others) xs) (map (piece_of_pair Others) ys) u0.others.items u1.others.items u2.others.items x.others
+      y.others);
 }
 
 pub pair-of-two : (code : TextCode) (p : Pair) (w0 w1 w2 : TextWriting) (f0 f1 f2 : Option Files) (u0 u2 : Uses) → 2 ≤ w0.left →
     PutPiece code.words p.word w0 w1 f0 f1 u0.words.items u2.words.items → PutPiece code.others p.other w1 w2 f1 f2 u0.others.items u2.others.items → PutPairs code (p ∷ []) w0 w2 f0 f2 u0 u2
 pair-of-two code p w0 w1 w2 f0 f1 f2 u0 u2 more word other = record {
-  took = λ bits on. subst (λ (b : Bits). IsOnText w2 f2 [] b) (append_assoc bits (codeword_of code.words p.word) (codeword_of code.others p.other) ∙ ap (λ (b : Bits). bits ++ b) (sym (append-nil (coded_pair code p))))
+  took = λ bits on. subst (λ (b : Bits). IsOnText w2 f2 [] b) (append_assoc bits (codeword_of code.words p.word) (codeword_of code.others p.other)
+      ∙ ap (λ (b : Bits). bits ++ b) (sym (append-nil (coded_pair code p))))
       (other.took (bits ++ codeword_of code.words p.word) (word.took bits on));
   left = omega (arith, word.put.left, other.put.left, more);
   docs = other.put.docs ∙ word.put.docs;
@@ -169,19 +181,22 @@ pub record ArePut (code : TextCode) (all rest : List Pair) (w0 w1 : TextWriting)
   pub whole : done ++ rest ≡ all
   pub put : PutPairs code done w0 w1 f0 f1 u0 u1
 
-pub are-put-more : (code : TextCode) (all pairs rest : List Pair) (p : Pair) (w0 w1 w2 : TextWriting) (f0 f1 f2 : Option Files) (u0 u1 u2 : Uses) → pairs ≡ p ∷ rest → ArePut code all pairs w0 w1 f0 f1 u0 u1 → PutPairs code (p ∷ []) w1 w2 f1 f2 u1 u2 → ArePut code all rest w0 w2 f0 f2 u0 u2
+pub are-put-more : (code : TextCode) (all pairs rest : List Pair) (p : Pair) (w0 w1 w2 : TextWriting) (f0 f1 f2 : Option Files) (u0 u1 u2 : Uses) →
+    pairs ≡ p ∷ rest → ArePut code all pairs w0 w1 f0 f1 u0 u1 → PutPairs code (p ∷ []) w1 w2 f1 f2 u1 u2 → ArePut code all rest w0 w2 f0 f2 u0 u2
 are-put-more code all pairs rest p w0 w1 w2 f0 f1 f2 u0 u1 u2 next so one = record {
   done = so.done ++ p ∷ [];
   whole = append_assoc so.done (p ∷ []) rest ∙ ap (λ (ps : List Pair). so.done ++ ps) (sym next) ∙ so.whole;
   put = pairs-more code so.done (p ∷ []) w0 w1 w2 f0 f1 f2 u0 u1 u2 so.put one;
 }
 
-pub two-more : (code : TextCode) (all pairs rest : List Pair) (p : Pair) (w0 w1 : TextWriting) (f0 f1 : Option Files) (u0 u1 : Uses) → pairs ≡ p ∷ rest → w0.left ≡ 2 * length all → ArePut code all pairs w0 w1 f0 f1 u0 u1 → (n : ℕ) × (w1.left ≡ 2 * n + 2)
+pub two-more : (code : TextCode) (all pairs rest : List Pair) (p : Pair) (w0 w1 : TextWriting) (f0 f1 : Option Files) (u0 u1 : Uses) → pairs ≡ p ∷ rest →
+    w0.left ≡ 2 * length all → ArePut code all pairs w0 w1 f0 f1 u0 u1 → (n : ℕ) × (w1.left ≡ 2 * n + 2)
 two-more code all pairs rest p w0 w1 f0 f1 u0 u1 next left so =
     let count : length so.done + length pairs ≡ length all = sym (length-append so.done pairs) ∙ ap length so.whole in
     (length rest, omega (arith, so.put.left, left, count, ap length next))
 
-pub not-codable : (code : TextCode) (all pairs rest : List Pair) (p : Pair) (w0 w1 : TextWriting) (f0 f1 : Option Files) (u0 u1 : Uses) → pairs ≡ p ∷ rest → ArePut code all pairs w0 w1 f0 f1 u0 u1 → (HasCodewords code p → ⊥) → AllByRecursion (HasCodewords code) all → ⊥
+pub not-codable : (code : TextCode) (all pairs rest : List Pair) (p : Pair) (w0 w1 : TextWriting) (f0 f1 : Option Files) (u0 u1 : Uses) → pairs ≡ p ∷ rest →
+    ArePut code all pairs w0 w1 f0 f1 u0 u1 → (HasCodewords code p → ⊥) → AllByRecursion (HasCodewords code) all → ⊥
 not-codable code all pairs rest p w0 w1 f0 f1 u0 u1 next so none each = none (all-of (HasCodewords code) so.done rest p all (ap (λ (ps : List Pair). so.done ++ ps) (sym next) ∙ so.whole) each)
 
 pub put-there : (o : Option (Unit {0})) (u : Unit {0}) (A : Type 0) → o ≡ Some u → WherePut {E = PutErr} (Ok o) A → A
@@ -199,12 +214,15 @@ unknown-there o A is h = inner (subst (λ (x : Option (Unit {0})). WhereUnknown 
 pub room-less : (code : StreamCode) (counts : List ℕ) (more less : ℕ) → HasRoom code counts more → less ≤ more → HasRoom code counts less
 room-less code counts more less room fewer = record { size = room.size; few = omega (arith, room.few, fewer) }
 
-pub are-put-all : (code : TextCode) (all pairs : List Pair) (w0 w1 : TextWriting) (f0 f1 : Option Files) (u0 u1 : Uses) → pairs ≡ [] → ArePut code all pairs w0 w1 f0 f1 u0 u1 → PutPairs code all w0 w1 f0 f1 u0 u1
-are-put-all code all pairs w0 w1 f0 f1 u0 u1 none so = subst (λ (ps : List Pair). PutPairs code ps w0 w1 f0 f1 u0 u1) (sym (append-nil so.done) ∙ ap (λ (ps : List Pair). so.done ++ ps) (sym none) ∙ so.whole) so.put
+pub are-put-all : (code : TextCode) (all pairs : List Pair) (w0 w1 : TextWriting) (f0 f1 : Option Files) (u0 u1 : Uses) → pairs ≡ [] →
+    ArePut code all pairs w0 w1 f0 f1 u0 u1 → PutPairs code all w0 w1 f0 f1 u0 u1
+are-put-all code all pairs w0 w1 f0 f1 u0 u1 none so = subst (λ (ps : List Pair). PutPairs code ps w0 w1 f0 f1 u0 u1)
+    (sym (append-nil so.done) ∙ ap (λ (ps : List Pair). so.done ++ ps) (sym none) ∙ so.whole) so.put
 
 -- a document that was begun, whose pairs were put and which was ended is coded
 pub doc-coded : (code : TextCode) (doc bytes : List ℕ) (n : ℕ) (w0 w1 w2 w3 : TextWriting) (f1 f2 f3 : Option Files) (u0 u1 : Uses) → n ≡ length (parse doc) → length doc < 2 ^ 32 → w0.pairs ≡ 0 →
-    IsOnText w1 f1 [] (gamma (n + 1)) → Began w0 w1 n → PutPairs code (parse doc) w1 w2 f1 f2 u0 u1 → IsOnText w3 f3 ((gamma (n + 1) ++ flat_map (coded_pair code) (parse doc)) ∷ []) [] → w3.pairs ≡ w2.pairs → w3.is_open ≡ false →
+    IsOnText w1 f1 [] (gamma (n + 1)) → Began w0 w1 n → PutPairs code (parse doc) w1 w2 f1 f2 u0 u1 →
+    IsOnText w3 f3 ((gamma (n + 1) ++ flat_map (coded_pair code) (parse doc)) ∷ []) [] → w3.pairs ≡ w2.pairs → w3.is_open ≡ false →
     bytes ≡ text_bytes ((gamma (n + 1) ++ flat_map (coded_pair code) (parse doc)) ∷ []) → IsCodedAs code doc bytes u0 u1
 doc-coded code doc bytes n w0 w1 w2 w3 f1 f2 f3 u0 u1 count small none on began put whole pairs closed bytes_are =
     let bits : gamma (n + 1) ++ flat_map (coded_pair code) (parse doc) ≡ coded_doc code doc = ap (λ (m : ℕ). gamma (m + 1) ++ flat_map (coded_pair code) (parse doc)) count in

@@ -19,7 +19,8 @@ use Rattle.mg_check_text.specs.Refusals.{IfBad}
 use Rattle.mg_check_text.specs.Checking.{IsLoaded}
 
 -- where the head is the part's own, the text of a collection for which the parts stand can be read by it
-pub text-of : (files : Option Files) (base : List ℕ) (head : Head) (collection : List ℕ) → IsSome files → IsHead 1 2 (parts_at files base).head (fields_of head) → Stand (parts_at files base) collection → (code : TextCode) × IsText base files head code collection
+pub text-of : (files : Option Files) (base : List ℕ) (head : Head) (collection : List ℕ) → IsSome files →
+    IsHead 1 2 (parts_at files base).head (fields_of head) → Stand (parts_at files base) collection → (code : TextCode) × IsText base files head code collection
 text-of files base head collection told is stand =
     let by = loaded_set files base collection head (record { told = told; stand = stand }) is in
     (by.0, set_is_text base files head by.0 collection by.1)
@@ -30,7 +31,9 @@ refused-none files base head Device told is fine = tt
 refused-none files base head Memory told is fine = tt
 refused-none files base head (Bad bad) told is fine = λ collection stand. let text = text-of files base head collection told is stand in fine text.0 collection text.1
 
-pub reader-told : (files : Option Files) (base : List ℕ) (head : Head) (r : TextReading) → IsSome files → IsHead 1 2 (parts_at files base).head (fields_of head) → IsTextReader r base head → IsModel r.code → AnswersReader (stored_at files base head) (Ok r) → IsLoaded files base head r
+pub reader-told : (files : Option Files) (base : List ℕ) (head : Head) (r : TextReading) → IsSome files →
+    IsHead 1 2 (parts_at files base).head (fields_of head) → IsTextReader r base head → IsModel r.code → AnswersReader (stored_at files base head) (Ok r) →
+    IsLoaded files base head r
 reader-told files base head r told is reader model answer = record {
   told = told;
   reader = reader;

@@ -70,7 +70,8 @@ behind a b c at bytes is place =
     ap (λ (xs : List ℕ). take (length b) (drop at xs)) is ∙ ap (λ (n : ℕ). take (length b) (drop n (a ++ (b ++ c)))) place ∙ ap (take (length b)) (drop-append_seam a (b ++ c)) ∙ take-append_seam b c
 
 split-at : (at : ℕ) (b bytes : List ℕ) → StandAt at b bytes → drop at bytes ≡ b ++ drop (at + length b) bytes
-split-at at b bytes stands = sym (take-append-drop (length b) (drop at bytes)) ∙ ap (λ (xs : List ℕ). xs ++ drop (length b) (drop at bytes)) stands ∙ ap (λ (xs : List ℕ). b ++ xs) (drop-drop at (length b) bytes)
+split-at at b bytes stands = sym (take-append-drop (length b) (drop at bytes)) ∙ ap (λ (xs : List ℕ). xs ++ drop (length b) (drop at bytes)) stands
+    ∙ ap (λ (xs : List ℕ). b ++ xs) (drop-drop at (length b) bytes)
 
 sum-cons : (x : ℕ) (xs : List ℕ) → sum (x ∷ xs) ≡ x + sum xs
 sum-cons x xs = sum_by-cons (λ (n : ℕ). n) x xs
@@ -114,14 +115,16 @@ place-long version p = long-place (version == 1) p
 
 places-long : (version : ℕ) (ps : List ℕ) → length (flat_map (place_bytes version) ps) ≡ place_width version * length ps
 places-long version [] = omega arith
-places-long version (p ∷ ps) = widths (place_width version) (length (place_bytes version p)) (length (flat_map (place_bytes version) ps)) (length ps) (place-long version p) (places-long version ps) (length-append (place_bytes version p) (flat_map (place_bytes version) ps))
+places-long version (p ∷ ps) = widths (place_width version) (length (place_bytes version p)) (length (flat_map (place_bytes version) ps)) (length ps)
+    (place-long version p) (places-long version ps) (length-append (place_bytes version p) (flat_map (place_bytes version) ps))
   where
     widths : (w a b n : ℕ) {all : ℕ} → a ≡ w → b ≡ w * n → all ≡ a + b → all ≡ w * suc n
     widths w a b n first rest both = grind arith
 
 docs-long : (code : TextCode) (docs : List (List ℕ)) → length (docs_bytes code docs) ≡ sum (map (coded_size code) docs)
 docs-long code [] = refl
-docs-long code (doc ∷ docs) = length-append (as_bytes (coded_doc code doc)) (docs_bytes code docs) ∙ ap (λ (n : ℕ). coded_size code doc + n) (docs-long code docs) ∙ sym (sum-cons (coded_size code doc) (map (coded_size code) docs))
+docs-long code (doc ∷ docs) = length-append (as_bytes (coded_doc code doc)) (docs_bytes code docs)
+    ∙ ap (λ (n : ℕ). coded_size code doc + n) (docs-long code docs) ∙ sym (sum-cons (coded_size code doc) (map (coded_size code) docs))
 
 docs-places-long : (version : ℕ) (code : TextCode) (docs : List (List ℕ)) → length (docs_places version code docs) ≡ place_width version * length docs
 docs-places-long version code docs =
@@ -129,7 +132,8 @@ docs-places-long version code docs =
 
 -- the places of documents, of which the first are known
 placed : (version : ℕ) (code : TextCode) (docs more : List (List ℕ)) →
-    (rest : List ℕ) × (flat_map (place_bytes version) (running 0 (map (coded_size code) (docs ++ more))) ≡ docs_places version code docs ++ (place_bytes version (length (docs_bytes code docs)) ++ rest))
+    (rest : List ℕ) × (flat_map (place_bytes version) (running 0 (map (coded_size code) (docs ++ more))) ≡ docs_places version code docs
+    ++ (place_bytes version (length (docs_bytes code docs)) ++ rest))
 placed version code docs more =
     let first = running-first (0 + sum (map (coded_size code) docs)) (map (coded_size code) more) in
     let at : 0 + sum (map (coded_size code) docs) ≡ length (docs_bytes code docs) = omega (arith, docs-long code docs) in (
@@ -155,9 +159,11 @@ pieces-more : (kind : Stream) (docs : List (List ℕ)) (doc : List ℕ) → flat
 pieces-more kind docs doc = sym (flat_map-append (pieces_in kind) docs (doc ∷ []) ∙ ap (λ (ps : List (List ℕ)). flat_map (pieces_in kind) docs ++ ps) (append-nil (pieces_in kind doc)))
 
 sum-more : (docs : List (List ℕ)) (doc : List ℕ) → sum_by (λ (d : List ℕ). length d) (docs ++ doc ∷ []) ≡ sum_by (λ (d : List ℕ). length d) docs + length doc
-sum-more docs doc = sum_by-append (λ (d : List ℕ). length d) docs (doc ∷ []) ∙ ap (λ (n : ℕ). sum_by (λ (d : List ℕ). length d) docs + n) (sum_by-cons (λ (d : List ℕ). length d) doc [] ∙ add-zero (length doc))
+sum-more docs doc = sum_by-append (λ (d : List ℕ). length d) docs (doc ∷ []) ∙ ap (λ (n : ℕ). sum_by (λ (d : List ℕ). length d) docs + n)
+    (sum_by-cons (λ (d : List ℕ). length d) doc [] ∙ add-zero (length doc))
 
-places-more : (version : ℕ) (code : TextCode) (docs : List (List ℕ)) (doc : List ℕ) → docs_places version code (docs ++ doc ∷ []) ≡ docs_places version code docs ++ place_bytes version (length (docs_bytes code docs))
+places-more : (version : ℕ) (code : TextCode) (docs : List (List ℕ)) (doc : List ℕ) → docs_places version code (docs ++ doc ∷ [])
+    ≡ docs_places version code docs ++ place_bytes version (length (docs_bytes code docs))
 places-more version code docs doc =
     let at : 0 + sum (map (coded_size code) docs) ≡ length (docs_bytes code docs) = omega (arith, docs-long code docs) in
     ap (λ (xs : List ℕ). flat_map (place_bytes version) (starts 0 xs)) (map-append (coded_size code) docs (doc ∷ []))
@@ -168,14 +174,17 @@ places-more version code docs doc =
 take-more : (w n : ℕ) (a b bytes : List ℕ) → length b ≡ w → take (w * n) bytes ≡ a → StandAt (w * n) b bytes → take (w * (n + 1)) bytes ≡ a ++ b
 take-more w n a b bytes long first next =
     let more : w * (n + 1) ≡ w * n + w = grind arith in
-    ap (λ (m : ℕ). take m bytes) more ∙ take-add (w * n) w bytes ∙ ap (λ (xs : List ℕ). xs ++ take w (drop (w * n) bytes)) first ∙ ap (λ (m : ℕ). a ++ take m (drop (w * n) bytes)) (sym long) ∙ ap (λ (xs : List ℕ). a ++ xs) next
+    ap (λ (m : ℕ). take m bytes) more ∙ take-add (w * n) w bytes ∙ ap (λ (xs : List ℕ). xs ++ take w (drop (w * n) bytes)) first
+    ∙ ap (λ (m : ℕ). a ++ take m (drop (w * n) bytes)) (sym long) ∙ ap (λ (xs : List ℕ). a ++ xs) next
 
-pub read-more : (parts : Parts) (version : ℕ) (code : TextCode) (docs : List (List ℕ)) (doc : List ℕ) (p q : Progress) → HasRead parts version code docs p → IsNextDoc parts version code doc p → HasAdded code doc p q → HasRead parts version code (docs ++ doc ∷ []) q
+pub read-more : (parts : Parts) (version : ℕ) (code : TextCode) (docs : List (List ℕ)) (doc : List ℕ) (p q : Progress) → HasRead parts version code docs p →
+    IsNextDoc parts version code doc p → HasAdded code doc p q → HasRead parts version code (docs ++ doc ∷ []) q
 read-more parts version code docs doc p q so next added =
     let text : parts.text ≡ docs_bytes code (docs ++ doc ∷ []) ++ drop q.place parts.text =
     so.begins.bytes_are ∙ ap (λ (xs : List ℕ). docs_bytes code docs ++ xs) (split-at p.place (as_bytes (coded_doc code doc)) parts.text next.stands)
     ∙ sym (append_assoc (docs_bytes code docs) (as_bytes (coded_doc code doc)) (drop (p.place + coded_size code doc) parts.text))
-    ∙ ap (λ (xs : List ℕ). xs ++ drop (p.place + coded_size code doc) parts.text) (sym (docs-more code docs doc)) ∙ ap (λ (n : ℕ). docs_bytes code (docs ++ doc ∷ []) ++ drop n parts.text) (sym added.place) in
+    ∙ ap (λ (xs : List ℕ). xs ++ drop (p.place + coded_size code doc) parts.text) (sym (docs-more code docs doc))
+    ∙ ap (λ (n : ℕ). docs_bytes code (docs ++ doc ∷ []) ++ drop n parts.text) (sym added.place) in
     record {
       begins = record { each = all-join (IsCodable code) docs (doc ∷ []) so.begins.each (next.codable, tt); bytes_are = text };
       count = omega (arith, length-append docs (doc ∷ []), so.count, added.documents);
@@ -194,7 +203,8 @@ read-more parts version code docs doc p q so next added =
 -- ---- where the parts stand for a collection
 
 -- the reader reads its text
-pub reader-stands : (files : Option Files) (base : List ℕ) (head : Head) (r : TextReading) (collection : List ℕ) → IsLoaded files base head r → Stand (parts_at files base) collection → TextStands r files collection
+pub reader-stands : (files : Option Files) (base : List ℕ) (head : Head) (r : TextReading) (collection : List ℕ) → IsLoaded files base head r →
+    Stand (parts_at files base) collection → TextStands r files collection
 reader-stands files base head r collection loaded stand =
     let by = told_set files base collection head r.code (record { told = loaded.told; stand = stand }) loaded.tell in
     let is = set_is_text base files head r.code collection by in record {
@@ -210,8 +220,10 @@ reader-stands files base head r collection loaded stand =
     }
 
 -- the next document of a collection for which the parts stand, and the bytes that are left for it
-pub next-of : (files : Option Files) (base : List ℕ) (head : Head) (r : TextReading) (docs : List (List ℕ)) (p : Progress) (collection : List ℕ) → IsLoaded files base head r → HasRead (parts_at files base) head.version r.code docs p → p.documents < head.documents →
-    Stand (parts_at files base) collection → IsNextDoc (parts_at files base) head.version r.code (get_or (documents collection) p.documents []) p × (p.bytes + length (get_or (documents collection) p.documents []) ≤ head.collection)
+pub next-of : (files : Option Files) (base : List ℕ) (head : Head) (r : TextReading) (docs : List (List ℕ)) (p : Progress) (collection : List ℕ) →
+    IsLoaded files base head r → HasRead (parts_at files base) head.version r.code docs p → p.documents < head.documents →
+    Stand (parts_at files base) collection → IsNextDoc (parts_at files base) head.version r.code (get_or (documents collection) p.documents []) p
+    × (p.bytes + length (get_or (documents collection) p.documents []) ≤ head.collection)
 next-of files base head r docs p collection loaded so fewer stand =
     let parts = parts_at files base in
     let fit = told-stands (parts_at files base) (fields_of head) r.code collection loaded.tell stand in
@@ -220,19 +232,25 @@ next-of files base head r docs p collection loaded so fewer stand =
     let first = so-far (parts_at files base) (fields_of head) r.code docs (drop p.place parts.text) collection loaded.tell so.begins (omega (arith, so.count, fewer)) stand in
     let within : p.documents < length (documents collection) = omega (arith, fewer, all) in
     let known : docs ≡ take p.documents (documents collection) = first.0 ∙ ap (λ (n : ℕ). take n (documents collection)) so.count in
-    let more : drop p.documents (documents collection) ≡ get_or (documents collection) p.documents [] ∷ drop (suc p.documents) (documents collection) = drop-cons (documents collection) p.documents [] within in
+    let more : drop p.documents (documents collection) ≡ get_or (documents collection) p.documents [] ∷
+    drop (suc p.documents) (documents collection) = drop-cons (documents collection) p.documents [] within in
     let left : drop p.place parts.text ≡ as_bytes (coded_doc r.code (get_or (documents collection) p.documents [])) ++ docs_bytes r.code (drop (suc p.documents) (documents collection)) =
     first.1 ∙ ap (λ (n : ℕ). docs_bytes r.code (drop n (documents collection))) so.count ∙ ap (docs_bytes r.code) more in
-    let split : documents collection ≡ docs ++ drop p.documents (documents collection) = sym (take-append-drop p.documents (documents collection)) ∙ ap (λ (ds : List (List ℕ)). ds ++ drop p.documents (documents collection)) (sym known) in
+    let split : documents collection ≡ docs ++ drop p.documents (documents collection) = sym (take-append-drop p.documents (documents collection))
+    ∙ ap (λ (ds : List (List ℕ)). ds ++ drop p.documents (documents collection)) (sym known) in
     let places = placed head.version r.code docs (drop p.documents (documents collection)) in
-    let at : place_width head.version * p.documents ≡ length (docs_places head.version r.code docs) = ap (λ (n : ℕ). place_width head.version * n) (sym so.count) ∙ sym (docs-places-long head.version r.code docs) in
+    let at : place_width head.version * p.documents ≡ length (docs_places head.version r.code docs) =
+    ap (λ (n : ℕ). place_width head.version * n) (sym so.count) ∙ sym (docs-places-long head.version r.code docs) in
     let before : p.bytes ≡ sum_by (λ (d : List ℕ). length d) (take p.documents (documents collection)) = so.bytes ∙ ap (sum_by (λ (d : List ℕ). length d)) known in
-    let after : sum_by (λ (d : List ℕ). length d) (drop p.documents (documents collection)) ≡ length (get_or (documents collection) p.documents []) + sum_by (λ (d : List ℕ). length d) (drop (suc p.documents) (documents collection)) =
+    let after : sum_by (λ (d : List ℕ). length d) (drop p.documents (documents collection))
+    ≡ length (get_or (documents collection) p.documents []) + sum_by (λ (d : List ℕ). length d) (drop (suc p.documents) (documents collection)) =
     ap (sum_by (λ (d : List ℕ). length d)) more ∙ sum_by-cons (λ (d : List ℕ). length d) (get_or (documents collection) p.documents []) (drop (suc p.documents) (documents collection)) in (
       record {
         is_document = all-get IsDocument (documents collection) p.documents [] (documents_split collection).each within;
         codable = all-get (IsCodable r.code) (documents collection) p.documents [] (code-docs head.version collection r.code fit.1.limits fit.1.code_is) within;
-        stands = ap (take (coded_size r.code (get_or (documents collection) p.documents []))) left ∙ take-append_seam (as_bytes (coded_doc r.code (get_or (documents collection) p.documents []))) (docs_bytes r.code (drop (suc p.documents) (documents collection)));
+        stands = ap (take (coded_size r.code (get_or (documents collection) p.documents []))) left
+            ∙ take-append_seam (as_bytes (coded_doc r.code (get_or (documents collection) p.documents [])))
+            (docs_bytes r.code (drop (suc p.documents) (documents collection)));
         place =
             behind (docs_places head.version r.code docs) (place_bytes head.version p.place) places.0 (place_width head.version * p.documents) parts.places
             (fit.1.places ∙ ap (λ (ds : List (List ℕ)). flat_map (place_bytes head.version) (running 0 (map (coded_size r.code) ds))) split ∙ places.1
@@ -276,7 +294,9 @@ joined-long docs true last = joined-open docs (last (yes true refl))
     yes b is = is
 joined-long docs false last = add-zero (length (joined docs false)) ∙ joined-closed docs
 
-mean-of : (files : Option Files) (base : List ℕ) (head : Head) (r : TextReading) (docs : List (List ℕ)) (p : Progress) → IsLoaded files base head r → HasRead (parts_at files base) head.version r.code docs p → p.documents ≡ head.documents → p.place ≡ head.text_bytes → Mean (parts_at files base) (fields_of head) r.code docs
+mean-of : (files : Option Files) (base : List ℕ) (head : Head) (r : TextReading) (docs : List (List ℕ)) (p : Progress) → IsLoaded files base head r →
+    HasRead (parts_at files base) head.version r.code docs p → p.documents ≡ head.documents → p.place ≡ head.text_bytes →
+    Mean (parts_at files base) (fields_of head) r.code docs
 mean-of files base head r docs p loaded so all place =
     let parts = parts_at files base in
     let none : drop p.place parts.text ≡ [] = ap (λ (n : ℕ). drop n parts.text) (place ∙ sym loaded.text) ∙ drop-all parts.text in record {
@@ -301,10 +321,12 @@ all-words code (doc ∷ docs) each = all-join (Contains code.words.pieces) (piec
 
 pub all-others : (code : TextCode) (docs : List (List ℕ)) → AllByRecursion (IsCodable code) docs → AllByRecursion (Contains code.others.pieces) (flat_map (pieces_in Others) docs)
 all-others code [] each = tt
-all-others code (doc ∷ docs) each = all-join (Contains code.others.pieces) (pieces_in Others doc) (flat_map (pieces_in Others) docs) (known-others code (parse doc) each.0.each) (all-others code docs each.1)
+all-others code (doc ∷ docs) each = all-join (Contains code.others.pieces) (pieces_in Others doc) (flat_map (pieces_in Others) docs)
+    (known-others code (parse doc) each.0.each) (all-others code docs each.1)
 
 -- the counts of the documents are those of their collection
-counts-of : (kind : Stream) (code : StreamCode) (docs : List (List ℕ)) (collection counts : List ℕ) → docs ≡ documents collection → AreCounts code (flat_map (pieces_in kind) docs) counts → counts ≡ counts_in kind collection code
+counts-of : (kind : Stream) (code : StreamCode) (docs : List (List ℕ)) (collection counts : List ℕ) → docs ≡ documents collection →
+    AreCounts code (flat_map (pieces_in kind) docs) counts → counts ≡ counts_in kind collection code
 counts-of kind code docs collection counts is are = are ∙ ap (λ (ds : List (List ℕ)). map (count_in (flat_map (pieces_in kind) ds)) code.pieces) is
 
 used-well : (kind : Stream) (code : StreamCode) (collection counts : List ℕ) → counts ≡ counts_in kind collection code → IsUsed counts code.lengths → IsUsedWell kind collection code
@@ -314,7 +336,9 @@ used-back : (kind : Stream) (code : StreamCode) (collection counts : List ℕ) �
 used-back kind code collection counts same well = subst (λ (cs : List ℕ). IsUsed cs code.lengths) (sym same) (record { used = well.used; cost = well.cost })
 
 -- all places are known
-all-placed : (version : ℕ) (code : TextCode) (docs : List (List ℕ)) (place n : ℕ) (places : List ℕ) → length places ≡ place_width version * (n + 1) → take (place_width version * n) places ≡ docs_places version code docs → StandAt (place_width version * n) (place_bytes version place) places → place ≡ length (docs_bytes code docs) →
+all-placed : (version : ℕ) (code : TextCode) (docs : List (List ℕ)) (place n : ℕ) (places : List ℕ) → length places ≡ place_width version * (n + 1) →
+    take (place_width version * n) places ≡ docs_places version code docs → StandAt (place_width version * n) (place_bytes version place) places →
+    place ≡ length (docs_bytes code docs) →
     places ≡ flat_map (place_bytes version) (running 0 (map (coded_size code) docs))
 all-placed version code docs place n places long first last at =
     let sum_is : length (docs_bytes code docs) ≡ 0 + sum (map (coded_size code) docs) = omega (arith, docs-long code docs) in
@@ -326,17 +350,26 @@ all-placed version code docs place n places long first last at =
     ∙ flat_map-append (place_bytes version) (starts 0 (map (coded_size code) docs)) ((0 + sum (map (coded_size code) docs)) ∷ [])
     ∙ ap (λ (xs : List ℕ). docs_places version code docs ++ xs) (append-nil (place_bytes version (0 + sum (map (coded_size code) docs)))))
 
-pub end-means : (files : Option Files) (base : List ℕ) (head : Head) (r : TextReading) (docs : List (List ℕ)) (p : Progress) → IsLoaded files base head r → HasRead (parts_at files base) head.version r.code docs p → p.documents ≡ head.documents → IsAtEnd (parts_at files base) head r.code p →
+pub end-means : (files : Option Files) (base : List ℕ) (head : Head) (r : TextReading) (docs : List (List ℕ)) (p : Progress) → IsLoaded files base head r →
+    HasRead (parts_at files base) head.version r.code docs p → p.documents ≡ head.documents → IsAtEnd (parts_at files base) head r.code p →
     IsMeant (parts_at files base) (fields_of head) r.code docs
 end-means files base head r docs p loaded so all ends =
     let parts = parts_at files base in
     let collection : List ℕ = joined docs head.open_end in
     let split : IsSplit (joined docs head.open_end) docs head.open_end = record { each = so.each; whole = refl; last = λ is. last-some docs (subst (λ (n : ℕ). 0 < n) so.last (ends.open_end is)) } in
     let own : docs ≡ documents (joined docs head.open_end) = (split_unique (joined docs head.open_end) docs head.open_end split).0 in
-    let words : IsUsedWell Words (joined docs head.open_end) r.code.words = used-well Words r.code.words (joined docs head.open_end) p.uses.words.items (counts-of Words r.code.words docs (joined docs head.open_end) p.uses.words.items own so.words) ends.words in
-    let others : IsUsedWell Others (joined docs head.open_end) r.code.others = used-well Others r.code.others (joined docs head.open_end) p.uses.others.items (counts-of Others r.code.others docs (joined docs head.open_end) p.uses.others.items own so.others) ends.others in
-    let word_code = code-of Words (joined docs head.open_end) r.code.words loaded.tell.model.words (λ k d within. all-get (Contains r.code.words.pieces) (all_pieces Words (joined docs head.open_end)) k d (subst (λ (ds : List (List ℕ)). AllByRecursion (Contains r.code.words.pieces) (flat_map (pieces_in Words) ds)) own (all-words r.code docs so.begins.each)) within) words in
-    let other_code = code-of Others (joined docs head.open_end) r.code.others loaded.tell.model.others (λ k d within. all-get (Contains r.code.others.pieces) (all_pieces Others (joined docs head.open_end)) k d (subst (λ (ds : List (List ℕ)). AllByRecursion (Contains r.code.others.pieces) (flat_map (pieces_in Others) ds)) own (all-others r.code docs so.begins.each)) within) others in
+    let words : IsUsedWell Words (joined docs head.open_end) r.code.words = used-well Words r.code.words (joined docs head.open_end) p.uses.words.items
+    (counts-of Words r.code.words docs (joined docs head.open_end) p.uses.words.items own so.words) ends.words in
+    let others : IsUsedWell Others (joined docs head.open_end) r.code.others = used-well Others r.code.others (joined docs head.open_end) p.uses.others.items
+    (counts-of Others r.code.others docs (joined docs head.open_end) p.uses.others.items own so.others) ends.others in
+    let word_code = code-of Words (joined docs head.open_end) r.code.words loaded.tell.model.words
+    (λ k d within. all-get (Contains r.code.words.pieces) (all_pieces Words (joined docs head.open_end)) k d
+    (subst (λ (ds : List (List ℕ)). AllByRecursion (Contains r.code.words.pieces) (flat_map (pieces_in Words) ds)) own
+    (all-words r.code docs so.begins.each)) within) words in
+    let other_code = code-of Others (joined docs head.open_end) r.code.others loaded.tell.model.others
+    (λ k d within. all-get (Contains r.code.others.pieces) (all_pieces Others (joined docs head.open_end)) k d
+    (subst (λ (ds : List (List ℕ)). AllByRecursion (Contains r.code.others.pieces) (flat_map (pieces_in Others) ds)) own
+    (all-others r.code docs so.begins.each)) within) others in
     let size : head.collection ≡ length (joined docs head.open_end) = omega (arith, joined-long docs head.open_end split.last, ends.bytes, so.bytes, so.count) in record {
       mean = mean-of files base head r docs p loaded so all ends.place;
       split = split;
@@ -353,11 +386,14 @@ end-means files base head r docs p loaded so all ends =
       };
     }
 
-pub end-of : (files : Option Files) (base : List ℕ) (head : Head) (r : TextReading) (docs : List (List ℕ)) (p : Progress) (collection : List ℕ) → IsLoaded files base head r → HasRead (parts_at files base) head.version r.code docs p → p.documents ≡ head.documents → Stand (parts_at files base) collection → IsAtEnd (parts_at files base) head r.code p
+pub end-of : (files : Option Files) (base : List ℕ) (head : Head) (r : TextReading) (docs : List (List ℕ)) (p : Progress) (collection : List ℕ) →
+    IsLoaded files base head r → HasRead (parts_at files base) head.version r.code docs p → p.documents ≡ head.documents →
+    Stand (parts_at files base) collection → IsAtEnd (parts_at files base) head r.code p
 end-of files base head r docs p collection loaded so all stand =
     let parts = parts_at files base in
     let none : drop p.place parts.text ≡ [] = last-stands parts (fields_of head) r.code docs (drop p.place parts.text) collection loaded.tell so.begins (so.count ∙ all) stand in
-    let whole : length parts.text ≡ length (docs_bytes r.code docs) + length (drop p.place parts.text) = ap length so.begins.bytes_are ∙ length-append (docs_bytes r.code docs) (drop p.place parts.text) in
+    let whole : length parts.text ≡ length (docs_bytes r.code docs) + length (drop p.place parts.text) = ap length so.begins.bytes_are
+    ∙ length-append (docs_bytes r.code docs) (drop p.place parts.text) in
     let place : p.place ≡ head.text_bytes = omega (arith, none-left p.place parts.text none, whole, so.place, loaded.text) in
     let only = stands-only parts (fields_of head) r.code docs collection (mean-of files base head r docs p loaded so all place) stand in
     let fit = told-stands parts (fields_of head) r.code collection loaded.tell stand in
@@ -365,7 +401,8 @@ end-of files base head r docs p collection loaded so all stand =
     let size : head.collection ≡ length collection = ap (λ (h : defs.Head). h.collection) fit.0 in
     let same : length (joined docs head.open_end) ≡ length collection = ap length only.1.whole in
     let places = placed head.version r.code docs [] in
-    let at : place_width head.version * p.documents ≡ length (docs_places head.version r.code docs) = ap (λ (n : ℕ). place_width head.version * n) (sym so.count) ∙ sym (docs-places-long head.version r.code docs) in record {
+    let at : place_width head.version * p.documents ≡ length (docs_places head.version r.code docs) =
+    ap (λ (n : ℕ). place_width head.version * n) (sym so.count) ∙ sym (docs-places-long head.version r.code docs) in record {
       place = place;
       last_place =
           behind (docs_places head.version r.code docs) (place_bytes head.version p.place) places.0 (place_width head.version * p.documents) parts.places
@@ -373,6 +410,8 @@ end-of files base head r docs p collection loaded so all stand =
           ∙ ap (λ (n : ℕ). docs_places head.version r.code docs ++ (place_bytes head.version n ++ places.0)) (sym so.place)) at;
       open_end = λ is. subst (λ (n : ℕ). 0 < n) (sym so.last) (some-last docs (only.1.last is));
       bytes = omega (arith, joined-long docs head.open_end only.1.last, so.bytes, so.count, size, same);
-      words = used-back Words r.code.words collection p.uses.words.items (counts-of Words r.code.words docs collection p.uses.words.items own so.words) (used-of Words collection r.code.words fit.1.code_is.0);
-      others = used-back Others r.code.others collection p.uses.others.items (counts-of Others r.code.others docs collection p.uses.others.items own so.others) (used-of Others collection r.code.others fit.1.code_is.1);
+      words = used-back Words r.code.words collection p.uses.words.items (counts-of Words r.code.words docs collection p.uses.words.items own so.words)
+          (used-of Words collection r.code.words fit.1.code_is.0);
+      others = used-back Others r.code.others collection p.uses.others.items (counts-of Others r.code.others docs collection p.uses.others.items own so.others)
+          (used-of Others collection r.code.others fit.1.code_is.1);
     }

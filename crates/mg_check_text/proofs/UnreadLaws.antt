@@ -86,12 +86,15 @@ head_read r s (inr one) = one_of_set r s part.Head refl (λ p apart. one p ∙ w
 pub looks_size : {T : Type 0} {result : Result T PartErr} {f g : Option Files} {r s : Reads} {m n : ℕ} → g ≡ f → SameReads r s → HasPartCause m n result → LooksAtSet result f g r s m n
 looks_size {r = r} {s = s} files reads cause = record { files = files; unread = none_read r s reads; cause = cause }
 
-pub looks_bytes : {T : Type 0} {result : Result T PartErr} {f g : Option Files} {r s : Reads} {m n : ℕ} (p : Part) → is_of_set p ≡ true → g ≡ f → ReadsOnly p r s → HasPartCause m n result → LooksAtSet result f g r s m n
+pub looks_bytes : {T : Type 0} {result : Result T PartErr} {f g : Option Files} {r s : Reads} {m n : ℕ} (p : Part) → is_of_set p ≡ true → g ≡ f →
+    ReadsOnly p r s → HasPartCause m n result → LooksAtSet result f g r s m n
 looks_bytes {r = r} {s = s} p of_set files reads cause = record { files = files; unread = one_of_set r s p of_set reads; cause = cause }
 
-pub looks_two : {T : Type 0} {result : Result T PartErr} {f g : Option Files} {r s : Reads} {m n : ℕ} (one other : Part) → is_of_set one ≡ true → is_of_set other ≡ true → LookedAt one other f g r s m n → HasPartCause m n result → LooksAtSet result f g r s m n
+pub looks_two : {T : Type 0} {result : Result T PartErr} {f g : Option Files} {r s : Reads} {m n : ℕ} (one other : Part) → is_of_set one ≡ true →
+    is_of_set other ≡ true → LookedAt one other f g r s m n → HasPartCause m n result → LooksAtSet result f g r s m n
 looks_two {f = f} {g = g} {r = r} {s = s} {m = m} {n = n} one other a b looked cause = record { files = looked.files; unread = two_of_set one other f g r s m n a b looked; cause = cause }
 
 -- a document was read
-pub text_read : {T : Type 0} {result : Result T PartErr} {old new : TextReading} {f g : Option Files} {r s : Reads} {m n : ℕ} → TextFits new g → SameText old new → LookedAt part.Text part.Places f g r s m n → HasPartCause m n result → ReadsText old new result f g r s m n
+pub text_read : {T : Type 0} {result : Result T PartErr} {old new : TextReading} {f g : Option Files} {r s : Reads} {m n : ℕ} → TextFits new g →
+    SameText old new → LookedAt part.Text part.Places f g r s m n → HasPartCause m n result → ReadsText old new result f g r s m n
 text_read fits same looked cause = record { fits = fits; same = same; looks = looks_two part.Text part.Places refl refl looked cause }

@@ -34,7 +34,8 @@ cost-step i cs ls within same =
 pub cost-small : (cs ls : List ℕ) → All (λ l. l ≤ 48) ls → cost_of cs ls ≤ 48 * sum cs
 cost-small [] ls short = omega arith
 cost-small (c ∷ cs) [] short = omega arith
-cost-small (c ∷ cs) (l ∷ ls) short = subst (λ (n : ℕ). c * l + cost_of cs ls ≤ 48 * n) (sym (sum-cons c cs)) (more c l (cost_of cs ls) (sum cs) (short 0 0 (omega arith)) (cost-small cs ls (λ k d h. short (suc k) d (omega (arith, h)))))
+cost-small (c ∷ cs) (l ∷ ls) short = subst (λ (n : ℕ). c * l + cost_of cs ls ≤ 48 * n) (sym (sum-cons c cs))
+    (more c l (cost_of cs ls) (sum cs) (short 0 0 (omega arith)) (cost-small cs ls (λ k d h. short (suc k) d (omega (arith, h)))))
   where
     more : (c l rest total : ℕ) → l ≤ 48 → rest ≤ 48 * total → c * l + rest ≤ 48 * (c + total)
     more c l rest total short small = grind arith

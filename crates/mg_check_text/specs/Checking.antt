@@ -150,7 +150,8 @@ pub record FoundText (parts : Parts) (h : defs.Head) (code : TextCode) : Type 0 
 
 -- for each collection whose text the reader reads, and whose document at a place, from 0, has at most so many bytes: that document
 abbrev pub ForDoc : TextReading → Option Files → ℕ → ℕ → (List ℕ → Type 0) → Type 0
-ForDoc r files place most claim = (collection : List ℕ) → HasDoc r files collection place most → claim (doc_at collection place)
+ForDoc r files place most claim = (collection : List ℕ) → HasDoc r files collection place most →
+    claim (doc_at collection place)
 
 -- the same for the next document, which has no more bytes than the head leaves
 abbrev pub ForNextDoc : TextReading → Option Files → Head → Progress → (List ℕ → Type 0) → Type 0
@@ -170,4 +171,5 @@ FoundSet files base head r = FoundText (parts_at files base) (fields_of head) r.
 
 -- a claim where the reader's codes were told, and some documents were read
 abbrev pub WhereRead : Option Files → List ℕ → Head → TextReading → Progress → Type 0 → Type 0
-WhereRead files base head r p claim = IsLoaded files base head r → (docs : List (List ℕ)) → HasRead (parts_at files base) head.version r.code docs p → claim
+WhereRead files base head r p claim = IsLoaded files base head r → (docs : List (List ℕ)) →
+    HasRead (parts_at files base) head.version r.code docs p → claim

@@ -39,7 +39,8 @@ pub record HasRoom (code : StreamCode) (counts : List ℕ) (more : ℕ) : Type 0
 -- ---- a piece and a pair
 
 -- the codeword of a piece more was put, and the piece was counted
-pub record PutPiece (code : StreamCode) (piece : List ℕ) (w0 w1 : TextWriting) (f0 f1 : Option Files) (old new : List ℕ) : Type 0 where
+pub record PutPiece (code : StreamCode) (piece : List ℕ) (w0 w1 : TextWriting) (f0 f1 : Option Files)
+    (old new : List ℕ) : Type 0 where
   pub took : (bits : Bits) → IsOnText w0 f0 [] bits → IsOnText w1 f1 [] (bits ++ codeword_of code piece)
   pub put : PutOne w0 w1
   pub base : w1.base ≡ w0.base
@@ -48,11 +49,14 @@ pub record PutPiece (code : StreamCode) (piece : List ℕ) (w0 w1 : TextWriting)
   pub counted : Counted code (piece ∷ []) old new
 
 -- the same of a piece of a stream of a model, into a store
-abbrev pub PutsPiece : {X : Type 0} → (X → Option Files) → X → X → Stream → TextCode → List ℕ → TextWriting → TextWriting → List ℕ → List ℕ → Type 0
-PutsPiece files before now stream model piece w0 w1 old new = PutPiece (code_of stream model) piece w0 w1 (files before) (files now) old new
+abbrev pub PutsPiece : {X : Type 0} → (X → Option Files) → X → X → Stream → TextCode → List ℕ → TextWriting →
+    TextWriting → List ℕ → List ℕ → Type 0
+PutsPiece files before now stream model piece w0 w1 old new = PutPiece (code_of stream model) piece w0 w1 (files before)
+    (files now) old new
 
 -- the codewords of some pairs more were put, and their pieces were counted
-pub record PutPairs (code : TextCode) (pairs : List Pair) (w0 w1 : TextWriting) (f0 f1 : Option Files) (old new : Uses) : Type 0 where
+pub record PutPairs (code : TextCode) (pairs : List Pair) (w0 w1 : TextWriting) (f0 f1 : Option Files)
+    (old new : Uses) : Type 0 where
   pub took : (bits : Bits) → IsOnText w0 f0 [] bits → IsOnText w1 f1 [] (bits ++ flat_map (coded_pair code) pairs)
   pub left : w1.left + 2 * length pairs ≡ w0.left
   pub docs : w1.docs ≡ w0.docs

@@ -16,4 +16,5 @@ numbers_in dictionary doc = map (number_of dictionary) (terms doc)
 -- the terms among these that a document has, each by its number, from 0, and how often it comes; they rise by number
 abbrev pub counted_in : List (List ℕ) → List ℕ → List (ℕ × ℕ)
 counted_in dictionary doc =
-    filter (λ (e : ℕ × ℕ). nat_lt 0 e.1) (map (λ (e : ℕ × List ℕ). (e.0, freq_in doc e.1)) (enumerate_from 0 dictionary))
+    filter (λ (e : ℕ × ℕ). nat_lt 0 e.1) (map (λ (e : ℕ × List ℕ). (e.0, freq_in doc e.1))
+    (enumerate_from 0 dictionary))

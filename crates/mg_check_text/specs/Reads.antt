@@ -39,7 +39,8 @@ pub record LooksAtSet {T : Type 0} (result : Result T PartErr) (files_before fil
   pub cause : HasPartCause faults_before faults_now result
 
 -- such a call that reads the text
-pub record ReadsText {T : Type 0} (old new : TextReading) (result : Result T PartErr) (files_before files_now : Option Files)
+pub record ReadsText {T : Type 0} (old new : TextReading) (result : Result T PartErr)
+    (files_before files_now : Option Files)
     (reads_before reads_now : Reads) (faults_before faults_now : ℕ) : Type 0 where
   -- what the reader keeps agrees with its files
   pub fits : TextFits new files_now

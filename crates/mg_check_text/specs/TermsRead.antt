@@ -20,7 +20,8 @@ pub record TermsRead : Type 0 where
 -- each of these terms that comes among numbers, by its number, and how often it comes
 abbrev pub counted_among : List (List ℕ) → List ℕ → List (ℕ × ℕ)
 counted_among dictionary numbers =
-    filter (λ (e : ℕ × ℕ). nat_lt 0 e.1) (map (λ (e : ℕ × List ℕ). (e.0, count_by (nat_eq e.0) numbers)) (enumerate_from 0 dictionary))
+    filter (λ (e : ℕ × ℕ). nat_lt 0 e.1) (map (λ (e : ℕ × List ℕ). (e.0, count_by (nat_eq e.0) numbers))
+    (enumerate_from 0 dictionary))
 
 -- counts of rising numbers after one number more, which is not below them
 abbrev pub one_more : ℕ → List (ℕ × ℕ) → List (ℕ × ℕ)
@@ -56,7 +57,8 @@ pub record AreTermsOf (words : List (List ℕ)) (doc : List ℕ) (t : TermsRead)
   pub short : length t.numbers < 2 ^ 32
 
 -- The terms that were read are those of a document. Where the reader's text is that of a collection, it is the one of this number, from 1.
-pub record HasReadTerms (r : TextReading) (files : Option Files) (words : List (List ℕ)) (number : ℕ) (t : TermsRead) : Type 0 where
+pub record HasReadTerms (r : TextReading) (files : Option Files) (words : List (List ℕ)) (number : ℕ) (t : TermsRead) :
+    Type 0 where
   pub doc : List ℕ
   pub terms : AreTermsOf words doc t
   pub own : (collection : List ℕ) → TextStands r files collection → doc ≡ document collection number

@@ -60,8 +60,10 @@ fn put_piece<S: Store>(
     requires turn { stream ≡ turn writer.old.left }
     requires keeps { IsStreamCode (code_of stream model.now) }
     requires room { HasRoom (code_of stream model.now) counts.old.items 1 }
-    ensures put { WherePut result (PutsPiece S.files store.old store.new stream model.now piece.now writer.old writer.new counts.old.items counts.new.items) }
-    ensures unknown { WhereUnknown result (Contains (code_of stream model.now).pieces piece.now → ⊥) }
+    ensures put { WherePut result (PutsPiece S.files store.old store.new stream model.now piece.now
+        writer.old writer.new counts.old.items counts.new.items) }
+    ensures unknown { WhereUnknown result (Contains (code_of stream model.now).pieces piece.now →
+        ⊥) }
 {
     // Laws of symbols.
     symbol_and_piece();
@@ -91,7 +93,8 @@ fn put_pair<S: Store>(
     requires words { HasRoom model.now.words uses.old.words.items 1 }
     requires others { HasRoom model.now.others uses.old.others.items 1 }
     ensures put { WherePut result
-        (PutPairs model.now (pair_of pair.entry ∷ []) writer.old writer.new (S.files store.old) (S.files store.new) uses.old uses.new) }
+        (PutPairs model.now (pair_of pair.entry ∷ []) writer.old writer.new (S.files store.old)
+        (S.files store.new) uses.old uses.new) }
     ensures unknown { WhereUnknown result (HasCodewords model.now (pair_of pair.entry) → ⊥) }
 {
     match put_piece(
@@ -131,8 +134,10 @@ fn put_pairs<S: Store>(
     requires model { IsModel model.now }
     requires words { HasRoom model.now.words uses.old.words.items (length (parse doc.now)) }
     requires others { HasRoom model.now.others uses.old.others.items (length (parse doc.now)) }
-    ensures put { WherePut result (PutPairs model.now (parse doc.now) writer.old writer.new (S.files store.old) (S.files store.new) uses.old uses.new) }
-    ensures unknown { WhereUnknown result (AllByRecursion (HasCodewords model.now) (parse doc.now) → ⊥) }
+    ensures put { WherePut result (PutPairs model.now (parse doc.now) writer.old writer.new
+        (S.files store.old) (S.files store.new) uses.old uses.new) }
+    ensures unknown { WhereUnknown result (AllByRecursion (HasCodewords model.now) (parse doc.now) →
+        ⊥) }
 {
     for pair in Pairs::new(doc) {
         match put_pair(writer, store, model, pair, uses) {
@@ -169,7 +174,8 @@ fn put_doc<S: Store>(
     requires model { IsModel model.now }
     requires words { HasRoom model.now.words uses.old.words.items (length doc.now) }
     requires others { HasRoom model.now.others uses.old.others.items (length doc.now) }
-    ensures coded { WherePut result (IsSome (S.files store.old) → IsCodedAs model.now doc.now (text_in (S.files store.new)) uses.old uses.new) }
+    ensures coded { WherePut result (IsSome (S.files store.old) →
+        IsCodedAs model.now doc.now (text_in (S.files store.new)) uses.old uses.new) }
     ensures unknown { WhereUnknown result (IsCodable model.now doc.now → ⊥) }
 {
     let count = count_pairs(doc);
@@ -196,7 +202,8 @@ fn code_into<S: Store>(
     requires model { IsModel model.now }
     requires words { HasRoom model.now.words uses.old.words.items (length doc.now) }
     requires others { HasRoom model.now.others uses.old.others.items (length doc.now) }
-    ensures coded { WherePut result (IsSome (S.files store.old) → IsCodedAs model.now doc.now (text_in (S.files store.new)) uses.old uses.new) }
+    ensures coded { WherePut result (IsSome (S.files store.old) →
+        IsCodedAs model.now doc.now (text_in (S.files store.new)) uses.old uses.new) }
     ensures unknown { WhereUnknown result (IsCodable model.now doc.now → ⊥) }
 {
     let mut writer = TextWriter::start(alloc, store, BASE)?;
@@ -215,7 +222,9 @@ pub(crate) fn code_doc(
     requires model { IsModel model.now }
     requires words { HasRoom model.now.words uses.old.words.items (length doc.now) }
     requires others { HasRoom model.now.others uses.old.others.items (length doc.now) }
-    ensures coded { WhereCoded result (λ coded. IsCodedAs model.now doc.now (text_in (⟦<SureStore as Store>⟧.files coded.store)) uses.old uses.new) }
+    ensures coded { WhereCoded result
+        (λ coded. IsCodedAs model.now doc.now (text_in (⟦<SureStore as Store>⟧.files coded.store))
+        uses.old uses.new) }
     ensures unknown { WhereUnknown result (IsCodable model.now doc.now → ⊥) }
 {
     let mut store = SureStore::new(alloc);

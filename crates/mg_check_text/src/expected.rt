@@ -31,8 +31,10 @@ pub fn expect_more<S: Store>(
     requires place { at ≤ 2 ^ 63 }
     ensures end { IfOk result (λ end. end ≡ at + length wanted.now) }
     ensures within { IfOk result (λ end. end ≤ 2 ^ 63) }
-    ensures stand { IsSome (S.files store.old) → OnOk result (StandAt at wanted.now (file_bytes file.entry (S.files store.old))) }
-    ensures other { IsSome (S.files store.old) → IfErr result (Refutes (StandAt at wanted.now (file_bytes file.entry (S.files store.old)))) }
+    ensures stand { IsSome (S.files store.old) →
+        OnOk result (StandAt at wanted.now (file_bytes file.entry (S.files store.old))) }
+    ensures other { IsSome (S.files store.old) →
+        IfErr result (Refutes (StandAt at wanted.now (file_bytes file.entry (S.files store.old)))) }
     ensures looks { Between S.files S.reads S.faults store.old store.new (LooksAtSet result) }
 {
     let count = wanted.len() as u64;
@@ -53,8 +55,10 @@ pub fn expect_whole<S: Store>(
     wanted: &[u8],
 ) -> Result<(), PartErr>
     requires { is_of_set file.part ≡ true }
-    ensures stand { IsSome (S.files store.old) → OnOk result (file_bytes file.entry (S.files store.old) ≡ wanted.now) }
-    ensures other { IsSome (S.files store.old) → IfErr result (Refutes (file_bytes file.entry (S.files store.old) ≡ wanted.now)) }
+    ensures stand { IsSome (S.files store.old) →
+        OnOk result (file_bytes file.entry (S.files store.old) ≡ wanted.now) }
+    ensures other { IsSome (S.files store.old) →
+        IfErr result (Refutes (file_bytes file.entry (S.files store.old) ≡ wanted.now)) }
     ensures looks { Between S.files S.reads S.faults store.old store.new (LooksAtSet result) }
 {
     let end = match expect_more(store, file, 0, wanted) {

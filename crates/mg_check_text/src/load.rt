@@ -35,8 +35,10 @@ pub fn load_text<'a, S: Store>(
     ensures fits { IfOk result (λ r. TextFits r (S.files store.new)) }
     ensures reader { IfOk result (λ r. IsTextReader r base.entry.now head.now) }
     ensures model { IfOk result (λ r. IsModel r.code) }
-    ensures told { HasHead (S.files store.old) base.entry.now head.now → IfOk result (λ r. IsLoaded (S.files store.old) base.entry.now head.now r) }
-    ensures none { HasHead (S.files store.old) base.entry.now head.now → OnBad result (StandForNone (parts_at (S.files store.old) base.entry.now)) }
+    ensures told { HasHead (S.files store.old) base.entry.now head.now →
+        IfOk result (λ r. IsLoaded (S.files store.old) base.entry.now head.now r) }
+    ensures none { HasHead (S.files store.old) base.entry.now head.now →
+        OnBad result (StandForNone (parts_at (S.files store.old) base.entry.now)) }
     ensures looks { Between S.files S.reads S.faults store.old store.new (LooksAtSet result) }
 {
     let reader = match TextReader::load(alloc, store, base, head) {

@@ -34,8 +34,11 @@ pub(crate) fn expect_place<S: Store>(
     place: u64,
 ) -> Result<(), PartErr>
     requires narrow { version ≡ 1 → place < 2 ^ 32 }
-    ensures stand { IsSome (S.files store.old) → OnOk result (PlaceStands version number place (parts_at (S.files store.old) base.now)) }
-    ensures other { IsSome (S.files store.old) → IfErr result (Refutes (PlaceStands version number place (parts_at (S.files store.old) base.now))) }
+    ensures stand { IsSome (S.files store.old) →
+        OnOk result (PlaceStands version number place (parts_at (S.files store.old) base.now)) }
+    ensures other { IsSome (S.files store.old) →
+        IfErr result (Refutes (PlaceStands version number place
+        (parts_at (S.files store.old) base.now))) }
     ensures looks { Between S.files S.reads S.faults store.old store.new (LooksAtSet result) }
 {
     let file = FileRef {
@@ -90,9 +93,12 @@ fn decode_next<S: Store>(
     requires more { progress.now.documents < reader.old.documents }
     requires few { progress.now.documents < 2 ^ 32 - 1 }
     ensures document { OnOk result (IsDocument held.new.bytes.items) }
-    ensures short { OnOk result (progress.now.bytes + length held.new.bytes.items ≤ head.now.collection) }
-    ensures own { ForNextDoc reader.old (S.files store.old) head.now progress.now (λ doc. OnOk result (held.new.bytes.items ≡ doc)) }
-    ensures never_bad { ForNextDoc reader.old (S.files store.old) head.now progress.now (λ _. IfErr result IsNotBad) }
+    ensures short { OnOk result (progress.now.bytes + length held.new.bytes.items
+        ≤ head.now.collection) }
+    ensures own { ForNextDoc reader.old (S.files store.old) head.now progress.now
+        (λ doc. OnOk result (held.new.bytes.items ≡ doc)) }
+    ensures never_bad { ForNextDoc reader.old (S.files store.old) head.now progress.now
+        (λ _. IfErr result IsNotBad) }
     ensures text { Between S.files S.reads S.faults store.old store.new
         (ReadsText reader.old reader.new result) }
 {
@@ -136,11 +142,14 @@ fn add_doc<S: Store>(
     requires bytes { progress.old.bytes < 2 ^ 32 }
     requires place { progress.old.place ≤ 2 ^ 60 }
     requires narrow { version ≡ 1 → progress.old.place < 2 ^ 32 }
-    ensures next { IsSome (S.files store.old) → OnOk result (IsNextDoc (parts_at (S.files store.old) base.now) version model.now doc.now progress.old) }
+    ensures next { IsSome (S.files store.old) →
+        OnOk result (IsNextDoc (parts_at (S.files store.old) base.now) version model.now doc.now
+        progress.old) }
     ensures added { OnOk result (HasAdded model.now doc.now progress.old progress.new) }
     ensures short { OnOk result (coded_size model.now doc.now ≤ 12 * length doc.now + 13) }
     ensures other { IsSome (S.files store.old) →
-        OnBad result (IsNextDoc (parts_at (S.files store.old) base.now) version model.now doc.now progress.old → ⊥) }
+        OnBad result (IsNextDoc (parts_at (S.files store.old) base.now) version model.now doc.now
+        progress.old → ⊥) }
     ensures looks { Between S.files S.reads S.faults store.old store.new (LooksAtSet result) }
 {
     let text = FileRef {
@@ -183,7 +192,9 @@ pub(crate) fn next_doc<S: Store>(
     requires range { IsInRange reader.old.code head.now progress.old }
     ensures range { OnOk result (IsInRange reader.old.code head.now progress.new) }
     ensures count { OnOk result (progress.new.documents ≡ progress.old.documents + 1) }
-    ensures found { IsSome (S.files store.old) → OnOk result (FoundMore (S.files store.old) base.now head.now reader.old progress.old progress.new) }
+    ensures found { IsSome (S.files store.old) →
+        OnOk result (FoundMore (S.files store.old) base.now head.now reader.old progress.old
+        progress.new) }
     ensures none { WhereRead (S.files store.old) base.now head.now reader.old progress.old
         (OnBad result (StandForNone (parts_at (S.files store.old) base.now))) }
     ensures text { Between S.files S.reads S.faults store.old store.new

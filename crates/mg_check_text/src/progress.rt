@@ -28,7 +28,8 @@ impl Progress {
     /// No document was read.
     pub(crate) fn new(alloc: Global, model: &TextModel) -> Result<Self, AllocError>
         ensures model { IsModel model.now }
-        ensures none { IfOk result (λ p. (parts : Parts) (version : ℕ) → HasRead parts version model.now [] p) }
+        ensures none { IfOk result (λ p. (parts : Parts) (version : ℕ) →
+            HasRead parts version model.now [] p) }
         ensures range { IfOk result (λ p. (head : Head) → IsInRange model.now head p) }
     {
         let uses = Uses::none(alloc, model)?;

@@ -43,7 +43,8 @@ impl Recent {
 
     // The symbol that is kept at a place, if it is that of the piece.
     fn kept(&self, model: &TextModel, stream: Stream, piece: &[u8], place: usize) -> Option<u32>
-        ensures { IfSome result (λ symbol. position (bytes_eq piece.now) (code_of stream model.now).pieces ≡ Some symbol) }
+        ensures { IfSome result (λ symbol.
+            position (bytes_eq piece.now) (code_of stream model.now).pieces ≡ Some symbol) }
     {
         // By this law a piece has one symbol.
         symbol_and_piece();

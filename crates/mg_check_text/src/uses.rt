@@ -48,7 +48,8 @@ impl Uses {
 pub(crate) fn count_use(counts: &mut Vec<u64>, symbol: u32)
     requires symbol { symbol < length counts.old.items }
     requires few { sum counts.old.items < 2 ^ 63 }
-    ensures { counts.new.items ≡ set counts.old.items symbol (get_or counts.old.items symbol 0 + 1) }
+    ensures { counts.new.items ≡ set counts.old.items symbol
+        (get_or counts.old.items symbol 0 + 1) }
 {
     counts[symbol as usize] += 1;
 }

@@ -37,8 +37,11 @@ fn read_docs<S: Store>(
     requires reads { ReadsBy reader.old (S.files store.old) head.now }
     ensures range { IfOk result (λ p. IsInRange reader.old.code head.now p) }
     ensures all { IfOk result (λ p. p.documents ≡ head.now.documents) }
-    ensures found { IsSome (S.files store.old) → IfOk result (λ p. FoundDocs (parts_at (S.files store.old) base.now) head.now.version reader.old.code p) }
-    ensures none { IsLoaded (S.files store.old) base.now head.now reader.old → OnBad result (StandForNone (parts_at (S.files store.old) base.now)) }
+    ensures found { IsSome (S.files store.old) →
+        IfOk result (λ p. FoundDocs (parts_at (S.files store.old) base.now) head.now.version
+        reader.old.code p) }
+    ensures none { IsLoaded (S.files store.old) base.now head.now reader.old →
+        OnBad result (StandForNone (parts_at (S.files store.old) base.now)) }
     ensures text { Between S.files S.reads S.faults store.old store.new
         (ReadsText reader.old reader.new result) }
 {
@@ -109,8 +112,12 @@ fn expect_end<S: Store>(
 ) -> Result<(), PartErr>
     requires within { IsWithin (fields_of head.now) }
     requires range { IsInRange model.now head.now progress.now }
-    ensures ends { IsSome (S.files store.old) → OnOk result (IsAtEnd (parts_at (S.files store.old) base.now) head.now model.now progress.now) }
-    ensures other { IsSome (S.files store.old) → OnBad result (IsAtEnd (parts_at (S.files store.old) base.now) head.now model.now progress.now → ⊥) }
+    ensures ends { IsSome (S.files store.old) →
+        OnOk result (IsAtEnd (parts_at (S.files store.old) base.now) head.now model.now
+        progress.now) }
+    ensures other { IsSome (S.files store.old) →
+        OnBad result (IsAtEnd (parts_at (S.files store.old) base.now) head.now model.now
+        progress.now → ⊥) }
     ensures looks { Between S.files S.reads S.faults store.old store.new (LooksAtSet result) }
 {
     match expect_numbers(head, progress) {
@@ -149,8 +156,10 @@ pub fn read_text<S: Store>(
     reader: &mut TextReader<'_, S>,
 ) -> Result<(), PartErr>
     requires reads { ReadsBy reader.old (S.files store.old) head.now }
-    ensures found { IsLoaded (S.files store.old) base.now head.now reader.old → OnOk result (FoundSet (S.files store.old) base.now head.now reader.old) }
-    ensures none { IsLoaded (S.files store.old) base.now head.now reader.old → OnBad result (StandForNone (parts_at (S.files store.old) base.now)) }
+    ensures found { IsLoaded (S.files store.old) base.now head.now reader.old →
+        OnOk result (FoundSet (S.files store.old) base.now head.now reader.old) }
+    ensures none { IsLoaded (S.files store.old) base.now head.now reader.old →
+        OnBad result (StandForNone (parts_at (S.files store.old) base.now)) }
     ensures text { Between S.files S.reads S.faults store.old store.new
         (ReadsText reader.old reader.new result) }
 {

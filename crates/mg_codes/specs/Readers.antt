@@ -26,8 +26,10 @@ pub record CanRead {Fed Dev : Type 0} (last limit : ℕ) (agrees : Fed → Optio
   pub small : limit < 2 ^ 48
 
 -- The number is answered whose code stands at the reader's place, or why there is none; of the numbers those are taken that a limit allows.
-pub record ReadsCode {Fed Dev : Type 0} (taken : ℕ → ℕ → Type 0) (limit : ℕ) (code : ℕ → Bits) (agrees : Fed → Option Files → Type 0)
-    (feeding : Fed → Feeding) (device : Dev → Device) (old new : Reading Fed) (dev now : Dev) (result : Result ℕ CodeErr) : Type 0 where
+pub record ReadsCode {Fed Dev : Type 0} (taken : ℕ → ℕ → Type 0) (limit : ℕ) (code : ℕ → Bits)
+    (agrees : Fed → Option Files → Type 0)
+    (feeding : Fed → Feeding) (device : Dev → Device) (old new : Reading Fed) (dev now : Dev)
+    (result : Result ℕ CodeErr) : Type 0 where
   -- the feed agrees with its device
   pub fits : agrees new.feed (device now).files
   -- nothing is read but the feed's own part, and no file changes
@@ -46,7 +48,8 @@ pub record ReadsCode {Fed Dev : Type 0} (taken : ℕ → ℕ → Type 0) (limit 
   pub cause : CodeCause result (device dev).faults (device now).faults
 
 -- The code of a number that is taken stands at the reader's place, so many bits, and the page that is held has all of them.
-pub record IsHeldCode {Fed : Type 0} (taken : ℕ → ℕ → Type 0) (limit : ℕ) (code : ℕ → Bits) (agrees : Fed → Option Files → Type 0)
+pub record IsHeldCode {Fed : Type 0} (taken : ℕ → ℕ → Type 0) (limit : ℕ) (code : ℕ → Bits)
+    (agrees : Fed → Option Files → Type 0)
     (feeding : Fed → Feeding) (r : Reading Fed) (number count : ℕ) : Type 0 where
   -- the number is one that is taken
   pub range : taken limit number
@@ -57,4 +60,5 @@ pub record IsHeldCode {Fed : Type 0} (taken : ℕ → ℕ → Type 0) (limit : �
   -- the page that is held has the bits
   pub held : HoldsBits (feeding r.feed) r.place count
   -- they are those of the code, whatever files the feed agrees with
-  pub told : (files : Option Files) → agrees r.feed files → FromPlace ((feeding r.feed).source files) r.place (Begins (code number))
+  pub told : (files : Option Files) → agrees r.feed files →
+      FromPlace ((feeding r.feed).source files) r.place (Begins (code number))

@@ -8,7 +8,8 @@ use Rattle.mg_bits.specs.Writer.{WroteTo}
 use Rattle.mg_bits.specs.BitWriting.{BitWriting, Holds, WroteBits}
 
 -- these bits are written, and no others
-pub record PutsBits {Store T : Type 0} (code : Bits) (files : Store → Option Files) (reads : Store → Reads) (faults : Store → ℕ)
+pub record PutsBits {Store T : Type 0} (code : Bits) (files : Store → Option Files) (reads : Store → Reads)
+    (faults : Store → ℕ)
     (old new : BitWriting) (before now : Store) (result : Result T PutErr) : Type 0 where
   -- the writer holds what its place counts
   pub holds : OnOk result (Holds new (files now))

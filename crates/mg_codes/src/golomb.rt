@@ -53,7 +53,8 @@ pub fn put_golomb<S: Store>(
     requires limit { b < 2 ^ 48 }
     requires some { 1 ≤ x }
     requires small { x < 2 ^ 48 }
-    ensures { PutsBits (golomb b x) S.files S.reads S.faults w.old w.new store.old store.new result }
+    ensures { PutsBits (golomb b x) S.files S.reads S.faults w.old w.new store.old store.new
+        result }
 {
     let (quotient, rest) = parted(x - 1, b);
     put_unary(w, store, 1 + quotient)?;

@@ -34,7 +34,8 @@ fn whole(size: u32, few: u64, done: u32, high: u64) -> Option<u64>
     requires done { done ≤ size }
     requires size { size ≤ 48 }
     requires last { done ≡ size → 2 * few ≤ high }
-    ensures { MatchOption result (IsOpenAt size few done high) (λ v. IsWholeAt size few done high v) }
+    ensures { MatchOption result (IsOpenAt size few done high)
+        (λ v. IsWholeAt size few done high v) }
 {
     if done == size {
         return Some(high - few);

@@ -41,7 +41,8 @@ same_more a b c one two = record {
 
 -- what stands for a reader does so for what the reader became, while the files stay
 pub stands_on : (r now : TextReading) (files files_now : Option Files) (collection : List ℕ) → SameText r now → files_now ≡ files → TextStands r files collection → TextStands now files_now collection
-stands_on r now files files_now collection same stay stands = text_stays r now files files_now collection same (ap is_some stay) (ap (λ f. file_at f r.text.name) stay) (ap (λ f. file_at f r.places.name) stay) stands
+stands_on r now files files_now collection same stay stands = text_stays r now files files_now collection same (ap is_some stay)
+    (ap (λ f. file_at f r.text.name) stay) (ap (λ f. file_at f r.places.name) stay) stands
 
 -- ---- a document and the byte that closes it
 
@@ -82,25 +83,30 @@ next_whole collection bytes i all count more whole =
     drop_long (d ∷ ds) (suc i) h = omega (arith, drop_long ds i (omega (arith, h)))
 
 -- one document more was shown
-pub shown_next : (collection : List ℕ) (i number all : ℕ) (open_end closed : Bool) (w0 w1 w2 : Option (List ℕ)) (held0 held : List ℕ) → all ≡ length (documents collection) → i < all → number ≡ i + 1 → has_open_end collection ≡ open_end → closed ≡ is_closed number all open_end →
+pub shown_next : (collection : List ℕ) (i number all : ℕ) (open_end closed : Bool) (w0 w1 w2 : Option (List ℕ)) (held0 held : List ℕ) →
+    all ≡ length (documents collection) → i < all → number ≡ i + 1 → has_open_end collection ≡ open_end → closed ≡ is_closed number all open_end →
     (first : ShownFirst i w0 w1 held0 collection) → Shown w0 w2 held (first.bytes ++ (get_or (documents collection) (number - 1) [] ++ close closed)) → ShownFirst (i + 1) w0 w2 held collection
 shown_next collection i number all open_end closed w0 w1 w2 held0 held count more at ends is first shown =
     let e : closed ≡ is_closed (i + 1) all (has_open_end collection) = is ∙ ap (λ n. is_closed n all open_end) at ∙ ap (is_closed (i + 1) all) (sym ends) in
     let place : number - 1 ≡ i = omega (arith, at) in
     record {
       bytes = first.bytes ++ (get_or (documents collection) i [] ++ close (is_closed (i + 1) all (has_open_end collection)));
-      shown = subst (λ n. Shown w0 w2 held (first.bytes ++ (get_or (documents collection) n [] ++ close (is_closed (i + 1) all (has_open_end collection))))) place (subst (λ b. Shown w0 w2 held (first.bytes ++ (get_or (documents collection) (number - 1) [] ++ close b))) e shown);
+      shown = subst (λ n. Shown w0 w2 held (first.bytes ++ (get_or (documents collection) n [] ++ close (is_closed (i + 1) all (has_open_end collection)))))
+          place (subst (λ b. Shown w0 w2 held (first.bytes ++ (get_or (documents collection) (number - 1) [] ++ close b))) e shown);
       whole = next_whole collection first.bytes i all count more first.whole;
     }
 
 -- the next document was refused
-pub refused_next : (collection : List ℕ) (i number all : ℕ) (open_end closed : Bool) (w0 w1 w2 : Option (List ℕ)) (held0 : List ℕ) → all ≡ length (documents collection) → i < all → number ≡ i + 1 → has_open_end collection ≡ open_end → closed ≡ is_closed number all open_end →
+pub refused_next : (collection : List ℕ) (i number all : ℕ) (open_end closed : Bool) (w0 w1 w2 : Option (List ℕ)) (held0 : List ℕ) →
+    all ≡ length (documents collection) → i < all → number ≡ i + 1 → has_open_end collection ≡ open_end → closed ≡ is_closed number all open_end →
     (first : ShownFirst i w0 w1 held0 collection) → GrewByPrefix w0 w2 (first.bytes ++ (get_or (documents collection) (number - 1) [] ++ close closed)) → GrewByPrefix w0 w2 collection
 refused_next collection i number all open_end closed w0 w1 w2 held0 count more at ends is first grew =
     let e : closed ≡ is_closed (i + 1) all (has_open_end collection) = is ∙ ap (λ n. is_closed n all open_end) at ∙ ap (is_closed (i + 1) all) (sym ends) in
     let place : number - 1 ≡ i = omega (arith, at) in
     let bytes = first.bytes ++ (get_or (documents collection) i [] ++ close (is_closed (i + 1) all (has_open_end collection))) in
-    let here : GrewByPrefix w0 w2 bytes = subst (λ n. GrewByPrefix w0 w2 (first.bytes ++ (get_or (documents collection) n [] ++ close (is_closed (i + 1) all (has_open_end collection))))) place (subst (λ b. GrewByPrefix w0 w2 (first.bytes ++ (get_or (documents collection) (number - 1) [] ++ close b))) e grew) in
+    let here : GrewByPrefix w0 w2 bytes =
+    subst (λ n. GrewByPrefix w0 w2 (first.bytes ++ (get_or (documents collection) n [] ++ close (is_closed (i + 1) all (has_open_end collection))))) place
+    (subst (λ b. GrewByPrefix w0 w2 (first.bytes ++ (get_or (documents collection) (number - 1) [] ++ close b))) e grew) in
     subst (GrewByPrefix w0 w2) (next_whole collection first.bytes i all count more first.whole) (grew_first w0 w2 bytes (joined (drop (i + 1) (documents collection)) (has_open_end collection)) here)
 
 -- all documents were shown

@@ -32,7 +32,8 @@ use Rattle.mg_decode.specs.Outcomes.{DecodeStops, ShowStops}
 
 -- a head that was refused as bad is that of no set
 pub bad_head : (files : Option Files) (base : List ℕ) (refusal : PartErr) →
-    (IsSome files → (h : defs.Head) → IsHead 1 2 (bytes_at files (full_name base part.Head)) h → AnswersBack h (Err refusal)) → AnswersWithin (Err refusal) → (before now : ℕ) (out : Type 0) → HasPartCause {T = Option Head} before now (Err refusal) →
+    (IsSome files → (h : defs.Head) → IsHead 1 2 (bytes_at files (full_name base part.Head)) h → AnswersBack h (Err refusal)) → AnswersWithin (Err refusal) →
+    (before now : ℕ) (out : Type 0) → HasPartCause {T = Option Head} before now (Err refusal) →
     DecodeStops (Rose before now) out files base (fault_of_part refusal)
 bad_head files base Device back within before now out cause = cause.device
 bad_head files base Memory back within before now out cause = tt
@@ -70,7 +71,8 @@ decode_stops show.Write files base before now s0 s1 t f g l m le stops bad = sto
 decode_stops show.Memory files base before now s0 s1 t f g l m le stops bad = tt
 
 -- a set that stands is decoded where no device fails and memory does not lack
-pub done : (fault : Fault) (rose out : Type 0) (files : Option Files) (base collection : List ℕ) → Stands files base collection → (rose → ⊥) → (out → ⊥) → DecodeStops rose out files base fault → IsDone {T = Unit {0}} (Err fault)
+pub done : (fault : Fault) (rose out : Type 0) (files : Option Files) (base collection : List ℕ) → Stands files base collection → (rose → ⊥) → (out → ⊥) →
+    DecodeStops rose out files base fault → IsDone {T = Unit {0}} (Err fault)
 done fault.Usage rose out files base collection stands calm well stops = stops
 done fault.StoreFault rose out files base collection stands calm well stops = calm stops
 done fault.ReadFault rose out files base collection stands calm well stops = stops
@@ -95,7 +97,8 @@ some_head bytes loaded head is answer = subst (λ o. AnswersHead 1 2 bytes (Ok o
 pub no_head : (bytes : List ℕ) (loaded : Option Head) → loaded ≡ None → AnswersHead 1 2 bytes (Ok loaded) → bytes ≡ []
 no_head bytes loaded is answer = subst (λ o. AnswersHead 1 2 bytes (Ok o)) is answer
 
-pub stands_loaded : (files mid : Option Files) (base collection : List ℕ) (loaded : Option Head) (head : Head) → loaded ≡ Some head → mid ≡ files → (IsSome files → AnswersHead 1 2 (bytes_at files (full_name base part.Head)) (Ok loaded)) → Stands files base collection →
+pub stands_loaded : (files mid : Option Files) (base collection : List ℕ) (loaded : Option Head) (head : Head) → loaded ≡ Some head → mid ≡ files →
+    (IsSome files → AnswersHead 1 2 (bytes_at files (full_name base part.Head)) (Ok loaded)) → Stands files base collection →
     (code : TextCode) × StandsBy head code mid base collection
 stands_loaded files mid base collection loaded head is same answer stands =
     let by = loaded_set files base collection head stands (some_head (bytes_at files (full_name base part.Head)) loaded head is (answer stands.told)) in

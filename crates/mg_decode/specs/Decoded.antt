@@ -20,7 +20,8 @@ pub record Decoded (base : List ℕ) (run : Run) : Type 0 where
   pub done : (collection : List ℕ) → Stands run.store.files base collection → run.status ≡ Done
       → run.out_now.written ≡ appended run.out.written collection
   -- every status: a prefix of it is printed, and nothing after status 5
-  pub prefix : (collection : List ℕ) → Stands run.store.files base collection → GrewByPrefix run.out.written run.out_now.written collection
+  pub prefix : (collection : List ℕ) → Stands run.store.files base collection →
+      GrewByPrefix run.out.written run.out_now.written collection
   pub silent : Stops run NotBuilt → SaysNothing run
   -- the cause of every other status; 5 comes exactly where it has it, unless the store fails or memory is wanting
   pub cause : IfStopped run.status (DecodeStops (StoreFailed run) (OutputFailed run) run.store.files base)
@@ -34,15 +35,17 @@ pub record Decoded (base : List ℕ) (run : Run) : Type 0 where
   pub input : run.input_now ≡ run.input
 
 -- a run that ends with this answer decodes, by what the store and the sink tell before the call and after it, whatever its input is, which is not read, and its error output
-abbrev pub DecodesSet : {X Y T : Type 0} → List ℕ → (X → Option Files) → (X → Reads) → (X → ℕ) → X → X → (Y → Option (List ℕ)) → (Y → ℕ) → (Y → ℕ) → Y → Y → Result T Fault → Type 0
-DecodesSet base files reads faults store store_now written failures lacks out out_now result = (input : SourceAt) (err err_now : SinkAt) → Decoded base (record {
-  store = store_at files reads faults store;
-  store_now = store_at files reads faults store_now;
-  input = input;
-  input_now = input;
-  out = sink_at written failures lacks out;
-  out_now = sink_at written failures lacks out_now;
-  err = err;
-  err_now = err_now;
-  status = status_of result;
-})
+abbrev pub DecodesSet : {X Y T : Type 0} → List ℕ → (X → Option Files) → (X → Reads) → (X → ℕ) → X → X →
+    (Y → Option (List ℕ)) → (Y → ℕ) → (Y → ℕ) → Y → Y → Result T Fault → Type 0
+DecodesSet base files reads faults store store_now written failures lacks out out_now result =
+    (input : SourceAt) (err err_now : SinkAt) → Decoded base (record {
+      store = store_at files reads faults store;
+      store_now = store_at files reads faults store_now;
+      input = input;
+      input_now = input;
+      out = sink_at written failures lacks out;
+      out_now = sink_at written failures lacks out_now;
+      err = err;
+      err_now = err_now;
+      status = status_of result;
+    })

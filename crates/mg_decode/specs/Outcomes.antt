@@ -32,10 +32,13 @@ ShowStops (Err show.Write) before now s t f g l m = Rose f g
 ShowStops (Err show.Memory) before now s t f g l m = Rose l m
 
 -- the same, by what the store and the sink tell before the call and after it
-abbrev pub ShowRefused : {X Y : Type 0} → (X → ℕ) → X → X → (Y → Option (List ℕ)) → (Y → ℕ) → (Y → ℕ) → Y → Y → Result (Unit {0}) ShowErr → Type 0
+abbrev pub ShowRefused : {X Y : Type 0} → (X → ℕ) → X → X → (Y → Option (List ℕ)) → (Y → ℕ) → (Y → ℕ) → Y → Y →
+    Result (Unit {0}) ShowErr → Type 0
 ShowRefused faults store store_now written failures lacks out out_now result =
-    ShowStops result (written out) (written out_now) (faults store) (faults store_now) (failures out) (failures out_now) (lacks out) (lacks out_now)
+    ShowStops result (written out) (written out_now) (faults store) (faults store_now) (failures out) (failures out_now)
+    (lacks out) (lacks out_now)
 
 -- it is done, or memory lacks, unless the store or the sink fails
 abbrev pub DoneUnlessFails : {X Y T : Type 0} → (X → ℕ) → X → X → (Y → ℕ) → Y → Y → Result T Fault → Type 0
-DoneUnlessFails faults store store_now failures out out_now result = ¬ Rose (faults store) (faults store_now) → ¬ Rose (failures out) (failures out_now) → IsDone result
+DoneUnlessFails faults store store_now failures out out_now result = ¬ Rose (faults store) (faults store_now) →
+    ¬ Rose (failures out) (failures out_now) → IsDone result

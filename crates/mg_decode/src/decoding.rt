@@ -33,11 +33,14 @@ pub fn decode<S: Store, O: Sink>(
     out: &mut O,
 ) -> Result<(), Fault>
     // What a run does that decodes, whatever its input is, which is not read, and its error output.
-    ensures decoded { DecodesSet base.now S.files S.reads S.faults store.old store.new O.written O.faults O.lacks out.old out.new result }
+    ensures decoded { DecodesSet base.now S.files S.reads S.faults store.old store.new O.written
+        O.faults O.lacks out.old out.new result }
     // Whatever the files hold, bytes are only added.
-    ensures added { Added (O.written out.old) (O.written out.new) (O.faults out.old) (O.faults out.new) (O.lacks out.old) (O.lacks out.new) }
+    ensures added { Added (O.written out.old) (O.written out.new) (O.faults out.old)
+        (O.faults out.new) (O.lacks out.old) (O.lacks out.new) }
     // At want of memory nothing was written, unless it was the sink that lacked it.
-    ensures memory { result ≡ Err fault.Memory → (O.written out.new ≡ O.written out.old) ⊎ Rose (O.lacks out.old) (O.lacks out.new) }
+    ensures memory { result ≡ Err fault.Memory → (O.written out.new ≡ O.written out.old)
+        ⊎ Rose (O.lacks out.old) (O.lacks out.new) }
     ensures later { S.faults store.old ≤ S.faults store.new }
 {
     decode_files(alloc, store, base, out)
@@ -54,13 +57,17 @@ fn decode_files<S: Store, O: Sink>(
     ensures content { (collection : List ℕ) → Stands (S.files store.old) base.now collection →
         AfterPut (O.written out.old) (O.written out.new) collection result }
     // Whatever the files hold, bytes are only added.
-    ensures added { Added (O.written out.old) (O.written out.new) (O.faults out.old) (O.faults out.new) (O.lacks out.old) (O.lacks out.new) }
+    ensures added { Added (O.written out.old) (O.written out.new) (O.faults out.old)
+        (O.faults out.new) (O.lacks out.old) (O.lacks out.new) }
     ensures silent { result ≡ Err fault.NotBuilt → O.written out.new ≡ O.written out.old }
     // The cause of each refusal.
     ensures cause { IfErr result (DecodeStops (Rose (S.faults store.old) (S.faults store.new))
         (Rose (O.faults out.old) (O.faults out.new)) (S.files store.old) base.now) }
-    ensures not_built { IsSome (S.files store.old) → bytes_at (S.files store.old) (full_name base.now part.Head) ≡ [] → RefusedFor result fault.NotBuilt }
-    ensures memory { result ≡ Err fault.Memory → (O.written out.new ≡ O.written out.old) ⊎ Rose (O.lacks out.old) (O.lacks out.new) }
+    ensures not_built { IsSome (S.files store.old) →
+        bytes_at (S.files store.old) (full_name base.now part.Head) ≡ [] →
+        RefusedFor result fault.NotBuilt }
+    ensures memory { result ≡ Err fault.Memory → (O.written out.new ≡ O.written out.old)
+        ⊎ Rose (O.lacks out.old) (O.lacks out.new) }
     ensures complete { ForEach (Stands (S.files store.old) base.now)
         (λ _. DoneUnlessFails S.faults store.old store.new O.faults out.old out.new result) }
     // No file changes, and of the parts only the head, the models, the text and its places are read.
@@ -92,10 +99,14 @@ fn show_set<S: Store, O: Sink>(
 ) -> Result<(), ShowErr>
     requires words { head.now.words ≤ 2 ^ 22 }
     requires others { head.now.others ≤ 2 ^ 22 }
-    ensures content { ForSetBy head.now (S.files store.old) base.now (λ _ collection. AfterPut (O.written out.old) (O.written out.new) collection result) }
-    ensures never_bad { ForSetBy head.now (S.files store.old) base.now (λ _ _. ShowIsNotBad result) }
-    ensures added { Added (O.written out.old) (O.written out.new) (O.faults out.old) (O.faults out.new) (O.lacks out.old) (O.lacks out.new) }
-    ensures cause { ShowRefused S.faults store.old store.new O.written O.faults O.lacks out.old out.new result }
+    ensures content { ForSetBy head.now (S.files store.old) base.now
+        (λ _ collection. AfterPut (O.written out.old) (O.written out.new) collection result) }
+    ensures never_bad { ForSetBy head.now (S.files store.old) base.now
+        (λ _ _. ShowIsNotBad result) }
+    ensures added { Added (O.written out.old) (O.written out.new) (O.faults out.old)
+        (O.faults out.new) (O.lacks out.old) (O.lacks out.new) }
+    ensures cause { ShowRefused S.faults store.old store.new O.written O.faults O.lacks out.old
+        out.new result }
     ensures files { S.files store.new ≡ S.files store.old }
     ensures reads { (p : AnyPart) → 5 ≤ number p → S.reads store.new p ≡ S.reads store.old p }
     ensures later { S.faults store.old ≤ S.faults store.new }

@@ -25,12 +25,16 @@ fn gather_closed<S: Store, O: Sink>(
     requires within { number ≤ reader.old.documents }
     ensures fits { TextFits reader.new (S.files store.new) }
     ensures same { SameText reader.old reader.new }
-    ensures looked { Between S.files S.reads S.faults store.old store.new (LookedAt part.Text part.Places) }
+    ensures looked { Between S.files S.reads S.faults store.old store.new
+        (LookedAt part.Text part.Places) }
     ensures content { IfShown reader.old (S.files store.old) (O.written out.old) buffer.old
         (GathersClosed number closed (O.written out.new) buffer.new result) }
-    ensures never_bad { (collection : List ℕ) → TextStands reader.old (S.files store.old) collection → ShowIsNotBad result }
-    ensures added { Added (O.written out.old) (O.written out.new) (O.faults out.old) (O.faults out.new) (O.lacks out.old) (O.lacks out.new) }
-    ensures cause { IsShowCaused result (S.faults store.old) (S.faults store.new) (O.faults out.old) (O.faults out.new) (O.lacks out.old) (O.lacks out.new) }
+    ensures never_bad { (collection : List ℕ) →
+        TextStands reader.old (S.files store.old) collection → ShowIsNotBad result }
+    ensures added { Added (O.written out.old) (O.written out.new) (O.faults out.old)
+        (O.faults out.new) (O.lacks out.old) (O.lacks out.new) }
+    ensures cause { IsShowCaused result (S.faults store.old) (S.faults store.new) (O.faults out.old)
+        (O.faults out.new) (O.lacks out.old) (O.lacks out.new) }
 {
     match reader.gather(store, number, buffer, out) {
         Ok(()) => {}
@@ -57,12 +61,16 @@ pub fn show_documents<S: Store, O: Sink>(
     requires fits { TextFits reader.old (S.files store.old) }
     requires documents { reader.old.documents ≡ documents }
     requires empty { buffer.old ≡ [] }
-    ensures looked { Between S.files S.reads S.faults store.old store.new (LookedAt part.Text part.Places) }
+    ensures looked { Between S.files S.reads S.faults store.old store.new
+        (LookedAt part.Text part.Places) }
     ensures content { ForTextEnding reader.old (S.files store.old) open_end
         (λ collection. AfterPut (O.written out.old) (O.written out.new) collection result) }
-    ensures never_bad { (collection : List ℕ) → TextStands reader.old (S.files store.old) collection → ShowIsNotBad result }
-    ensures added { Added (O.written out.old) (O.written out.new) (O.faults out.old) (O.faults out.new) (O.lacks out.old) (O.lacks out.new) }
-    ensures cause { IsShowCaused result (S.faults store.old) (S.faults store.new) (O.faults out.old) (O.faults out.new) (O.lacks out.old) (O.lacks out.new) }
+    ensures never_bad { (collection : List ℕ) →
+        TextStands reader.old (S.files store.old) collection → ShowIsNotBad result }
+    ensures added { Added (O.written out.old) (O.written out.new) (O.faults out.old)
+        (O.faults out.new) (O.lacks out.old) (O.lacks out.new) }
+    ensures cause { IsShowCaused result (S.faults store.old) (S.faults store.new) (O.faults out.old)
+        (O.faults out.new) (O.lacks out.old) (O.lacks out.new) }
 {
     for index in 0..documents {
         let number = index + 1;

@@ -18,12 +18,16 @@ same_posting d p q lp lq gap freq =
 pub one_posting : (b all d : ℕ) (p q : Posting) (s : Bits) → 1 ≤ b → b ≤ 2 ^ 64 → Follows all d p → Follows all d q → Begins (posting_bits b d p) s → Begins (posting_bits b d q) s → p ≡ q
 unfolding posting_bits
 one_posting b all d p q s some small fp fq hp hq =
-    let gap : p.doc - d ≡ q.doc - d = one_stands (UpTo all) (golomb b) s (p.doc - d) (q.doc - d) (golomb_free b all some small) (omega (arith, fp.after), omega (arith, fp.within)) (omega (arith, fq.after), omega (arith, fq.within)) (begins_first _ _ s hp) (begins_first _ _ s hq) in
+    let gap : p.doc - d ≡ q.doc - d = one_stands (UpTo all) (golomb b) s (p.doc - d) (q.doc - d) (golomb_free b all some small)
+    (omega (arith, fp.after), omega (arith, fp.within)) (omega (arith, fq.after), omega (arith, fq.within)) (begins_first _ _ s hp)
+    (begins_first _ _ s hq) in
     let rest : Begins (gamma q.freq) (drop (length (golomb b (p.doc - d))) s) = subst (λ n. Begins (gamma q.freq) (drop (length (golomb b n)) s)) (sym gap) (begins_second _ _ s hq) in
-    let freq : p.freq ≡ q.freq = one_stands (UpTo 4294967295) gamma _ p.freq q.freq (gamma_free 4294967295 (omega arith)) (fp.some, omega (arith, fp.fits)) (fq.some, omega (arith, fq.fits)) (begins_second _ _ s hp) rest in
+    let freq : p.freq ≡ q.freq = one_stands (UpTo 4294967295) gamma _ p.freq q.freq (gamma_free 4294967295 (omega arith)) (fp.some, omega (arith, fp.fits))
+    (fq.some, omega (arith, fq.fits)) (begins_second _ _ s hp) rest in
     same_posting d p q fp.after fq.after gap freq
 
-pub one_list : (b all d : ℕ) (ps qs : List Posting) (s : Bits) → 1 ≤ b → b ≤ 2 ^ 64 → Rises all d ps → Rises all d qs → length ps ≡ length qs → Begins (bits_after b d ps) s → Begins (bits_after b d qs) s → ps ≡ qs
+pub one_list : (b all d : ℕ) (ps qs : List Posting) (s : Bits) → 1 ≤ b → b ≤ 2 ^ 64 → Rises all d ps → Rises all d qs → length ps ≡ length qs →
+    Begins (bits_after b d ps) s → Begins (bits_after b d qs) s → ps ≡ qs
 unfolding Rises bits_after
 one_list b all d [] [] s some small rp rq same hp hq = refl
 one_list b all d [] (q ∷ qs) s some small rp rq same hp hq = absurd (omega (arith, same))

@@ -85,7 +85,8 @@ long-is closing h = cc
 abbrev limited : PlacedToken → Bool → Bool → Option Refusal
 limited t deep long = if deep then Some (too_deep t.at) else (if long then Some (too_long t.at) else None)
 
-limit-means : (used : List PlacedToken) (t : PlacedToken) (s : Spot) (deep long : Bool) (why : Refusal) → Stands used s → opens_too_deep s.depth t.token ≡ deep → is_too_long t.token ≡ long → limited t deep long ≡ Some why → IsRefusedAfter used t why
+limit-means : (used : List PlacedToken) (t : PlacedToken) (s : Spot) (deep long : Bool) (why : Refusal) → Stands used s →
+    opens_too_deep s.depth t.token ≡ deep → is_too_long t.token ≡ long → limited t deep long ≡ Some why → IsRefusedAfter used t why
 limit-means used t s true long why h d l e =
     let is : too_deep t.at ≡ why = cc in
     let found = deep-is s.depth t.token d in
@@ -95,7 +96,8 @@ limit-means used t s false true why h d l e =
     subst (IsRefusedAfter used t) is (refl, long-is t.token l)
 limit-means used t s false false why h d l e = absurd (none-some why e)
 
-refusal-means-at : (used : List PlacedToken) (t : PlacedToken) (s : Spot) (o : Option Spot) (why : Refusal) → Stands used s → step s.wants s.depth t.token ≡ o → (if not (may_come o) then Some (syntax t.at) else limited t (opens_too_deep s.depth t.token) (is_too_long t.token)) ≡ Some why → IsRefusedAfter used t why
+refusal-means-at : (used : List PlacedToken) (t : PlacedToken) (s : Spot) (o : Option Spot) (why : Refusal) → Stands used s → step s.wants s.depth t.token ≡ o →
+    (if not (may_come o) then Some (syntax t.at) else limited t (opens_too_deep s.depth t.token) (is_too_long t.token)) ≡ Some why → IsRefusedAfter used t why
 refusal-means-at used t s None why h o e =
     let is : syntax t.at ≡ why = cc in
     subst (IsRefusedAfter used t) is (refl, stuck used t s h o)
@@ -121,7 +123,9 @@ long-found s at bang long = absurd long
 long-found s at opening long = absurd long
 long-found s at closing long = absurd long
 
-syntax-found : (used : List PlacedToken) (t : PlacedToken) (s : Spot) (o : Option Spot) → Stands used s → step s.wants s.depth t.token ≡ o → (BeginsQuery (bare used ++ t.token ∷ []) → ⊥) → (if not (may_come o) then Some (syntax t.at) else limited t (opens_too_deep s.depth t.token) (is_too_long t.token)) ≡ Some (syntax t.at)
+syntax-found : (used : List PlacedToken) (t : PlacedToken) (s : Spot) (o : Option Spot) → Stands used s → step s.wants s.depth t.token ≡ o →
+    (BeginsQuery (bare used ++ t.token ∷ []) → ⊥) → (if not (may_come o) then Some (syntax t.at)
+    else limited t (opens_too_deep s.depth t.token) (is_too_long t.token)) ≡ Some (syntax t.at)
 syntax-found used t s None h o none = refl
 syntax-found used t s (Some n) h o none = absurd (none (begins-more used t s n h o))
 
@@ -141,7 +145,8 @@ allowed-at t (Some n) rest e = (n, refl)
 allowed : (s : Spot) (t : PlacedToken) → refusal_at s t ≡ None → (n : Spot) × (step s.wants s.depth t.token ≡ Some n)
 allowed s t e = allowed-at t _ _ e
 
-not-refused : (used : List PlacedToken) (t : PlacedToken) (s : Spot) (o : Option Refusal) → Stands used s → refusal_at s t ≡ o → ((why : Refusal) → IsRefusedAfter used t why → ⊥) → refusal_at s t ≡ None
+not-refused : (used : List PlacedToken) (t : PlacedToken) (s : Spot) (o : Option Refusal) → Stands used s → refusal_at s t ≡ o →
+    ((why : Refusal) → IsRefusedAfter used t why → ⊥) → refusal_at s t ≡ None
 not-refused used t s None h e none = e
 not-refused used t s (Some why) h e none = absurd (none why (refusal-means used t s why h e))
 
@@ -160,7 +165,8 @@ passed size used (t ∷ mid) s h none =
     record {
       last = more.last;
       stands = subst (λ (us : List PlacedToken). Stands us more.last) (append_assoc used (t ∷ []) mid) more.stands;
-      same = λ rest. ap (λ o. first_of o (refusal_from (spot_after s (step s.wants s.depth t.token)) size (mid ++ rest))) free ∙ (ap (λ o. refusal_from (spot_after s o) size (mid ++ rest)) n.1 ∙ more.same rest);
+      same = λ rest. ap (λ o. first_of o (refusal_from (spot_after s (step s.wants s.depth t.token)) size (mid ++ rest))) free
+          ∙ (ap (λ o. refusal_from (spot_after s o) size (mid ++ rest)) n.1 ∙ more.same rest);
     }
 
 -- ---- where none is found
@@ -235,7 +241,9 @@ first-some : (a b : Option Refusal) (why : Refusal) → first_of a b ≡ Some wh
 first-some None b why e = inr (refl, e)
 first-some (Some r) b why e = inl e
 
-found-later : (size : ℕ) (used : List PlacedToken) (t : PlacedToken) (ts : List PlacedToken) (s n : Spot) (why : Refusal) → ((why : Refusal) → IsRefusedAfter used t why → ⊥) → step s.wants s.depth t.token ≡ Some n → Found size (used ++ t ∷ []) ts n why → Found size used (t ∷ ts) s why
+found-later : (size : ℕ) (used : List PlacedToken) (t : PlacedToken) (ts : List PlacedToken) (s n : Spot) (why : Refusal) →
+    ((why : Refusal) → IsRefusedAfter used t why → ⊥) → step s.wants s.depth t.token ≡ Some n → Found size (used ++ t ∷ []) ts n why →
+    Found size used (t ∷ ts) s why
 unfolding Found
 found-later size used t ts s n why none e (inl here) = inl (record {
   mid = t ∷ here.mid;
@@ -256,7 +264,14 @@ unfolding Found
 found size used [] s why h e = let end = end-found s.wants s.depth size why e in inr (record { none = tt; ends = end.0; is = end.1 })
 found size used (t ∷ ts) s why h e =
     elim (first-some (refusal_at s t) _ why e) [
-      | inl here ↦ inl (record { mid = []; token = t; after = ts; whole = refl; none = tt; refused = subst (λ (us : List PlacedToken). IsRefusedAfter us t why) (sym (append-nil used)) (refusal-means used t s why h here) })
+      | inl here ↦ inl (record {
+        mid = [];
+        token = t;
+        after = ts;
+        whole = refl;
+        none = tt;
+        refused = subst (λ (us : List PlacedToken). IsRefusedAfter us t why) (sym (append-nil used)) (refusal-means used t s why h here);
+      })
       | inr later ↦
           let n = allowed s t later.0 in
           let rest = ap (λ o. refusal_from (spot_after s o) size ts) (sym n.1) ∙ later.1 in
@@ -298,9 +313,13 @@ accepted-computes line q h =
 token-computes : (line : List ℕ) (why : Refusal) (first : IsFirstRefusal IsRefusedAfter (tokens line) why) → refusal_from start_spot (length line) (tokens line) ≡ Some why
 token-computes line why first =
     let here = passed (length line) [] first.before start_spot refl first.none in
-    ap (refusal_from start_spot (length line)) first.whole ∙ (here.same (first.token ∷ first.after) ∙ ap (λ o. first_of o (refusal_from (spot_after here.last (step here.last.wants here.last.depth first.token.token)) (length line) first.after)) (refusal-found first.before first.token here.last why here.stands first.refused))
+    ap (refusal_from start_spot (length line)) first.whole
+    ∙ (here.same (first.token ∷ first.after) ∙ ap (λ o.
+    first_of o (refusal_from (spot_after here.last (step here.last.wants here.last.depth first.token.token)) (length line) first.after))
+    (refusal-found first.before first.token here.last why here.stands first.refused))
 
-end-computes : (line : List ℕ) → NoneRefused IsRefusedAfter [] (tokens line) → ((q : Query) → ReadsAs (bare (tokens line)) q → ⊥) → refusal_from start_spot (length line) (tokens line) ≡ Some (syntax (length line))
+end-computes : (line : List ℕ) → NoneRefused IsRefusedAfter [] (tokens line) → ((q : Query) → ReadsAs (bare (tokens line)) q → ⊥) →
+    refusal_from start_spot (length line) (tokens line) ≡ Some (syntax (length line))
 end-computes line none nothing =
     let end = whole-passed (length line) (tokens line) none in
     let bad = ends-badly end.0.wants end.0.depth (length line) (λ same. let q = walk-reads (bare (tokens line)) (end.1 ∙ same) in nothing q.0 q.1) in

@@ -34,7 +34,8 @@ digits-front zero l n c e =
 digits-front (suc j) l n c e =
     let m : n ≡ suc (j + l) = omega arith in
     let fits : l ≤ length (digits (j + l) (c / 2)) = omega (arith, length_digits (j + l) (c / 2)) in
-    ap (λ k. take l (digits k c)) m ∙ ap (take l) (digits-low (j + l) c) ∙ take-append-le l (digits (j + l) (c / 2)) ((c % 2 == 1) ∷ []) fits ∙ digits-front j l (j + l) (c / 2) refl ∙ ap (λ k. digits l k) (half_parts j c)
+    ap (λ k. take l (digits k c)) m ∙ ap (take l) (digits-low (j + l) c) ∙ take-append-le l (digits (j + l) (c / 2)) ((c % 2 == 1) ∷ []) fits
+    ∙ digits-front j l (j + l) (c / 2) refl ∙ ap (λ k. digits l k) (half_parts j c)
 
 pub digits-same : (n a b : ℕ) → a < 2 ^ n → b < 2 ^ n → digits n a ≡ digits n b → a ≡ b
 digits-same n a b h k e = sym (mod-eq_of_lt h) ∙ digits_same n a b e ∙ mod-eq_of_lt k
@@ -109,7 +110,8 @@ module _ (lengths : List ℕ) (within : AreCodeLengths lengths) (full : kraft le
   value_fits s h = fits_length (get_or lengths s 0) (codeword_value lengths s) lengths (within_short lengths s within h).1 full (value-below lengths s h)
 
   -- where one codeword begins another, the front of the other's value is the value of the one
-  front_value : (s t : ℕ) → s < length lengths → t < length lengths → Begins (code s) (code t) → (j : ℕ) → get_or lengths t 0 ≡ j + get_or lengths s 0 → codeword_value lengths t / 2 ^ j ≡ codeword_value lengths s
+  front_value : (s t : ℕ) → s < length lengths → t < length lengths → Begins (code s) (code t) → (j : ℕ) → get_or lengths t 0 ≡ j + get_or lengths s 0 →
+      codeword_value lengths t / 2 ^ j ≡ codeword_value lengths s
   front_value s t h k begins j e =
       let n : ℕ = get_or lengths t 0 in
       let l : ℕ = get_or lengths s 0 in

@@ -30,7 +30,8 @@ longer-cons l k lengths =
 taken-all : (l k : ℕ) → l ≤ 48 → cond (nat_lt l k) (2 ^ (48 - k)) 0 + taken l k * 2 ^ (48 - l) ≡ 2 ^ (48 - k)
 taken-all l k h = ⊎_elim
     (λ lt. grind (arith, nat_tests))
-    (λ le. let p = pow-add 2 (l - k) (48 - l) in let e : l - k + (48 - l) ≡ 48 - k = omega arith in let q : 2 ^ (48 - k) ≡ 2 ^ (l - k) * 2 ^ (48 - l) = ap (λ n. 2 ^ n) (sym e) ∙ p in grind (arith, nat_tests))
+    (λ le. let p = pow-add 2 (l - k) (48 - l) in let e : l - k + (48 - l) ≡ 48 - k = omega arith in
+    let q : 2 ^ (48 - k) ≡ 2 ^ (l - k) * 2 ^ (48 - l) = ap (λ n. 2 ^ n) (sym e) ∙ p in grind (arith, nat_tests))
     (cases_lt l k)
 
 split : (l : ℕ) (lengths : List ℕ) → l ≤ 48 → longer l lengths + shorter l lengths * 2 ^ (48 - l) ≡ kraft lengths
@@ -40,7 +41,8 @@ split l (k ∷ lengths) h =
 
 taken-step : (l k : ℕ) → taken (suc l) k ≡ 2 * taken l k + cond (k == suc l) 1 0
 taken-step l k = ⊎_elim
-    (λ lt. ⊎_elim (λ same. let z : suc l - k ≡ 0 = omega arith in let one : 2 ^ (suc l - k) ≡ 1 = ap (λ n. 2 ^ n) z in grind (arith, nat_tests)) (λ other. grind (arith, nat_tests)) (cases_eq k (suc l)))
+    (λ lt. ⊎_elim (λ same. let z : suc l - k ≡ 0 = omega arith in let one : 2 ^ (suc l - k) ≡ 1 = ap (λ n. 2 ^ n) z in grind (arith, nat_tests))
+    (λ other. grind (arith, nat_tests)) (cases_eq k (suc l)))
     (λ le. let e : suc l - k ≡ suc (l - k) = omega arith in let q : 2 ^ (suc l - k) ≡ 2 ^ (l - k) * 2 = ap (λ n. 2 ^ n) e ∙ pow-suc 2 (l - k) in grind (arith, nat_tests))
     (cases_lt l k)
 
@@ -124,12 +126,14 @@ nth (k ∷ lengths) l r h = ⊎_elim
     (cases_eq k l)
 
 -- two symbols of one length and one place among it are one
-pub nth-once : (lengths : List ℕ) (l s t : ℕ) → s < length lengths → t < length lengths → get_or lengths s 0 ≡ l → get_or lengths t 0 ≡ l → count_of l (take s lengths) ≡ count_of l (take t lengths) → s ≡ t
+pub nth-once : (lengths : List ℕ) (l s t : ℕ) → s < length lengths → t < length lengths → get_or lengths s 0 ≡ l → get_or lengths t 0 ≡ l →
+    count_of l (take s lengths) ≡ count_of l (take t lengths) → s ≡ t
 nth-once [] l s t a b p q e = absurd (omega arith)
 nth-once (k ∷ lengths) l zero zero a b p q e = refl
 nth-once (k ∷ lengths) l zero (suc t) a b p q e = absurd (omega (arith, e, count_of-same k (take t lengths) l p))
 nth-once (k ∷ lengths) l (suc s) zero a b p q e = absurd (omega (arith, e, count_of-same k (take s lengths) l q))
-nth-once (k ∷ lengths) l (suc s) (suc t) a b p q e = ap suc (nth-once lengths l s t (omega arith) (omega arith) p q (omega (arith, e, count_of-cons l k (take s lengths), count_of-cons l k (take t lengths))))
+nth-once (k ∷ lengths) l (suc s) (suc t) a b p q e = ap suc
+    (nth-once lengths l s t (omega arith) (omega arith) p q (omega (arith, e, count_of-cons l k (take s lengths), count_of-cons l k (take t lengths))))
 
 -- the value of a codeword lies in the range of its length
 pub count_of-below : (lengths : List ℕ) (l s : ℕ) → s < length lengths → get_or lengths s 0 ≡ l → count_of l (take s lengths) < count_of l lengths

@@ -17,11 +17,13 @@ gammas = refl
 one_to_ten : List ℕ
 one_to_ten = 1 ∷ 2 ∷ 3 ∷ 4 ∷ 5 ∷ 6 ∷ 7 ∷ 8 ∷ 9 ∷ 10 ∷ []
 
-golombs_of_three : map (golomb 3) one_to_ten ≡ bits (codes "00") ∷ bits (codes "010") ∷ bits (codes "011") ∷ bits (codes "100") ∷ bits (codes "1010") ∷ bits (codes "1011") ∷ bits (codes "1100") ∷ bits (codes "11010") ∷ bits (codes "11011") ∷ bits (codes "11100") ∷ []
+golombs_of_three : map (golomb 3) one_to_ten ≡ bits (codes "00") ∷ bits (codes "010") ∷ bits (codes "011") ∷ bits (codes "100") ∷ bits (codes "1010") ∷
+    bits (codes "1011") ∷ bits (codes "1100") ∷ bits (codes "11010") ∷ bits (codes "11011") ∷ bits (codes "11100") ∷ []
 unfolding one_to_ten golomb unary ones short shorter ceil_log2 digits
 golombs_of_three = refl
 
-golombs_of_six : map (golomb 6) one_to_ten ≡ bits (codes "000") ∷ bits (codes "001") ∷ bits (codes "0100") ∷ bits (codes "0101") ∷ bits (codes "0110") ∷ bits (codes "0111") ∷ bits (codes "1000") ∷ bits (codes "1001") ∷ bits (codes "10100") ∷ bits (codes "10101") ∷ []
+golombs_of_six : map (golomb 6) one_to_ten ≡ bits (codes "000") ∷ bits (codes "001") ∷ bits (codes "0100") ∷ bits (codes "0101") ∷ bits (codes "0110") ∷
+    bits (codes "0111") ∷ bits (codes "1000") ∷ bits (codes "1001") ∷ bits (codes "10100") ∷ bits (codes "10101") ∷ []
 unfolding one_to_ten golomb unary ones short shorter ceil_log2 digits
 golombs_of_six = refl
 

@@ -235,8 +235,14 @@ short_free b some small = record {
 pub length_short : (b r : ℕ) → (ceil_log2 b - 1 ≤ length (short b r)) × (length (short b r) ≤ ceil_log2 b)
 length_short b r =
     elim (cases_lt r (shorter b)) [
-      | inl lt ↦ (let e : length (short b r) ≡ ceil_log2 b - 1 = ap length (short_low b r lt) ∙ length_digits _ r in omega (arith, e), let e : length (short b r) ≡ ceil_log2 b - 1 = ap length (short_low b r lt) ∙ length_digits _ r in omega (arith, e))
-      | inr ge ↦ (let e : length (short b r) ≡ ceil_log2 b = ap length (short_high b r ge) ∙ length_digits _ _ in omega (arith, e), let e : length (short b r) ≡ ceil_log2 b = ap length (short_high b r ge) ∙ length_digits _ _ in omega (arith, e))
+      | inl lt ↦ (
+        let e : length (short b r) ≡ ceil_log2 b - 1 = ap length (short_low b r lt) ∙ length_digits _ r in omega (arith, e),
+        let e : length (short b r) ≡ ceil_log2 b - 1 = ap length (short_low b r lt) ∙ length_digits _ r in omega (arith, e),
+      )
+      | inr ge ↦ (
+        let e : length (short b r) ≡ ceil_log2 b = ap length (short_high b r ge) ∙ length_digits _ _ in omega (arith, e),
+        let e : length (short b r) ≡ ceil_log2 b = ap length (short_high b r ge) ∙ length_digits _ _ in omega (arith, e),
+      )
     ]
 
 -- ---- golomb

@@ -31,7 +31,8 @@ repeats_text : (coded_doc repeats_code repeats ≡ true ∷ true ∷ false ∷ f
 unfolding parse gamma unary ones digits as_bytes number
 repeats_text = (refl, refl)
 
-repeats_places : (places_part 1 repeats_code repeats ≡ 0 ∷ 0 ∷ 0 ∷ 0 ∷ 0 ∷ 0 ∷ 0 ∷ 2 ∷ []) × (places_part 2 repeats_code repeats ≡ replicate 8 0 ++ replicate 7 0 ++ 2 ∷ []) × (doc_range repeats_code repeats 1 ≡ record { from = 0; to = 16 })
+repeats_places : (places_part 1 repeats_code repeats ≡ 0 ∷ 0 ∷ 0 ∷ 0 ∷ 0 ∷ 0 ∷ 0 ∷ 2 ∷ [])
+    × (places_part 2 repeats_code repeats ≡ replicate 8 0 ++ replicate 7 0 ++ 2 ∷ []) × (doc_range repeats_code repeats 1 ≡ record { from = 0; to = 16 })
 unfolding parse gamma unary ones digits as_bytes number four eight
 repeats_places = (refl, refl, refl)
 
@@ -53,7 +54,10 @@ blanks = refl
 
 blanks_is : IsTextCode (replicate 300 32) blanks_code
 unfolding parse
-blanks_is = (record { pieces = refl; lengths = record { each = refl; good = refl; cost = refl } }, record { pieces = refl; lengths = record { each = refl; good = (((lit≤ tt, lit≤ tt), ((lit≤ tt, lit≤ tt), tt)), refl); cost = refl } })
+blanks_is = (
+  record { pieces = refl; lengths = record { each = refl; good = refl; cost = refl } },
+  record { pieces = refl; lengths = record { each = refl; good = (((lit≤ tt, lit≤ tt), ((lit≤ tt, lit≤ tt), tt)), refl); cost = refl } },
+)
 
 -- ---- three documents
 

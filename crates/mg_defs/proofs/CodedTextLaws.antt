@@ -49,7 +49,9 @@ short-byte bits some few =
     let left = 8 - length bits in
     let rest : length bits + left ≡ 8 = omega arith in
     let zeros : to_byte (length bits) ≡ left = omega arith in
-    ap (λ n. take n (bits ++ replicate 7 false)) (sym rest) ∙ (take-append-add bits (replicate 7 false) left ∙ ap (λ (x : Bits). bits ++ x) (take-replicate left 7 false (omega arith) ∙ (sym (digits-zero left) ∙ ap (λ n. digits n 0) (sym zeros))))
+    ap (λ n. take n (bits ++ replicate 7 false)) (sym rest)
+    ∙ (take-append-add bits (replicate 7 false) left ∙ ap (λ (x : Bits). bits ++ x) (take-replicate left 7 false (omega arith)
+    ∙ (sym (digits-zero left) ∙ ap (λ n. digits n 0) (sym zeros))))
 
 -- eight bits, and the others
 long-byte : (bits : Bits) → 8 ≤ length bits → take 8 (bits ++ replicate 7 false) ++ filled (drop 8 bits) ≡ filled bits
@@ -89,7 +91,8 @@ bits-of_as_bytes bits = upto-bits (length bits) bits (omega arith)
 pub length-as_bytes : (bits : Bits) → 8 * length (as_bytes bits) ≡ length bits + to_byte (length bits)
 unfolding filled
 length-as_bytes bits =
-    sym (length_bits_of (as_bytes bits)) ∙ (ap length (bits-of_as_bytes bits) ∙ (length-append bits (digits (to_byte (length bits)) 0) ∙ ap (λ n. length bits + n) (length_digits (to_byte (length bits)) 0)))
+    sym (length_bits_of (as_bytes bits)) ∙ (ap length (bits-of_as_bytes bits)
+    ∙ (length-append bits (digits (to_byte (length bits)) 0) ∙ ap (λ n. length bits + n) (length_digits (to_byte (length bits)) 0)))
 
 -- ---- places
 
@@ -123,7 +126,9 @@ next-doc f zero (doc ∷ docs) h = refl
 next-doc f (suc d) (doc ∷ docs) h = next-doc f d docs (omega (arith, h))
 
 -- a document's bytes stand in the text from its place on
-pub text-at : (code : TextCode) (collection : List ℕ) (d : ℕ) → d < length (documents collection) → take (coded_size code (get_or (documents collection) d [])) (drop (place_after code collection d) (text_part code collection)) ≡ as_bytes (coded_doc code (get_or (documents collection) d []))
+pub text-at : (code : TextCode) (collection : List ℕ) (d : ℕ) → d < length (documents collection) →
+    take (coded_size code (get_or (documents collection) d [])) (drop (place_after code collection d) (text_part code collection))
+    ≡ as_bytes (coded_doc code (get_or (documents collection) d []))
 text-at code collection d h =
     let docs = documents collection in
     let f : List ℕ → List ℕ = λ doc. as_bytes (coded_doc code doc) in

@@ -48,7 +48,8 @@ k_words : vocabulary (all_pieces Words k) ≡ (codes "the", 2) ∷ (codes "cat",
 unfolding parse
 k_words = refl
 
-k_sorted : (sorted_pieces Words k ≡ codes "Cat" ∷ codes "cat" ∷ codes "dog" ∷ codes "sat" ∷ codes "the" ∷ []) × (piece_counts Words k ≡ 1 ∷ 2 ∷ 2 ∷ 1 ∷ 2 ∷ []) × (sorted_pieces Others k ≡ codes "\n" ∷ codes " " ∷ codes " & " ∷ codes "!\n" ∷ codes ", " ∷ []) × (piece_counts Others k ≡ 2 ∷ 3 ∷ 1 ∷ 1 ∷ 1 ∷ [])
+k_sorted : (sorted_pieces Words k ≡ codes "Cat" ∷ codes "cat" ∷ codes "dog" ∷ codes "sat" ∷ codes "the" ∷ []) × (piece_counts Words k ≡ 1 ∷ 2 ∷ 2 ∷ 1 ∷ 2 ∷ [])
+    × (sorted_pieces Others k ≡ codes "\n" ∷ codes " " ∷ codes " & " ∷ codes "!\n" ∷ codes ", " ∷ []) × (piece_counts Others k ≡ 2 ∷ 3 ∷ 1 ∷ 1 ∷ 1 ∷ [])
 unfolding parse
 k_sorted = (refl, refl, refl, refl)
 
@@ -87,7 +88,8 @@ full_word : parse (replicate 255 97) ≡ pair_of (replicate 255 97) [] ∷ []
 unfolding parse
 full_word = refl
 
-long_word : (parse (replicate 256 97) ≡ pair_of (replicate 255 97) [] ∷ pair_of (codes "a") [] ∷ []) × (pieces (replicate 256 97) ≡ replicate 255 97 ∷ [] ∷ codes "a" ∷ [] ∷ []) × (dictionary (replicate 256 97) ≡ codes "a" ∷ replicate 255 97 ∷ [])
+long_word : (parse (replicate 256 97) ≡ pair_of (replicate 255 97) [] ∷ pair_of (codes "a") [] ∷ [])
+    × (pieces (replicate 256 97) ≡ replicate 255 97 ∷ [] ∷ codes "a" ∷ [] ∷ []) × (dictionary (replicate 256 97) ≡ codes "a" ∷ replicate 255 97 ∷ [])
 unfolding parse
 long_word = (refl, refl, refl)
 
@@ -96,13 +98,15 @@ unfolding parse
 blanks = (refl, refl)
 
 -- bytes from 128 on are word bytes, and no letters: they stay as they are
-high_bytes : (parse (128 ∷ 65 ∷ 255 ∷ 127 ∷ 48 ∷ []) ≡ pair_of (128 ∷ 65 ∷ 255 ∷ []) (127 ∷ []) ∷ pair_of (48 ∷ []) [] ∷ []) × (terms (128 ∷ 65 ∷ 255 ∷ 127 ∷ 48 ∷ []) ≡ (128 ∷ 97 ∷ 255 ∷ []) ∷ (48 ∷ []) ∷ [])
+high_bytes : (parse (128 ∷ 65 ∷ 255 ∷ 127 ∷ 48 ∷ []) ≡ pair_of (128 ∷ 65 ∷ 255 ∷ []) (127 ∷ []) ∷ pair_of (48 ∷ []) [] ∷ [])
+    × (terms (128 ∷ 65 ∷ 255 ∷ 127 ∷ 48 ∷ []) ≡ (128 ∷ 97 ∷ 255 ∷ []) ∷ (48 ∷ []) ∷ [])
 unfolding parse
 high_bytes = (refl, refl)
 
 -- ---- limits
 
-limits_are : (version_1.collection ≡ 268435456) × (version_1.documents ≡ 1048576) × (version_1.pieces ≡ 1048576) × (version_2.collection ≡ 4294967295) × (version_2.documents ≡ 16777216) × (version_2.pieces ≡ 4194304) × (piece_bytes ≡ 255) × (held_bytes ≡ 268435456) × (greatest_budget ≡ 1073741824)
+limits_are : (version_1.collection ≡ 268435456) × (version_1.documents ≡ 1048576) × (version_1.pieces ≡ 1048576) × (version_2.collection ≡ 4294967295)
+    × (version_2.documents ≡ 16777216) × (version_2.pieces ≡ 4194304) × (piece_bytes ≡ 255) × (held_bytes ≡ 268435456) × (greatest_budget ≡ 1073741824)
 limits_are = (refl, refl, refl, refl, refl, refl, refl, refl, refl)
 
 -- a pool of the least budget holds as many occurrences as the least full run has, and one of the greatest as many as the greatest

@@ -51,7 +51,8 @@ shared_differs [] ys x y h k = absurd cc
 shared_differs (a ∷ xs) [] x y h k = absurd cc
 shared_differs (a ∷ xs) (b ∷ ys) x y h k = by_test (a == b) refl (shared xs ys) (shared_differs xs ys x y) h k
   where
-    by_test : (t : Bool) → (a == b) ≡ t → (n : ℕ) → (slice_get xs n ≡ Some x → slice_get ys n ≡ Some y → x ≢ y) → slice_get (a ∷ xs) (cond t (n + 1) 0) ≡ Some x → slice_get (b ∷ ys) (cond t (n + 1) 0) ≡ Some y → x ≢ y
+    by_test : (t : Bool) → (a == b) ≡ t → (n : ℕ) → (slice_get xs n ≡ Some x → slice_get ys n ≡ Some y → x ≢ y) →
+        slice_get (a ∷ xs) (cond t (n + 1) 0) ≡ Some x → slice_get (b ∷ ys) (cond t (n + 1) 0) ≡ Some y → x ≢ y
     by_test true e n more h k = more (rw (add-one n) at h) (rw (add-one n) at k)
     by_test false e n more h k =
         let first : a ≡ x = cc in
@@ -78,7 +79,8 @@ shared_rises [] (y ∷ ys) h = refl
 shared_rises (x ∷ xs) [] h = absurd cc
 shared_rises (x ∷ xs) (y ∷ ys) h = by_test (x == y) refl (shared xs ys) (shared_rises xs ys)
   where
-    by_test : (b : Bool) → (x == y) ≡ b → (n : ℕ) → (is_below xs ys ≡ true → rises_after_prefix (drop n xs) (drop n ys) ≡ true) → rises_after_prefix (drop (cond b (n + 1) 0) (x ∷ xs)) (drop (cond b (n + 1) 0) (y ∷ ys)) ≡ true
+    by_test : (b : Bool) → (x == y) ≡ b → (n : ℕ) → (is_below xs ys ≡ true → rises_after_prefix (drop n xs) (drop n ys) ≡ true) →
+        rises_after_prefix (drop (cond b (n + 1) 0) (x ∷ xs)) (drop (cond b (n + 1) 0) (y ∷ ys)) ≡ true
     by_test true e n more =
         let same : x ≡ y = eq_from x y e in
         let less : nat_lt x y ≡ false = rw same (lt_itself y) in
@@ -107,7 +109,8 @@ joined_above zero (b ∷ before) [] within h = absurd cc
 joined_above zero (b ∷ before) (s ∷ suffix) within h = below_cons b s before suffix ∙ ap (λ t. t || (b == s && is_below before suffix)) h
 joined_above (suc k) [] suffix within h = absurd (omega arith)
 joined_above (suc k) (b ∷ before) suffix within h =
-    below_cons b b before (take k before ++ suffix) ∙ ap (λ t. t || (b == b && is_below before (take k before ++ suffix))) (lt_itself b) ∙ ap (λ t. t && is_below before (take k before ++ suffix)) (eq_itself b) ∙ joined_above k before suffix (omega arith) h
+    below_cons b b before (take k before ++ suffix) ∙ ap (λ t. t || (b == b && is_below before (take k before ++ suffix))) (lt_itself b)
+    ∙ ap (λ t. t && is_below before (take k before ++ suffix)) (eq_itself b) ∙ joined_above k before suffix (omega arith) h
 
 -- ---- reading what was written
 
@@ -129,7 +132,8 @@ drop_front xs ys = grind (arith, common_steps)
 found : {A : Type 0} (b : Bool) (x y : A) → b ≡ true → cond b x y ≡ x
 found b x y e = ap (λ t. cond t x y) e
 
-same_found : (a b c d : List ℕ) (m n : ℕ) → a ≡ b → c ≡ d → m ≡ n → ◌≡◌ {A = Found} (record { entry = record { string = a; field = c }; size = m }) (record { entry = record { string = b; field = d }; size = n })
+same_found : (a b c d : List ℕ) (m n : ℕ) → a ≡ b → c ≡ d → m ≡ n →
+    ◌≡◌ {A = Found} (record { entry = record { string = a; field = c }; size = m }) (record { entry = record { string = b; field = d }; size = n })
 same_found a b c d m n p q r = λ i. record { entry = record { string = p i; field = q i }; size = r i }
 
 fits : (s f rest : List ℕ) (width : ℕ) → length f ≡ width → nat_le (length s + width) (length (s ++ f ++ rest)) ≡ true
@@ -172,16 +176,25 @@ read_written width i before e rest is = by_test (i % 4 == 0) refl
     k = shared before e.string
 
     by_test : (b : Bool) → (i % 4 == 0) ≡ b →
-        cond b (read_whole width i before (cond b (length e.string ∷ (e.string ++ e.field)) (shared before e.string ∷ (length e.string - shared before e.string) ∷ (drop (shared before e.string) e.string ++ e.field)) ++ rest))
-        (read_cut width before (cond b (length e.string ∷ (e.string ++ e.field)) (shared before e.string ∷ (length e.string - shared before e.string) ∷ (drop (shared before e.string) e.string ++ e.field)) ++ rest))
-        ≡ Some (record { entry = e; size = length (cond b (length e.string ∷ (e.string ++ e.field)) (shared before e.string ∷ (length e.string - shared before e.string) ∷ (drop (shared before e.string) e.string ++ e.field))) })
+        cond b (read_whole width i before (cond b (length e.string ∷ (e.string ++ e.field))
+        (shared before e.string ∷ (length e.string - shared before e.string) ∷ (drop (shared before e.string) e.string ++ e.field)) ++ rest))
+        (read_cut width before (cond b (length e.string ∷ (e.string ++ e.field)) (shared before e.string ∷ (length e.string - shared before e.string) ∷
+        (drop (shared before e.string) e.string ++ e.field)) ++ rest))
+        ≡ Some (record {
+          entry = e;
+          size = length (cond b (length e.string ∷ (e.string ++ e.field))
+              (shared before e.string ∷ (length e.string - shared before e.string) ∷ (drop (shared before e.string) e.string ++ e.field)));
+        })
     by_test true whole = written_whole width i before e.string e.field rest is.short is.field is.above
     by_test false cut =
         let within = shared_within before e.string in
         let above : is_below before e.string ≡ true = not_first i (is_below before e.string) cut is.above in
         let long : length (drop (shared before e.string) e.string) ≡ length e.string - shared before e.string = length-drop (shared before e.string) e.string in
-        let same : take (shared before e.string) before ++ drop (shared before e.string) e.string ≡ e.string = ap (λ t. t ++ drop (shared before e.string) e.string) (shared_same before e.string) ∙ take-append-drop (shared before e.string) e.string in
-        let read = written_cut width (shared before e.string) before (drop (shared before e.string) e.string) e.field rest within.0 (omega (arith, long, within.1, is.short)) is.field (shared_rises before e.string above) in
+        let same : take (shared before e.string) before ++ drop (shared before e.string) e.string
+        ≡ e.string = ap (λ t. t ++ drop (shared before e.string) e.string) (shared_same before e.string)
+        ∙ take-append-drop (shared before e.string) e.string in
+        let read = written_cut width (shared before e.string) before (drop (shared before e.string) e.string) e.field rest within.0
+        (omega (arith, long, within.1, is.short)) is.field (shared_rises before e.string above) in
         ap (λ n. read_cut width before (shared before e.string ∷ n ∷ (drop (shared before e.string) e.string ++ e.field ++ rest))) (sym long) ∙ read ∙ ap Some (same_found _ _ _ _ _ _ same refl refl)
 
 left : (b c : Bool) → (b && c) ≡ true → b ≡ true
@@ -197,7 +210,8 @@ tested true x it h = (refl, cc)
 tested false x it h = absurd cc
 
 split : (xs : List ℕ) (n m : ℕ) → take n xs ++ take m (drop n xs) ++ drop (n + m) xs ≡ xs
-split xs n m = append_assoc (take n xs) (take m (drop n xs)) (drop (n + m) xs) ∙ ap (λ t. take n xs ++ (take m (drop n xs) ++ t)) (sym (drop-drop m n xs)) ∙ ap (λ t. take n xs ++ t) (take-append-drop m (drop n xs)) ∙ take-append-drop n xs
+split xs n m = append_assoc (take n xs) (take m (drop n xs)) (drop (n + m) xs) ∙ ap (λ t. take n xs ++ (take m (drop n xs) ++ t)) (sym (drop-drop m n xs))
+    ∙ ap (λ t. take n xs ++ t) (take-append-drop m (drop n xs)) ∙ take-append-drop n xs
 
 field_long : (n width : ℕ) (bytes : List ℕ) → n + width ≤ length bytes → length (take width (drop n bytes)) ≡ width
 field_long n width bytes h = simp (length-take, length-drop) (omega arith)
@@ -205,7 +219,9 @@ field_long n width bytes h = simp (length-take, length-drop) (omega arith)
 string_long : (n width : ℕ) (bytes : List ℕ) → n + width ≤ length bytes → length (take n bytes) ≡ n
 string_long n width bytes h = simp length-take (omega arith)
 
-whole_so : (width i n : ℕ) (before bytes : List ℕ) → (i % 4 == 0) ≡ true → n ≤ 255 → n + width ≤ length bytes → (i == 0 || is_below before (take n bytes)) ≡ true → StandsFirst width i before (n ∷ bytes) (record { entry = record { string = take n bytes; field = take width (drop n bytes) }; size = n + width + 1 })
+whole_so : (width i n : ℕ) (before bytes : List ℕ) → (i % 4 == 0) ≡ true → n ≤ 255 → n + width ≤ length bytes →
+    (i == 0 || is_below before (take n bytes)) ≡ true → StandsFirst width i before (n ∷ bytes)
+    (record { entry = record { string = take n bytes; field = take width (drop n bytes) }; size = n + width + 1 })
 unfolding entry_bytes
 whole_so width i n before bytes whole short enough above =
     let s = take n bytes in
@@ -216,7 +232,9 @@ whole_so width i n before bytes whole short enough above =
     record {
       entry = record { short = omega (arith, long); field = far; above = above };
       front =
-          ap (λ t. n ∷ t) (sym (split bytes n width)) ∙ ap (λ m. m ∷ (s ++ f ++ drop (n + width) bytes)) (sym long) ∙ ap (λ m. length s ∷ (s ++ f ++ drop m (n ∷ bytes))) (sym (add-one (n + width))) ∙ ap (λ b. cond b (length s ∷ (s ++ f)) cut ++ drop (n + width + 1) (n ∷ bytes)) (sym whole);
+          ap (λ t. n ∷ t) (sym (split bytes n width)) ∙ ap (λ m. m ∷ (s ++ f ++ drop (n + width) bytes)) (sym long)
+          ∙ ap (λ m. length s ∷ (s ++ f ++ drop m (n ∷ bytes))) (sym (add-one (n + width)))
+          ∙ ap (λ b. cond b (length s ∷ (s ++ f)) cut ++ drop (n + width + 1) (n ∷ bytes)) (sym whole);
       size = sym (ap (λ b. length (cond b (length s ∷ (s ++ f)) cut)) whole ∙ ap suc (length-append s f) ∙ omega (arith, long, far));
     }
 
@@ -234,7 +252,12 @@ or_true false = refl
 two_more : (m : ℕ) → suc (suc m) ≡ m + 2
 two_more m = omega arith
 
-cut_so : (width i k n : ℕ) (before bytes : List ℕ) → (i % 4 == 0) ≡ false → k ≤ length before → k + n ≤ 255 → n + width ≤ length bytes → rises_after_prefix (drop k before) (take n bytes) ≡ true → StandsFirst width i before (k ∷ n ∷ bytes) (record { entry = record { string = take k before ++ take n bytes; field = take width (drop n bytes) }; size = n + width + 2 })
+cut_so : (width i k n : ℕ) (before bytes : List ℕ) → (i % 4 == 0) ≡ false → k ≤ length before → k + n ≤ 255 → n + width ≤ length bytes →
+    rises_after_prefix (drop k before) (take n bytes) ≡ true →
+    StandsFirst width i before (k ∷ n ∷ bytes) (record {
+      entry = record { string = take k before ++ take n bytes; field = take width (drop n bytes) };
+      size = n + width + 2;
+    })
 unfolding entry_bytes
 cut_so width i k n before bytes cut within short enough above =
     let s = take k before ++ take n bytes in
@@ -250,8 +273,12 @@ cut_so width i k n before bytes cut within short enough above =
     record {
       entry = record { short = omega (arith, all); field = far; above = ap (λ b. i == 0 || b) (joined_above k before (take n bytes) within above) ∙ or_true (i == 0) };
       front =
-          ap (λ t. k ∷ n ∷ t) (sym (split bytes n width)) ∙ ap (λ m. k ∷ n ∷ (take n bytes ++ f ++ drop m (k ∷ n ∷ bytes))) (two_more (n + width)) ∙ ap (λ t. t ++ drop (n + width + 2) (k ∷ n ∷ bytes)) (sym code) ∙ ap (λ b. cond b (length s ∷ (s ++ f)) (shared before s ∷ (length s - shared before s) ∷ (drop (shared before s) s ++ f)) ++ drop (n + width + 2) (k ∷ n ∷ bytes)) (sym cut);
-      size = sym (ap (λ b. length (cond b (length s ∷ (s ++ f)) (shared before s ∷ (length s - shared before s) ∷ (drop (shared before s) s ++ f)))) cut ∙ ap length code ∙ ap (λ m. suc (suc m)) (length-append (take n bytes) f) ∙ omega (arith, long, far));
+          ap (λ t. k ∷ n ∷ t) (sym (split bytes n width)) ∙ ap (λ m. k ∷ n ∷ (take n bytes ++ f ++ drop m (k ∷ n ∷ bytes))) (two_more (n + width))
+          ∙ ap (λ t. t ++ drop (n + width + 2) (k ∷ n ∷ bytes)) (sym code)
+          ∙ ap (λ b. cond b (length s ∷ (s ++ f)) (shared before s ∷ (length s - shared before s) ∷ (drop (shared before s) s ++ f))
+          ++ drop (n + width + 2) (k ∷ n ∷ bytes)) (sym cut);
+      size = sym (ap (λ b. length (cond b (length s ∷ (s ++ f)) (shared before s ∷ (length s - shared before s) ∷ (drop (shared before s) s ++ f)))) cut
+          ∙ ap length code ∙ ap (λ m. suc (suc m)) (length-append (take n bytes) f) ∙ omega (arith, long, far));
     }
 
 cut_stands : (width i : ℕ) (before bytes : List ℕ) (it : Found) → (i % 4 == 0) ≡ false → read_cut width before bytes ≡ Some it → StandsFirst width i before bytes it
@@ -299,7 +326,8 @@ pub front_append : (i : ℕ) (before : List ℕ) (es fs : List Entry) → front_
 unfolding front_from
 front_append i before [] fs = ap (λ n. front_from n before fs) (omega arith)
 front_append i before (e ∷ es) fs =
-    ap (λ t. entry_bytes i before e ++ t) (front_append (i + 1) e.string es fs) ∙ sym (append_assoc (entry_bytes i before e) (front_from (i + 1) e.string es) (front_from (i + 1 + length es) (last_string e.string es) fs))
+    ap (λ t. entry_bytes i before e ++ t) (front_append (i + 1) e.string es fs)
+    ∙ sym (append_assoc (entry_bytes i before e) (front_from (i + 1) e.string es) (front_from (i + 1 + length es) (last_string e.string es) fs))
     ∙ ap (λ n. entry_bytes i before e ++ front_from (i + 1) e.string es ++ front_from n (last_string e.string es) fs) (sym (step_number i (length es)))
 
 pub front_one : (i : ℕ) (before : List ℕ) (e : Entry) → front_from i before (e ∷ []) ≡ entry_bytes i before e
@@ -311,7 +339,8 @@ pub front_more : (es : List Entry) (e : Entry) → front (es ++ e ∷ []) ≡ fr
 front_more es e =
     front_append 0 [] es (e ∷ []) ∙ ap (λ t. front es ++ t) (front_one (0 + length es) (last_string [] es) e ∙ ap (λ n. entry_bytes n (last_string [] es) e) (omega arith))
 
-pub entries_append : (width i : ℕ) (before : List ℕ) (es fs : List Entry) → AreEntries width i before es → AreEntries width (i + length es) (last_string before es) fs → AreEntries width i before (es ++ fs)
+pub entries_append : (width i : ℕ) (before : List ℕ) (es fs : List Entry) → AreEntries width i before es →
+    AreEntries width (i + length es) (last_string before es) fs → AreEntries width i before (es ++ fs)
 entries_append width i before [] fs es_are fs_are = let e : i + 0 ≡ i = omega arith in subst (λ n. AreEntries width n before fs) e fs_are
 entries_append width i before (e ∷ es) fs es_are fs_are =
     (es_are.0, entries_append width (i + 1) e.string es fs es_are.1 (subst (λ n. AreEntries width n (last_string e.string es) fs) (step_number i (length es)) fs_are))
@@ -323,13 +352,16 @@ pub entries_rest : (width i : ℕ) (before : List ℕ) (es fs : List Entry) → 
 entries_rest width i before [] fs are = subst (λ n. AreEntries width n before fs) (omega arith) are
 entries_rest width i before (e ∷ es) fs are = subst (λ n. AreEntries width n (last_string e.string es) fs) (sym (step_number i (length es))) (entries_rest width (i + 1) e.string es fs are.1)
 
-pub places_append : (i : ℕ) (before : List ℕ) (at : ℕ) (es fs : List Entry) → places_from i before at (es ++ fs) ≡ places_from i before at es ++ places_from (i + length es) (last_string before es) (at + length (front_from i before es)) fs
+pub places_append : (i : ℕ) (before : List ℕ) (at : ℕ) (es fs : List Entry) → places_from i before at (es ++ fs) ≡ places_from i before at es
+    ++ places_from (i + length es) (last_string before es) (at + length (front_from i before es)) fs
 unfolding places_from front_from
 places_append i before at [] fs = ap (λ n. places_from n before at fs) (omega arith) ∙ ap (λ n. places_from (i + 0) before n fs) (omega arith)
 places_append i before at (e ∷ es) fs =
     let here : List ℕ = cond (i % 4 == 0) (four at) [] in
     let on = at + length (entry_bytes i before e) in
-    ap (λ t. here ++ t) (places_append (i + 1) e.string on es fs) ∙ sym (append_assoc here (places_from (i + 1) e.string on es) (places_from (i + 1 + length es) (last_string e.string es) (on + length (front_from (i + 1) e.string es)) fs))
+    ap (λ t. here ++ t) (places_append (i + 1) e.string on es fs)
+    ∙ sym (append_assoc here (places_from (i + 1) e.string on es)
+    (places_from (i + 1 + length es) (last_string e.string es) (on + length (front_from (i + 1) e.string es)) fs))
     ∙ ap (λ n. here ++ places_from (i + 1) e.string on es ++ places_from n (last_string e.string es) (on + length (front_from (i + 1) e.string es)) fs) (sym (step_number i (length es)))
     ∙ ap (λ n. here ++ places_from (i + 1) e.string on es ++ places_from (i + suc (length es)) (last_string e.string es) n fs) (simp length-append (omega arith))
 
@@ -349,4 +381,6 @@ read_next width es e fs are =
     let tail = entry_bytes (length es) (last_string [] es) e ++ front_from (length es + 1) e.string fs in
     let there : front (es ++ e ∷ fs) ≡ front es ++ (entry_bytes (length es) (last_string [] es) e ++ front_from (length es + 1) e.string fs) =
     front_append 0 [] es (e ∷ fs) ∙ ap (λ m. front es ++ (entry_bytes m (last_string [] es) e ++ front_from (m + 1) e.string fs)) n in
-    ap (λ t. read_entry width (length es) (last_string [] es) (drop (length (front es)) t)) there ∙ ap (read_entry width (length es) (last_string [] es)) (drop_front (front es) tail) ∙ read_written width (length es) (last_string [] es) e (front_from (length es + 1) e.string fs) one
+    ap (λ t. read_entry width (length es) (last_string [] es) (drop (length (front es)) t)) there
+    ∙ ap (read_entry width (length es) (last_string [] es)) (drop_front (front es) tail)
+    ∙ read_written width (length es) (last_string [] es) e (front_from (length es + 1) e.string fs) one

@@ -85,7 +85,12 @@ digits_rise (suc n) y z le =
       ]
       | inr ge ↦
           let ge2 : 2 ^ 32 ≤ square z = omega (arith, more, ge) in
-          omega (arith, digits_next n y 1 (square y / 2) (large_step y ge), digits_next n z 1 (square z / 2) (large_step z ge2), digits_rise n (square y / 2) (square z / 2) (half_rises (square y) (square z) more))
+          omega (
+            arith,
+            digits_next n y 1 (square y / 2) (large_step y ge),
+            digits_next n z 1 (square z / 2) (large_step z ge2),
+            digits_rise n (square y / 2) (square z / 2) (half_rises (square y) (square z) more),
+          )
     ]
 
 -- ---- the law of the logarithm

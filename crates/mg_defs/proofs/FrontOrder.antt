@@ -23,12 +23,15 @@ above_is i b some h = grind (arith, nat_tests)
 pub after : (width i : ℕ) (before : List ℕ) (es : List Entry) (k : ℕ) (e : Entry) → 0 < i → AreEntries width i before es → slice_get es k ≡ Some e → is_below before e.string ≡ true
 after width i before [] k e some are h = absurd cc
 after width i before (x ∷ es) zero e some are h = let same : x ≡ e = cc in subst (λ (y : Entry). is_below before y.string ≡ true) same (above_is i (is_below before x.string) some are.0.above)
-after width i before (x ∷ es) (suc k) e some are h = below_trans before x.string e.string (above_is i (is_below before x.string) some are.0.above) (after width (i + 1) x.string es k e (omega arith) are.1 h)
+after width i before (x ∷ es) (suc k) e some are h = below_trans before x.string e.string (above_is i (is_below before x.string) some are.0.above)
+    (after width (i + 1) x.string es k e (omega arith) are.1 h)
 
-pub rising : (width i : ℕ) (before : List ℕ) (es : List Entry) (j k : ℕ) (d e : Entry) → AreEntries width i before es → j < k → slice_get es j ≡ Some d → slice_get es k ≡ Some e → is_below d.string e.string ≡ true
+pub rising : (width i : ℕ) (before : List ℕ) (es : List Entry) (j k : ℕ) (d e : Entry) → AreEntries width i before es → j < k → slice_get es j ≡ Some d →
+    slice_get es k ≡ Some e → is_below d.string e.string ≡ true
 rising width i before [] j k d e are less h g = absurd cc
 rising width i before (x ∷ es) j zero d e are less h g = absurd (omega arith)
-rising width i before (x ∷ es) zero (suc k) d e are less h g = let same : x ≡ d = cc in subst (λ (y : Entry). is_below y.string e.string ≡ true) same (after width (i + 1) x.string es k e (omega arith) are.1 g)
+rising width i before (x ∷ es) zero (suc k) d e are less h g = let same : x ≡ d = cc in
+    subst (λ (y : Entry). is_below y.string e.string ≡ true) same (after width (i + 1) x.string es k e (omega arith) are.1 g)
 rising width i before (x ∷ es) (suc j) (suc k) d e are less h g = rising width (i + 1) x.string es j k d e are.1 (omega arith) h g
 
 pub not_itself : (a : List ℕ) → is_below a a ≡ true → ⊥

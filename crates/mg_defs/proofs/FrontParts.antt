@@ -15,7 +15,8 @@ entry_not_empty : (i : ℕ) (before : List ℕ) (e : Entry) (rest : List ℕ) �
 unfolding entry_bytes
 entry_not_empty i before e rest = by_test (i % 4 == 0)
   where
-    by_test : (b : Bool) → [] ≢ cond b (length e.string ∷ (e.string ++ e.field)) (shared before e.string ∷ (length e.string - shared before e.string) ∷ (drop (shared before e.string) e.string ++ e.field)) ++ rest
+    by_test : (b : Bool) → [] ≢ cond b (length e.string ∷ (e.string ++ e.field)) (shared before e.string ∷ (length e.string - shared before e.string) ∷
+        (drop (shared before e.string) e.string ++ e.field)) ++ rest
     by_test true h = cc
     by_test false h = cc
 
@@ -23,16 +24,23 @@ pub same_entry : (a b : Entry) (m n : ℕ) → ◌≡◌ {A = Option Found} (Som
 same_entry a b m n h = let e : ◌≡◌ {A = Found} (record { entry = a; size = m }) (record { entry = b; size = n }) = cc in ap (λ (f : Found). f.entry) e
 
 -- entries at the front of others are the first of them
-pub prefix_of : (width i : ℕ) (before : List ℕ) (es all : List Entry) (tail : List ℕ) → AreEntries width i before es → AreEntries width i before all → front_from i before all ≡ front_from i before es ++ tail →
+pub prefix_of : (width i : ℕ) (before : List ℕ) (es all : List Entry) (tail : List ℕ) → AreEntries width i before es → AreEntries width i before all →
+    front_from i before all ≡ front_from i before es ++ tail →
     (rest : List Entry) × (all ≡ es ++ rest) × (tail ≡ front_from (i + length es) (last_string before es) rest)
 unfolding front_from
 prefix_of width i before [] all tail es_are all_are h = (all, refl, sym h ∙ ap (λ n. front_from n before all) (omega arith))
-prefix_of width i before (e ∷ es) [] tail es_are all_are h = absurd (entry_not_empty i before e (front_from (i + 1) e.string es ++ tail) (h ∙ append_assoc (entry_bytes i before e) (front_from (i + 1) e.string es) tail))
+prefix_of width i before (e ∷ es) [] tail es_are all_are h =
+    absurd (entry_not_empty i before e (front_from (i + 1) e.string es ++ tail)
+    (h ∙ append_assoc (entry_bytes i before e) (front_from (i + 1) e.string es) tail))
 prefix_of width i before (e ∷ es) (a ∷ all) tail es_are all_are h =
-    let g : entry_bytes i before a ++ front_from (i + 1) a.string all ≡ entry_bytes i before e ++ (front_from (i + 1) e.string es ++ tail) = h ∙ append_assoc (entry_bytes i before e) (front_from (i + 1) e.string es) tail in
-    let same : a ≡ e = same_entry a e _ _ (sym (read_written width i before a (front_from (i + 1) a.string all) all_are.0) ∙ ap (read_entry width i before) g ∙ read_written width i before e (front_from (i + 1) e.string es ++ tail) es_are.0) in
-    let left : entry_bytes i before e ++ front_from (i + 1) e.string all ≡ entry_bytes i before e ++ (front_from (i + 1) e.string es ++ tail) = ap (λ (x : Entry). entry_bytes i before x ++ front_from (i + 1) x.string all) (sym same) ∙ g in
-    let more = prefix_of width (i + 1) e.string es all tail es_are.1 (subst (λ (x : Entry). AreEntries width (i + 1) x.string all) same all_are.1) (append_cancel_left (entry_bytes i before e) _ _ left) in
+    let g : entry_bytes i before a ++ front_from (i + 1) a.string all ≡ entry_bytes i before e ++ (front_from (i + 1) e.string es ++ tail) = h
+    ∙ append_assoc (entry_bytes i before e) (front_from (i + 1) e.string es) tail in
+    let same : a ≡ e = same_entry a e _ _ (sym (read_written width i before a (front_from (i + 1) a.string all) all_are.0) ∙ ap (read_entry width i before) g
+    ∙ read_written width i before e (front_from (i + 1) e.string es ++ tail) es_are.0) in
+    let left : entry_bytes i before e ++ front_from (i + 1) e.string all ≡ entry_bytes i before e
+    ++ (front_from (i + 1) e.string es ++ tail) = ap (λ (x : Entry). entry_bytes i before x ++ front_from (i + 1) x.string all) (sym same) ∙ g in
+    let more = prefix_of width (i + 1) e.string es all tail es_are.1 (subst (λ (x : Entry). AreEntries width (i + 1) x.string all) same all_are.1)
+    (append_cancel_left (entry_bytes i before e) _ _ left) in
     (more.0, ap (λ t. a ∷ t) more.1 ∙ ap (λ x. x ∷ (es ++ more.0)) same, more.2 ∙ ap (λ n. front_from n (last_string e.string es) more.0) (omega arith))
 
 pub slice_get-behind : (es fs : List Entry) → slice_get (es ++ fs) (length es) ≡ slice_get fs 0
@@ -60,9 +68,11 @@ four_long n = refl
 pub places_long : (i : ℕ) (before : List ℕ) (at : ℕ) (es : List Entry) → length (places_from i before at es) + 4 * ((i + 3) / 4) ≡ 4 * ((i + length es + 3) / 4)
 unfolding places_from
 places_long i before at [] = omega arith
-places_long i before at (e ∷ es) = by_test (i % 4 == 0) refl (places_from (i + 1) e.string (at + length (entry_bytes i before e)) es) (places_long (i + 1) e.string (at + length (entry_bytes i before e)) es)
+places_long i before at (e ∷ es) = by_test (i % 4 == 0) refl (places_from (i + 1) e.string (at + length (entry_bytes i before e)) es)
+    (places_long (i + 1) e.string (at + length (entry_bytes i before e)) es)
   where
-    by_test : (b : Bool) → (i % 4 == 0) ≡ b → (more : List ℕ) → length more + 4 * ((i + 1 + 3) / 4) ≡ 4 * ((i + 1 + length es + 3) / 4) → length (cond b (four at) [] ++ more) + 4 * ((i + 3) / 4) ≡ 4 * ((i + suc (length es) + 3) / 4)
+    by_test : (b : Bool) → (i % 4 == 0) ≡ b → (more : List ℕ) → length more + 4 * ((i + 1 + 3) / 4) ≡ 4 * ((i + 1 + length es + 3) / 4) →
+        length (cond b (four at) [] ++ more) + 4 * ((i + 3) / 4) ≡ 4 * ((i + suc (length es) + 3) / 4)
     by_test true whole more h = let w : i % 4 ≡ 0 = grind (arith, nat_tests) in omega (arith, length-append (four at) more, four_long at, h, w)
     by_test false cut more h = let w : i % 4 ≢ 0 = grind (arith, nat_tests) in omega (arith, h, w)
 
@@ -76,10 +86,14 @@ place_there es e fs block long =
     let n : 0 + length es ≡ length es = omega arith in
     let whole : (length es % 4 == 0) ≡ true = grind (arith, nat_tests) in
     let tail = places_from (length es + 1) e.string (length (front es) + length (entry_bytes (length es) (last_string [] es) e)) fs in
-    let all : whole_at (es ++ e ∷ fs) ≡ whole_at es ++ (four (length (front es)) ++ places_from (length es + 1) e.string (length (front es) + length (entry_bytes (length es) (last_string [] es) e)) fs) =
-    places_append 0 [] 0 es (e ∷ fs) ∙ ap (λ m. whole_at es ++ places_from m (last_string [] es) (0 + length (front es)) (e ∷ fs)) n ∙ ap (λ m. whole_at es ++ places_from (length es) (last_string [] es) m (e ∷ fs)) (omega arith) ∙ ap (λ b. whole_at es ++ (cond b (four (length (front es))) [] ++ tail)) whole in
+    let all : whole_at (es ++ e ∷ fs) ≡ whole_at es ++ (four (length (front es)) ++ places_from (length es + 1) e.string
+    (length (front es) + length (entry_bytes (length es) (last_string [] es) e)) fs) =
+    places_append 0 [] 0 es (e ∷ fs) ∙ ap (λ m. whole_at es ++ places_from m (last_string [] es) (0 + length (front es)) (e ∷ fs)) n
+    ∙ ap (λ m. whole_at es ++ places_from (length es) (last_string [] es) m (e ∷ fs)) (omega arith)
+    ∙ ap (λ b. whole_at es ++ (cond b (four (length (front es))) [] ++ tail)) whole in
     let before : length (whole_at es) ≡ 4 * block = omega (arith, places_long 0 [] 0 es, long) in
-    ap (λ t. take 4 (drop (4 * block) t)) all ∙ ap (take 4) (drop_at (whole_at es) (four (length (front es)) ++ tail) (4 * block) before) ∙ ap (λ m. take m (four (length (front es)) ++ tail)) (sym (four_long (length (front es)))) ∙ take_front (four (length (front es))) tail
+    ap (λ t. take 4 (drop (4 * block) t)) all ∙ ap (take 4) (drop_at (whole_at es) (four (length (front es)) ++ tail) (4 * block) before)
+    ∙ ap (λ m. take m (four (length (front es)) ++ tail)) (sym (four_long (length (front es)))) ∙ take_front (four (length (front es))) tail
   where
     take_front : (xs ys : List ℕ) → take (length xs) (xs ++ ys) ≡ xs
     take_front xs ys = grind (arith, common_steps)
@@ -131,7 +145,8 @@ place_of_block es block within =
 pub front_begins : (es : List Entry) (j : ℕ) → take (length (front (take j es))) (front es) ≡ front (take j es)
 front_begins es j =
     let head = take j es in
-    ap (λ t. take (length (front (take j es))) (front t)) (sym (take-append-drop j es)) ∙ ap (take (length (front head))) (front_append 0 [] head (drop j es)) ∙ take-append_seam (front head) (front_from (0 + length head) (last_string [] head) (drop j es))
+    ap (λ t. take (length (front (take j es))) (front t)) (sym (take-append-drop j es)) ∙ ap (take (length (front head))) (front_append 0 [] head (drop j es))
+    ∙ take-append_seam (front head) (front_from (0 + length head) (last_string [] head) (drop j es))
 
 pub last_taken : (before : List ℕ) (es : List Entry) (i j : ℕ) (e : Entry) → j ≡ suc i → slice_get es i ≡ Some e → last_string before (take j es) ≡ e.string
 last_taken before [] i j e next h = absurd cc
@@ -142,7 +157,8 @@ pub four_same : (n m : ℕ) → n < 2 ^ 32 → m < 2 ^ 32 → four n ≡ four m 
 unfolding four
 four_same n m small few e = sym (from_be_bytes-to_be_bytes_4 n small) ∙ ap (from_be_bytes w32) e ∙ from_be_bytes-to_be_bytes_4 m few
 
-pub four_of : (bs : List ℕ) (n : ℕ) → length bs ≡ 4 → ((i : ℕ) → get_or bs i 0 < 256) → n ≡ slice_index bs 0 * 16777216 + slice_index bs 1 * 65536 + slice_index bs 2 * 256 + slice_index bs 3 → four n ≡ bs
+pub four_of : (bs : List ℕ) (n : ℕ) → length bs ≡ 4 → ((i : ℕ) → get_or bs i 0 < 256) → n
+    ≡ slice_index bs 0 * 16777216 + slice_index bs 1 * 65536 + slice_index bs 2 * 256 + slice_index bs 3 → four n ≡ bs
 unfolding four
 four_of bs n long small e = be_bytes_4 bs n long small (e ∙ sums bs)
   where

@@ -33,11 +33,13 @@ lt-false : (a b : ℕ) → nat_lt a b ≡ false → b ≤ a
 lt-false a b e = grind (arith, nat_tests)
 
 -- the three cases of `added`
-pub added-cases : (e x : TermPosting) (xs : List TermPosting) (P : List TermPosting → Type 0) → (IsBefore e x → P (e ∷ x ∷ xs)) → (IsBefore x e → P (x ∷ added e xs)) → (e.term ≡ x.term → e.doc ≡ x.doc → P (with_count x (e.count + x.count) ∷ xs)) → P (added e (x ∷ xs))
+pub added-cases : (e x : TermPosting) (xs : List TermPosting) (P : List TermPosting → Type 0) → (IsBefore e x → P (e ∷ x ∷ xs)) →
+    (IsBefore x e → P (x ∷ added e xs)) → (e.term ≡ x.term → e.doc ≡ x.doc → P (with_count x (e.count + x.count) ∷ xs)) → P (added e (x ∷ xs))
 added-cases e x xs P first later same =
     let rest_in : List TermPosting = x ∷ added e xs in
     let here : List TermPosting = with_count x (e.count + x.count) ∷ xs in
-    elim (nat_lt e.term x.term) as (λ a. nat_lt e.term x.term ≡ a → P (cond a (e ∷ x ∷ xs) (cond (nat_lt x.term e.term) rest_in (cond (nat_lt e.doc x.doc) (e ∷ x ∷ xs) (cond (nat_lt x.doc e.doc) rest_in here))))) [
+    elim (nat_lt e.term x.term) as (λ a. nat_lt e.term x.term ≡ a →
+    P (cond a (e ∷ x ∷ xs) (cond (nat_lt x.term e.term) rest_in (cond (nat_lt e.doc x.doc) (e ∷ x ∷ xs) (cond (nat_lt x.doc e.doc) rest_in here))))) [
       | true ↦ λ p. let h : e.term < x.term = lt-true _ _ p in first (record { term = omega arith; doc = λ q. absurd (omega arith) })
       | false ↦ λ p. elim (nat_lt x.term e.term) as (λ b. nat_lt x.term e.term ≡ b → P (cond b rest_in (cond (nat_lt e.doc x.doc) (e ∷ x ∷ xs) (cond (nat_lt x.doc e.doc) rest_in here)))) [
         | true ↦ λ q. let h : x.term < e.term = lt-true _ _ q in later (record { term = omega arith; doc = λ r. absurd (omega arith) })
@@ -201,7 +203,8 @@ only_one (x ∷ xs) (y ∷ ys) a b c e same =
           let m : times x.term x.doc (y ∷ ys) ≡ times y.term y.doc (y ∷ ys) = cc in
           let n : x.count ≡ y.count = omega arith in
           let head : x ≡ y = same_posting x y p q n in
-          let rest : xs ≡ ys = only_one xs ys a.1 b.1 c.1 e.1 (λ t d. let w : times t d (x ∷ xs) ≡ times t d (y ∷ ys) = same t d in let v : part_at t d x ≡ part_at t d y = part-same x y t d head in omega arith) in
+          let rest : xs ≡ ys = only_one xs ys a.1 b.1 c.1 e.1 (λ t d. let w : times t d (x ∷ xs) ≡ times t d (y ∷ ys) = same t d in
+          let v : part_at t d x ≡ part_at t d y = part-same x y t d head in omega arith) in
           cc
     ]
 

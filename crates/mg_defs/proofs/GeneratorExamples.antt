@@ -12,12 +12,15 @@ unfolding made_word syllable
 words = (refl, refl, refl)
 
 -- with the seed 0
-first_document : made_collection 0 1 ≡ codes "From: fojelo@hanagu.example\nSubject: kiki bav" ++ (195 ∷ 169 ∷ (codes " loje\n\nDilofo cepena hahav" ++ (195 ∷ 169 ∷ (codes " fomu.\nJedice hafo cepegu dipeje cecedi, pev" ++ (195 ∷ 169 ∷ (codes " cejece fokice cemupe.\n" ++ (2 ∷ [])))))))
+first_document : made_collection 0 1 ≡ codes "From: fojelo@hanagu.example\nSubject: kiki bav"
+    ++ (195 ∷ 169 ∷ (codes " loje\n\nDilofo cepena hahav"
+    ++ (195 ∷ 169 ∷ (codes " fomu.\nJedice hafo cepegu dipeje cecedi, pev" ++ (195 ∷ 169 ∷ (codes " cejece fokice cemupe.\n" ++ (2 ∷ [])))))))
 unfolding made_collection repeated made_both made_in_turn made_bytes mail heading sentences sentence separator capital_pick pick made_word syllable draw stepped
 first_document = refl
 
 -- with the seed 7
-first_queries : (four_queries 8).bytes ≡ codes "jepe\nbace & !cejeje\n(cenamu | cefoce) focefo\n.set query ranked\n.set maxdocs 10\nsope fov" ++ (195 ∷ 169 ∷ (codes "ri cesov" ++ (195 ∷ 169 ∷ (codes "\n.set query boolean\n.set maxdocs all\n"))))
+first_queries : (four_queries 8).bytes ≡ codes "jepe\nbace & !cejeje\n(cenamu | cefoce) focefo\n.set query ranked\n.set maxdocs 10\nsope fov"
+    ++ (195 ∷ 169 ∷ (codes "ri cesov" ++ (195 ∷ 169 ∷ (codes "\n.set query boolean\n.set maxdocs all\n"))))
 unfolding four_queries one_word one_without either_and made_ranked made_both made_in_turn made_bytes pick made_word syllable draw stepped
 first_queries = refl
 

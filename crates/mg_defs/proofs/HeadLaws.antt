@@ -50,7 +50,9 @@ fits_of h is = record {
   skip_count = omega (arith, most.3, is.occurrences, is.skip_count);
 }
   where
-    by_case : (c : Bool) → (h.documents ≤ (cond c (limits 1) (limits 2)).documents) → (h.words ≤ (cond c (limits 1) (limits 2)).pieces) → (h.others ≤ (cond c (limits 1) (limits 2)).pieces) → (h.collection ≤ (cond c (limits 1) (limits 2)).collection) → (h.documents < 2 ^ 32) × (h.words < 2 ^ 32) × (h.others < 2 ^ 32) × (h.collection < 2 ^ 32)
+    by_case : (c : Bool) → (h.documents ≤ (cond c (limits 1) (limits 2)).documents) → (h.words ≤ (cond c (limits 1) (limits 2)).pieces) →
+        (h.others ≤ (cond c (limits 1) (limits 2)).pieces) → (h.collection ≤ (cond c (limits 1) (limits 2)).collection) →
+        (h.documents < 2 ^ 32) × (h.words < 2 ^ 32) × (h.others < 2 ^ 32) × (h.collection < 2 ^ 32)
     by_case true p q r s = (omega arith, omega arith, omega arith, omega arith)
     by_case false p q r s = (omega arith, omega arith, omega arith, omega arith)
 
@@ -232,8 +234,34 @@ narrow_pass bytes h f one is =
     let words : h.words ≤ 2 ^ 20 = subst (λ v. h.words ≤ (limits v).pieces) one is.words in
     let others : h.others ≤ 2 ^ 20 = subst (λ v. h.others ≤ (limits v).pieces) one is.others in
     let collection : h.collection ≤ 2 ^ 28 = subst (λ v. h.collection ≤ (limits v).collection) one is.collection in
-    let runs = runs_same (four_at bytes 36) (four_at bytes 24) (four_at bytes 40) h.occurrences h.cap h.runs f.occurrences f.cap f.runs is.runs in
-    (right 8 0 (2 ^ 20) (four_at bytes 8) (omega arith) (omega (arith, f.documents, documents)), (right 12 0 (2 ^ 20) (four_at bytes 12) (omega arith) (omega (arith, f.words, words)), (right 16 0 (2 ^ 20) (four_at bytes 16) (omega arith) (omega (arith, f.others, others)), (right 20 0 (four_at bytes 12) (four_at bytes 20) (omega arith) (omega (arith, f.terms, f.words, is.terms)), (right 24 341 89478485 (four_at bytes 24) (omega (arith, f.cap, is.cap_low)) (omega (arith, f.cap, is.cap_high)), (right 28 0 1 (four_at bytes 28) (omega arith) (open_back_at bytes h.open_end f.open_end), (right 32 0 (2 ^ 28) (four_at bytes 32) (omega arith) (omega (arith, f.collection, collection)), (right 36 0 (four_at bytes 32) (four_at bytes 36) (omega arith) (omega (arith, f.occurrences, f.collection, is.occurrences)), (right 40 (run_count (four_at bytes 36) (four_at bytes 24)) (run_count (four_at bytes 36) (four_at bytes 24)) (four_at bytes 40) runs.0 runs.1, (right 56 0 (four_at bytes 36) (eight_at bytes 56) (omega arith) (omega (arith, f.skip_count, f.occurrences, is.skip_count)), tt))))))))))
+    let runs = runs_same (four_at bytes 36) (four_at bytes 24) (four_at bytes 40) h.occurrences h.cap h.runs f.occurrences f.cap f.runs is.runs in (
+      right 8 0 (2 ^ 20) (four_at bytes 8) (omega arith) (omega (arith, f.documents, documents)),
+      (
+        right 12 0 (2 ^ 20) (four_at bytes 12) (omega arith) (omega (arith, f.words, words)),
+        (
+          right 16 0 (2 ^ 20) (four_at bytes 16) (omega arith) (omega (arith, f.others, others)),
+          (
+            right 20 0 (four_at bytes 12) (four_at bytes 20) (omega arith) (omega (arith, f.terms, f.words, is.terms)),
+            (
+              right 24 341 89478485 (four_at bytes 24) (omega (arith, f.cap, is.cap_low)) (omega (arith, f.cap, is.cap_high)),
+              (
+                right 28 0 1 (four_at bytes 28) (omega arith) (open_back_at bytes h.open_end f.open_end),
+                (
+                  right 32 0 (2 ^ 28) (four_at bytes 32) (omega arith) (omega (arith, f.collection, collection)),
+                  (
+                    right 36 0 (four_at bytes 32) (four_at bytes 36) (omega arith) (omega (arith, f.occurrences, f.collection, is.occurrences)),
+                    (
+                      right 40 (run_count (four_at bytes 36) (four_at bytes 24)) (run_count (four_at bytes 36) (four_at bytes 24)) (four_at bytes 40) runs.0 runs.1,
+                      (right 56 0 (four_at bytes 36) (eight_at bytes 56) (omega arith) (omega (arith, f.skip_count, f.occurrences, is.skip_count)), tt),
+                    ),
+                  ),
+                ),
+              ),
+            ),
+          ),
+        ),
+      ),
+    )
 
 wide_pass : (bytes : List ℕ) (h : Head) → WideFields bytes h → (h.version == 1) ≡ false → IsWithin h → AllPass (first_checks (limits 2) bytes ++ wide_checks bytes)
 unfolding AllPass
@@ -242,8 +270,37 @@ wide_pass bytes h f other is =
     let words : h.words ≤ 2 ^ 22 = subst (λ b. h.words ≤ (cond b (limits 1) (limits 2)).pieces) other is.words in
     let others : h.others ≤ 2 ^ 22 = subst (λ b. h.others ≤ (cond b (limits 1) (limits 2)).pieces) other is.others in
     let collection : h.collection ≤ 2 ^ 32 - 1 = subst (λ b. h.collection ≤ (cond b (limits 1) (limits 2)).collection) other is.collection in
-    let runs = runs_same (eight_at bytes 40) (four_at bytes 24) (four_at bytes 48) h.occurrences h.cap h.runs f.occurrences f.cap f.runs is.runs in
-    (right 8 0 (2 ^ 24) (four_at bytes 8) (omega arith) (omega (arith, f.documents, documents)), (right 12 0 (2 ^ 22) (four_at bytes 12) (omega arith) (omega (arith, f.words, words)), (right 16 0 (2 ^ 22) (four_at bytes 16) (omega arith) (omega (arith, f.others, others)), (right 20 0 (four_at bytes 12) (four_at bytes 20) (omega arith) (omega (arith, f.terms, f.words, is.terms)), (right 24 341 89478485 (four_at bytes 24) (omega (arith, f.cap, is.cap_low)) (omega (arith, f.cap, is.cap_high)), (right 28 0 1 (four_at bytes 28) (omega arith) (open_back_at bytes h.open_end f.open_end), (right 32 0 (2 ^ 32 - 1) (eight_at bytes 32) (omega arith) (omega (arith, f.collection, collection)), (right 40 0 (eight_at bytes 32) (eight_at bytes 40) (omega arith) (omega (arith, f.occurrences, f.collection, is.occurrences)), (right 48 (run_count (eight_at bytes 40) (four_at bytes 24)) (run_count (eight_at bytes 40) (four_at bytes 24)) (four_at bytes 48) runs.0 runs.1, (right 52 0 0 (four_at bytes 52) (omega arith) (omega (arith, f.zero_is)), (right 72 0 (eight_at bytes 40) (eight_at bytes 72) (omega arith) (omega (arith, f.skip_count, f.occurrences, is.skip_count)), tt)))))))))))
+    let runs = runs_same (eight_at bytes 40) (four_at bytes 24) (four_at bytes 48) h.occurrences h.cap h.runs f.occurrences f.cap f.runs is.runs in (
+      right 8 0 (2 ^ 24) (four_at bytes 8) (omega arith) (omega (arith, f.documents, documents)),
+      (
+        right 12 0 (2 ^ 22) (four_at bytes 12) (omega arith) (omega (arith, f.words, words)),
+        (
+          right 16 0 (2 ^ 22) (four_at bytes 16) (omega arith) (omega (arith, f.others, others)),
+          (
+            right 20 0 (four_at bytes 12) (four_at bytes 20) (omega arith) (omega (arith, f.terms, f.words, is.terms)),
+            (
+              right 24 341 89478485 (four_at bytes 24) (omega (arith, f.cap, is.cap_low)) (omega (arith, f.cap, is.cap_high)),
+              (
+                right 28 0 1 (four_at bytes 28) (omega arith) (open_back_at bytes h.open_end f.open_end),
+                (
+                  right 32 0 (2 ^ 32 - 1) (eight_at bytes 32) (omega arith) (omega (arith, f.collection, collection)),
+                  (
+                    right 40 0 (eight_at bytes 32) (eight_at bytes 40) (omega arith) (omega (arith, f.occurrences, f.collection, is.occurrences)),
+                    (
+                      right 48 (run_count (eight_at bytes 40) (four_at bytes 24)) (run_count (eight_at bytes 40) (four_at bytes 24)) (four_at bytes 48) runs.0 runs.1,
+                      (
+                        right 52 0 0 (four_at bytes 52) (omega arith) (omega (arith, f.zero_is)),
+                        (right 72 0 (eight_at bytes 40) (eight_at bytes 72) (omega arith) (omega (arith, f.skip_count, f.occurrences, is.skip_count)), tt),
+                      ),
+                    ),
+                  ),
+                ),
+              ),
+            ),
+          ),
+        ),
+      ),
+    )
 
 narrow_none : (low high : ℕ) (h : Head) → h.version ≡ 1 → low ≤ h.version → h.version ≤ high → IsWithin h → first_damage low high (narrow_bytes h) ≡ None
 unfolding first_damage AllPass
@@ -252,8 +309,12 @@ narrow_none low high h one from to is =
     let long : length (narrow_bytes h) ≡ 64 = narrow_long h in
     let size : is_wrong (exactly 0 64 (length (narrow_bytes h))) ≡ false = right 0 64 64 (length (narrow_bytes h)) (omega (arith, long)) (omega (arith, long)) in
     ap (λ n. cond (nat_lt n 64) (Some (exactly 0 64 (length (narrow_bytes h)))) (find is_wrong (magic_checks low high (narrow_bytes h) ++ rest_checks (narrow_bytes h)))) long
-    ∙ none_found (within 6 (48 + low) (48 + high) (48 + h.version) ∷ rest_checks (narrow_bytes h))
-    (right 6 (48 + low) (48 + high) (48 + h.version) (omega arith) (omega arith), subst (λ b. AllPass (cond b (exactly 0 64 (length (narrow_bytes h)) ∷ (first_checks (limits 1) (narrow_bytes h) ++ narrow_checks (narrow_bytes h))) (exactly 0 80 (length (narrow_bytes h)) ∷ (first_checks (limits 2) (narrow_bytes h) ++ wide_checks (narrow_bytes h))))) (sym digit) (size, narrow_pass (narrow_bytes h) h (narrow_fields h (fits_of h is)) one is))
+    ∙ none_found (within 6 (48 + low) (48 + high) (48 + h.version) ∷ rest_checks (narrow_bytes h)) (
+      right 6 (48 + low) (48 + high) (48 + h.version) (omega arith) (omega arith),
+      subst (λ b. AllPass (cond b (exactly 0 64 (length (narrow_bytes h)) ∷ (first_checks (limits 1) (narrow_bytes h) ++ narrow_checks (narrow_bytes h)))
+          (exactly 0 80 (length (narrow_bytes h)) ∷ (first_checks (limits 2) (narrow_bytes h) ++ wide_checks (narrow_bytes h))))) (sym digit)
+          (size, narrow_pass (narrow_bytes h) h (narrow_fields h (fits_of h is)) one is),
+    )
 
 wide_none : (low high : ℕ) (h : Head) → (h.version == 1) ≡ false → low ≤ h.version → h.version ≤ high → IsWithin h → first_damage low high (wide_bytes h) ≡ None
 unfolding first_damage AllPass
@@ -262,8 +323,12 @@ wide_none low high h other from to is =
     let long : length (wide_bytes h) ≡ 80 = wide_long h in
     let size : is_wrong (exactly 0 80 (length (wide_bytes h))) ≡ false = right 0 80 80 (length (wide_bytes h)) (omega (arith, long)) (omega (arith, long)) in
     ap (λ n. cond (nat_lt n 64) (Some (exactly 0 64 (length (wide_bytes h)))) (find is_wrong (magic_checks low high (wide_bytes h) ++ rest_checks (wide_bytes h)))) long
-    ∙ none_found (within 6 (48 + low) (48 + high) (48 + h.version) ∷ rest_checks (wide_bytes h))
-    (right 6 (48 + low) (48 + high) (48 + h.version) (omega arith) (omega arith), subst (λ b. AllPass (cond b (exactly 0 64 (length (wide_bytes h)) ∷ (first_checks (limits 1) (wide_bytes h) ++ narrow_checks (wide_bytes h))) (exactly 0 80 (length (wide_bytes h)) ∷ (first_checks (limits 2) (wide_bytes h) ++ wide_checks (wide_bytes h))))) (sym digit) (size, wide_pass (wide_bytes h) h (wide_fields h (fits_of h is)) other is))
+    ∙ none_found (within 6 (48 + low) (48 + high) (48 + h.version) ∷ rest_checks (wide_bytes h)) (
+      right 6 (48 + low) (48 + high) (48 + h.version) (omega arith) (omega arith),
+      subst (λ b. AllPass (cond b (exactly 0 64 (length (wide_bytes h)) ∷ (first_checks (limits 1) (wide_bytes h) ++ narrow_checks (wide_bytes h)))
+          (exactly 0 80 (length (wide_bytes h)) ∷ (first_checks (limits 2) (wide_bytes h) ++ wide_checks (wide_bytes h))))) (sym digit)
+          (size, wide_pass (wide_bytes h) h (wide_fields h (fits_of h is)) other is),
+    )
 
 pub no_damage : (low high : ℕ) (bytes : List ℕ) (h : Head) → IsHead low high bytes h → first_damage low high bytes ≡ None
 unfolding head_bytes
@@ -279,7 +344,8 @@ no_damage low high bytes h is = ap (first_damage low high) is.bytes_are ∙ by_v
 piece_on : (a b : ℕ) (xs before piece : List ℕ) → before ≡ take a xs → piece ≡ take b (drop a xs) → before ++ piece ≡ take (a + b) xs
 piece_on a b xs before piece e f = ap (λ t. t ++ piece) e ∙ ap (λ t. take a xs ++ t) f ∙ sym (take-add a b xs)
 
-eight_of : (xs : List ℕ) → length xs ≡ 8 → xs ≡ slice_index xs 0 ∷ slice_index xs 1 ∷ slice_index xs 2 ∷ slice_index xs 3 ∷ slice_index xs 4 ∷ slice_index xs 5 ∷ slice_index xs 6 ∷ slice_index xs 7 ∷ []
+eight_of : (xs : List ℕ) → length xs ≡ 8 → xs ≡ slice_index xs 0 ∷ slice_index xs 1 ∷ slice_index xs 2 ∷ slice_index xs 3 ∷ slice_index xs 4 ∷
+    slice_index xs 5 ∷ slice_index xs 6 ∷ slice_index xs 7 ∷ []
 eight_of [] e = absurd (omega arith)
 eight_of (a ∷ []) e = absurd (omega arith)
 eight_of (a ∷ b ∷ []) e = absurd (omega arith)
@@ -291,7 +357,8 @@ eight_of (a ∷ b ∷ c ∷ d ∷ f ∷ g ∷ h ∷ []) e = absurd (omega arith)
 eight_of (a ∷ b ∷ c ∷ d ∷ f ∷ g ∷ h ∷ i ∷ []) e = refl
 eight_of (a ∷ b ∷ c ∷ d ∷ f ∷ g ∷ h ∷ i ∷ j ∷ xs) e = absurd (omega arith)
 
-same_eight : (a b c d f g h a2 b2 c2 d2 f2 g2 h2 v v2 : ℕ) → a ≡ a2 → b ≡ b2 → c ≡ c2 → d ≡ d2 → f ≡ f2 → g ≡ g2 → v ≡ v2 → h ≡ h2 → ◌≡◌ {A = List ℕ} (a ∷ b ∷ c ∷ d ∷ f ∷ g ∷ v ∷ h ∷ []) (a2 ∷ b2 ∷ c2 ∷ d2 ∷ f2 ∷ g2 ∷ v2 ∷ h2 ∷ [])
+same_eight : (a b c d f g h a2 b2 c2 d2 f2 g2 h2 v v2 : ℕ) → a ≡ a2 → b ≡ b2 → c ≡ c2 → d ≡ d2 → f ≡ f2 → g ≡ g2 → v ≡ v2 → h ≡ h2 →
+    ◌≡◌ {A = List ℕ} (a ∷ b ∷ c ∷ d ∷ f ∷ g ∷ v ∷ h ∷ []) (a2 ∷ b2 ∷ c2 ∷ d2 ∷ f2 ∷ g2 ∷ v2 ∷ h2 ∷ [])
 same_eight a b c d f g h a2 b2 c2 d2 f2 g2 h2 v v2 p q r s t u w x = λ i. p i ∷ q i ∷ r i ∷ s i ∷ t i ∷ u i ∷ w i ∷ x i ∷ []
 
 pub is_exactly : (at wanted found : ℕ) → is_wrong (exactly at wanted found) ≡ false → found ≡ wanted
@@ -307,7 +374,9 @@ magic_read : (low high version : ℕ) (bytes : List ℕ) → 8 ≤ length bytes 
 unfolding AllPass
 magic_read low high version bytes long digit pass =
     same_eight 77 71 82 79 87 118 10 _ _ _ _ _ _ _ _ _
-    (sym (is_exactly 0 77 _ pass.0)) (sym (is_exactly 1 71 _ pass.1.0)) (sym (is_exactly 2 82 _ pass.1.1.0)) (sym (is_exactly 3 79 _ pass.1.1.1.0)) (sym (is_exactly 4 87 _ pass.1.1.1.1.0)) (sym (is_exactly 5 118 _ pass.1.1.1.1.1.0)) (omega (arith, digit)) (sym (is_exactly 7 10 _ pass.1.1.1.1.1.1.1.0))
+    (sym (is_exactly 0 77 _ pass.0)) (sym (is_exactly 1 71 _ pass.1.0)) (sym (is_exactly 2 82 _ pass.1.1.0)) (sym (is_exactly 3 79 _ pass.1.1.1.0))
+    (sym (is_exactly 4 87 _ pass.1.1.1.1.0)) (sym (is_exactly 5 118 _ pass.1.1.1.1.1.0)) (omega (arith, digit))
+    (sym (is_exactly 7 10 _ pass.1.1.1.1.1.1.1.0))
     ∙ same_eight _ _ _ _ _ _ _ _ _ _ _ _ _ _ _ _
     (at 0 (omega arith)) (at 1 (omega arith)) (at 2 (omega arith)) (at 3 (omega arith)) (at 4 (omega arith)) (at 5 (omega arith)) (at 6 (omega arith)) (at 7 (omega arith))
     ∙ sym (eight_of (take 8 bytes) (omega (arith, length-take 8 bytes)))
@@ -315,20 +384,36 @@ magic_read low high version bytes long digit pass =
     at : (i : ℕ) → i < 8 → slice_index bytes i ≡ slice_index (take 8 bytes) i
     at i within = sym (slice_index-take 8 i bytes within)
 
-narrow_whole : (low high : ℕ) (bytes : List ℕ) → ((i : ℕ) → slice_index bytes i < 256) → length bytes ≡ 64 → slice_index bytes 6 ≡ 49 → AllPass (magic_checks low high bytes) → four_at bytes 28 ≤ 1 → narrow_bytes (narrow_head bytes) ≡ bytes
+narrow_whole : (low high : ℕ) (bytes : List ℕ) → ((i : ℕ) → slice_index bytes i < 256) → length bytes ≡ 64 → slice_index bytes 6 ≡ 49 →
+    AllPass (magic_checks low high bytes) → four_at bytes 28 ≤ 1 → narrow_bytes (narrow_head bytes) ≡ bytes
 narrow_whole low high bytes small long digit pass open_end =
-    piece_on 56 8 bytes _ _ (piece_on 48 8 bytes _ _ (piece_on 44 4 bytes _ _ (piece_on 40 4 bytes _ _ (piece_on 36 4 bytes _ _ (piece_on 32 4 bytes _ _ (piece_on 28 4 bytes _ _ (piece_on 24 4 bytes _ _ (piece_on 20 4 bytes _ _ (piece_on 16 4 bytes _ _ (piece_on 12 4 bytes _ _ (piece_on 8 4 bytes _ _
+    piece_on 56 8 bytes _ _
+    (piece_on 48 8 bytes _ _ (piece_on 44 4 bytes _ _
+    (piece_on 40 4 bytes _ _ (piece_on 36 4 bytes _ _
+    (piece_on 32 4 bytes _ _ (piece_on 28 4 bytes _ _
+    (piece_on 24 4 bytes _ _ (piece_on 20 4 bytes _ _ (piece_on 16 4 bytes _ _ (piece_on 12 4 bytes _ _ (piece_on 8 4 bytes _ _
     (magic_read low high 1 bytes (omega arith) (omega (arith, digit)) pass)
-    (four_read bytes 8 small (omega arith))) (four_read bytes 12 small (omega arith))) (four_read bytes 16 small (omega arith))) (four_read bytes 20 small (omega arith))) (four_read bytes 24 small (omega arith)))
-    (ap four (open_number (four_at bytes 28) open_end) ∙ four_read bytes 28 small (omega arith))) (four_read bytes 32 small (omega arith))) (four_read bytes 36 small (omega arith))) (four_read bytes 40 small (omega arith))) (four_read bytes 44 small (omega arith))) (eight_read bytes 48 small (omega arith))) (eight_read bytes 56 small (omega arith))
+    (four_read bytes 8 small (omega arith))) (four_read bytes 12 small (omega arith))) (four_read bytes 16 small (omega arith)))
+    (four_read bytes 20 small (omega arith))) (four_read bytes 24 small (omega arith)))
+    (ap four (open_number (four_at bytes 28) open_end) ∙ four_read bytes 28 small (omega arith))) (four_read bytes 32 small (omega arith)))
+    (four_read bytes 36 small (omega arith))) (four_read bytes 40 small (omega arith))) (four_read bytes 44 small (omega arith)))
+    (eight_read bytes 48 small (omega arith))) (eight_read bytes 56 small (omega arith))
     ∙ take_all 64 bytes (omega arith)
 
-wide_whole : (low high : ℕ) (bytes : List ℕ) → ((i : ℕ) → slice_index bytes i < 256) → length bytes ≡ 80 → 48 ≤ slice_index bytes 6 → AllPass (magic_checks low high bytes) → four_at bytes 28 ≤ 1 → four_at bytes 52 ≡ 0 → wide_bytes (wide_head bytes) ≡ bytes
+wide_whole : (low high : ℕ) (bytes : List ℕ) → ((i : ℕ) → slice_index bytes i < 256) → length bytes ≡ 80 → 48 ≤ slice_index bytes 6 →
+    AllPass (magic_checks low high bytes) → four_at bytes 28 ≤ 1 → four_at bytes 52 ≡ 0 → wide_bytes (wide_head bytes) ≡ bytes
 wide_whole low high bytes small long digit pass open_end zero_is =
-    piece_on 72 8 bytes _ _ (piece_on 64 8 bytes _ _ (piece_on 56 8 bytes _ _ (piece_on 52 4 bytes _ _ (piece_on 48 4 bytes _ _ (piece_on 40 8 bytes _ _ (piece_on 32 8 bytes _ _ (piece_on 28 4 bytes _ _ (piece_on 24 4 bytes _ _ (piece_on 20 4 bytes _ _ (piece_on 16 4 bytes _ _ (piece_on 12 4 bytes _ _ (piece_on 8 4 bytes _ _
+    piece_on 72 8 bytes _ _
+    (piece_on 64 8 bytes _ _ (piece_on 56 8 bytes _ _
+    (piece_on 52 4 bytes _ _ (piece_on 48 4 bytes _ _
+    (piece_on 40 8 bytes _ _ (piece_on 32 8 bytes _ _
+    (piece_on 28 4 bytes _ _ (piece_on 24 4 bytes _ _ (piece_on 20 4 bytes _ _ (piece_on 16 4 bytes _ _ (piece_on 12 4 bytes _ _ (piece_on 8 4 bytes _ _
     (magic_read low high (slice_index bytes 6 - 48) bytes (omega arith) (omega (arith, digit)) pass)
-    (four_read bytes 8 small (omega arith))) (four_read bytes 12 small (omega arith))) (four_read bytes 16 small (omega arith))) (four_read bytes 20 small (omega arith))) (four_read bytes 24 small (omega arith)))
-    (ap four (open_number (four_at bytes 28) open_end) ∙ four_read bytes 28 small (omega arith))) (eight_read bytes 32 small (omega arith))) (eight_read bytes 40 small (omega arith))) (four_read bytes 48 small (omega arith))) (ap four (sym zero_is) ∙ four_read bytes 52 small (omega arith))) (eight_read bytes 56 small (omega arith))) (eight_read bytes 64 small (omega arith))) (eight_read bytes 72 small (omega arith))
+    (four_read bytes 8 small (omega arith))) (four_read bytes 12 small (omega arith))) (four_read bytes 16 small (omega arith)))
+    (four_read bytes 20 small (omega arith))) (four_read bytes 24 small (omega arith)))
+    (ap four (open_number (four_at bytes 28) open_end) ∙ four_read bytes 28 small (omega arith))) (eight_read bytes 32 small (omega arith)))
+    (eight_read bytes 40 small (omega arith))) (four_read bytes 48 small (omega arith))) (ap four (sym zero_is) ∙ four_read bytes 52 small (omega arith)))
+    (eight_read bytes 56 small (omega arith))) (eight_read bytes 64 small (omega arith))) (eight_read bytes 72 small (omega arith))
     ∙ take_all 80 bytes (omega arith)
 
 narrow_within : (bytes : List ℕ) → ((i : ℕ) → slice_index bytes i < 256) → AllPass (first_checks (limits 1) bytes ++ narrow_checks bytes) → IsWithin (narrow_head bytes)
@@ -352,7 +437,8 @@ narrow_within bytes small pass =
       skip_count = high_of 56 0 _ _ q.1.1.1.0;
     }
 
-wide_within : (version : ℕ) (bytes : List ℕ) → version ≡ slice_index bytes 6 - 48 → 1 ≤ version → version ≤ 2 → (version == 1) ≡ false → ((i : ℕ) → slice_index bytes i < 256) → AllPass (first_checks (limits 2) bytes ++ wide_checks bytes) → IsWithin (wide_head bytes)
+wide_within : (version : ℕ) (bytes : List ℕ) → version ≡ slice_index bytes 6 - 48 → 1 ≤ version → version ≤ 2 → (version == 1) ≡ false →
+    ((i : ℕ) → slice_index bytes i < 256) → AllPass (first_checks (limits 2) bytes ++ wide_checks bytes) → IsWithin (wide_head bytes)
 unfolding AllPass
 wide_within version bytes is least most other small pass =
     let p = pass.1.1.1 in
@@ -410,7 +496,9 @@ undamaged low high bytes some few small none = by_version (slice_index bytes 6 =
     by_version : (b : Bool) → (slice_index bytes 6 == 49) ≡ b → IsHead low high bytes (cond b (narrow_head bytes) (wide_head bytes))
     by_version true e =
         let is : slice_index bytes 6 ≡ 49 = is_same (slice_index bytes 6) 49 e in
-        let pass : AllPass (exactly 0 64 (length bytes) ∷ (first_checks (limits 1) bytes ++ narrow_checks bytes)) = subst (λ b. AllPass (cond b (exactly 0 64 (length bytes) ∷ (first_checks (limits 1) bytes ++ narrow_checks bytes)) (exactly 0 80 (length bytes) ∷ (first_checks (limits 2) bytes ++ wide_checks bytes)))) e both.1 in
+        let pass : AllPass (exactly 0 64 (length bytes) ∷ (first_checks (limits 1) bytes ++ narrow_checks bytes)) =
+        subst (λ b. AllPass (cond b (exactly 0 64 (length bytes) ∷ (first_checks (limits 1) bytes ++ narrow_checks bytes))
+        (exactly 0 80 (length bytes) ∷ (first_checks (limits 2) bytes ++ wide_checks bytes)))) e both.1 in
         record {
           bytes_are = sym (narrow_whole low high bytes small (is_exactly 0 64 (length bytes) pass.0) is both.0 (high_of 28 0 1 (four_at bytes 28) pass.1.1.1.1.1.1.0));
           within = narrow_within bytes small pass.1;
@@ -418,10 +506,14 @@ undamaged low high bytes some few small none = by_version (slice_index bytes 6 =
           to = omega (arith, digit.1, is);
         }
     by_version false e =
-        let pass : AllPass (exactly 0 80 (length bytes) ∷ (first_checks (limits 2) bytes ++ wide_checks bytes)) = subst (λ b. AllPass (cond b (exactly 0 64 (length bytes) ∷ (first_checks (limits 1) bytes ++ narrow_checks bytes)) (exactly 0 80 (length bytes) ∷ (first_checks (limits 2) bytes ++ wide_checks bytes)))) e both.1 in
+        let pass : AllPass (exactly 0 80 (length bytes) ∷ (first_checks (limits 2) bytes ++ wide_checks bytes)) =
+        subst (λ b. AllPass (cond b (exactly 0 64 (length bytes) ∷ (first_checks (limits 1) bytes ++ narrow_checks bytes))
+        (exactly 0 80 (length bytes) ∷ (first_checks (limits 2) bytes ++ wide_checks bytes)))) e both.1 in
         let other : (slice_index bytes 6 - 48 == 1) ≡ false = other_version (slice_index bytes 6) e in
         record {
-          bytes_are = sym (ap (λ b. cond b (narrow_bytes (wide_head bytes)) (wide_bytes (wide_head bytes))) other ∙ wide_whole low high bytes small (is_exactly 0 80 (length bytes) pass.0) (omega (arith, digit.0)) both.0 (high_of 28 0 1 (four_at bytes 28) pass.1.1.1.1.1.1.0) (is_exactly 52 0 (four_at bytes 52) pass.1.1.1.1.1.1.1.1.1.1.0));
+          bytes_are = sym (ap (λ b. cond b (narrow_bytes (wide_head bytes)) (wide_bytes (wide_head bytes))) other
+              ∙ wide_whole low high bytes small (is_exactly 0 80 (length bytes) pass.0) (omega (arith, digit.0)) both.0
+              (high_of 28 0 1 (four_at bytes 28) pass.1.1.1.1.1.1.0) (is_exactly 52 0 (four_at bytes 52) pass.1.1.1.1.1.1.1.1.1.1.0));
           within = wide_within (slice_index bytes 6 - 48) bytes refl (omega (arith, digit.0, some)) (omega (arith, digit.1, few)) other small pass.1;
           from = omega (arith, digit.0);
           to = omega (arith, digit.1);

@@ -18,7 +18,9 @@ pub gathered-append : (xs ys : List TermPosting) → AllCount xs → AllCount ys
 gathered-append xs ys a b =
     let ga = AllCount-gathered xs a in
     let gb = AllCount-gathered ys b in
-    only_one (gathered (xs ++ ys)) (merged_two (gathered xs) (gathered ys)) (Rising-gathered (xs ++ ys)) (Rising-joined (gathered xs) (gathered ys) (Rising-gathered ys)) (AllCount-gathered (xs ++ ys) (AllCount-append xs ys a b)) (AllCount-joined (gathered xs) (gathered ys) ga gb)
+    only_one (gathered (xs ++ ys)) (merged_two (gathered xs) (gathered ys)) (Rising-gathered (xs ++ ys))
+    (Rising-joined (gathered xs) (gathered ys) (Rising-gathered ys)) (AllCount-gathered (xs ++ ys) (AllCount-append xs ys a b))
+    (AllCount-joined (gathered xs) (gathered ys) ga gb)
     (λ t d. omega (arith, times-gathered t d (xs ++ ys), times-append t d xs ys, times-joined t d (gathered xs) (gathered ys), times-gathered t d xs, times-gathered t d ys))
 
 pub AllCount-once : (s : List (ℕ × ℕ)) → AllCount (map once s)

@@ -62,7 +62,14 @@ unfolding eight
 eight_long n = refl
 
 pub info_long : (info : TermInfo) → length (info_bytes info) ≡ 16
-info_long info = omega (arith, length-append (four info.docs ++ eight info.post_at) (four info.skip_at), length-append (four info.docs) (eight info.post_at), four_long info.docs, eight_long info.post_at, four_long info.skip_at)
+info_long info = omega (
+  arith,
+  length-append (four info.docs ++ eight info.post_at) (four info.skip_at),
+  length-append (four info.docs) (eight info.post_at),
+  four_long info.docs,
+  eight_long info.post_at,
+  four_long info.skip_at,
+)
 
 -- ---- the entries rise
 
@@ -74,7 +81,8 @@ above_none : (strings : List (List ℕ)) → AllByRecursion (λ t. (0 == 0 || is
 above_none [] = tt
 above_none (t ∷ strings) = (refl, above_none strings)
 
-entries_of : (collection : List ℕ) (i : ℕ) (before : List ℕ) (strings : List (List ℕ)) → ((t : List ℕ) → has strings t ≡ true → length t ≤ 255) → IsStrictlySortedBy (slice_cmp nat_cmp) strings → AllByRecursion (λ t. (i == 0 || is_below before t) ≡ true) strings →
+entries_of : (collection : List ℕ) (i : ℕ) (before : List ℕ) (strings : List (List ℕ)) → ((t : List ℕ) → has strings t ≡ true → length t ≤ 255) →
+    IsStrictlySortedBy (slice_cmp nat_cmp) strings → AllByRecursion (λ t. (i == 0 || is_below before t) ≡ true) strings →
     AreEntries 16 i before (map (entry_of collection) (enumerate_from i strings))
 unfolding IsStrictlySortedBy
 entries_of collection i before [] short rising above = tt
@@ -98,17 +106,20 @@ lexicon_long collection = length-map (enumerate_from 0 (dictionary collection)) 
 
 -- ---- the entry of a number
 
-entry_at : (collection : List ℕ) (from i : ℕ) (strings : List (List ℕ)) (t : List ℕ) → slice_get strings i ≡ Some t → slice_get (map (entry_of collection) (enumerate_from from strings)) i ≡ Some (entry_of collection (from + i, t))
+entry_at : (collection : List ℕ) (from i : ℕ) (strings : List (List ℕ)) (t : List ℕ) → slice_get strings i ≡ Some t →
+    slice_get (map (entry_of collection) (enumerate_from from strings)) i ≡ Some (entry_of collection (from + i, t))
 entry_at collection from i [] t is = absurd cc
 entry_at collection from zero (s ∷ strings) t is = let same : s ≡ t = cc in ap (λ (x : List ℕ). Some (entry_of collection (from, x))) same ∙ ap (λ n. Some (entry_of collection (n, t))) (omega arith)
 entry_at collection from (suc i) (s ∷ strings) t is = entry_at collection (from + 1) i strings t is ∙ ap (λ n. Some (entry_of collection (n, t))) (omega arith)
 
-pub lexicon_at : (collection : List ℕ) (i : ℕ) (t : List ℕ) → slice_get (dictionary collection) i ≡ Some t → slice_get (lexicon collection) i ≡ Some (record { string = t; field = info_bytes (info_of collection i t) })
+pub lexicon_at : (collection : List ℕ) (i : ℕ) (t : List ℕ) → slice_get (dictionary collection) i ≡ Some t →
+    slice_get (lexicon collection) i ≡ Some (record { string = t; field = info_bytes (info_of collection i t) })
 unfolding lexicon
 lexicon_at collection i t is = entry_at collection 0 i (dictionary collection) t is ∙ ap (λ n. Some (entry_of collection (n, t))) (omega arith)
 
 -- an entry of the lexicon is that of the term with its number
-pub lexicon_of : (collection : List ℕ) (i : ℕ) (e : Entry) → slice_get (lexicon collection) i ≡ Some e → (slice_get (dictionary collection) i ≡ Some e.string) × (e.field ≡ info_bytes (info_of collection i e.string))
+pub lexicon_of : (collection : List ℕ) (i : ℕ) (e : Entry) → slice_get (lexicon collection) i ≡ Some e →
+    (slice_get (dictionary collection) i ≡ Some e.string) × (e.field ≡ info_bytes (info_of collection i e.string))
 lexicon_of collection i e is =
     let there : i < length (dictionary collection) = omega (arith, slice_get_within (lexicon collection) i e is, lexicon_long collection) in
     let term = slice_get-get_or (dictionary collection) i [] there in

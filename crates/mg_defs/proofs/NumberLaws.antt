@@ -32,7 +32,14 @@ pub four_read : (bytes : List ℕ) (at : ℕ) → ((i : ℕ) → slice_index byt
 unfolding four four_at
 four_read bytes at small long =
     be_bytes_4 (take 4 (drop at bytes)) _ (omega (arith, length-take 4 (drop at bytes), length-drop at bytes)) (piece_small 4 at bytes small)
-    (omega (arith, ap (slice_index bytes) (add-zero at), piece_index 4 at 0 bytes (omega arith), piece_index 4 at 1 bytes (omega arith), piece_index 4 at 2 bytes (omega arith), piece_index 4 at 3 bytes (omega arith)))
+    (omega (
+      arith,
+      ap (slice_index bytes) (add-zero at),
+      piece_index 4 at 0 bytes (omega arith),
+      piece_index 4 at 1 bytes (omega arith),
+      piece_index 4 at 2 bytes (omega arith),
+      piece_index 4 at 3 bytes (omega arith),
+    ))
 
 pub eight_read : (bytes : List ℕ) (at : ℕ) → ((i : ℕ) → slice_index bytes i < 256) → at + 8 ≤ length bytes → eight (eight_at bytes at) ≡ take 8 (drop at bytes)
 unfolding eight eight_at

@@ -74,7 +74,8 @@ abbrev five : ℕ → ℕ → List ℕ
 five row column = pairs row column ++ pairs row (column + 1) ++ pairs row (column + 2) ++ pairs row (column + 3) ++ pairs row (column + 4)
 
 abbrev thirteen_rows : List ℕ
-thirteen_rows = five 97 97 ++ five 98 97 ++ five 99 97 ++ five 100 97 ++ five 101 97 ++ five 102 97 ++ five 103 97 ++ five 104 97 ++ five 105 97 ++ five 106 97 ++ five 107 97 ++ five 108 97 ++ five 109 97
+thirteen_rows = five 97 97 ++ five 98 97 ++ five 99 97 ++ five 100 97 ++ five 101 97 ++ five 102 97 ++ five 103 97 ++ five 104 97 ++ five 105 97 ++ five 106 97
+    ++ five 107 97 ++ five 108 97 ++ five 109 97
 
 -- 65 distinct words of two letters
 too_many_words : ranked thirteen_rows ≡ refused (too_many 192)

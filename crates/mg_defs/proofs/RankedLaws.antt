@@ -97,7 +97,8 @@ distinct-more (x ∷ ws) w =
 words-more : (used : List PlacedToken) (t : PlacedToken) → folded_words (used ++ t ∷ []) ≡ folded_words used ++ (term_of t.token ++ [])
 words-more used t = flat_map-append (λ (p : PlacedToken). term_of p.token) used (t ∷ [])
 
-terms-more : (used : List PlacedToken) (at : ℕ) (w : List ℕ) → distinct_terms (used ++ placed at (word w) ∷ []) ≡ with_word (distinct_terms used) (folded w) (list_any (same_term (folded w)) (distinct_terms used))
+terms-more : (used : List PlacedToken) (at : ℕ) (w : List ℕ) → distinct_terms (used ++ placed at (word w) ∷ [])
+    ≡ with_word (distinct_terms used) (folded w) (list_any (same_term (folded w)) (distinct_terms used))
 terms-more used at w = ap first_appearances (words-more used (placed at (word w))) ∙ distinct-more (folded_words used) (folded w)
 
 terms-sign : (used : List PlacedToken) (t : PlacedToken) → term_of t.token ≡ [] → distinct_terms (used ++ t ∷ []) ≡ distinct_terms used
@@ -117,10 +118,12 @@ sign-goes : (used : List PlacedToken) (t : PlacedToken) → term_of t.token ≡ 
 sign-goes used t sign long new = subst (λ (ts : List (List ℕ)). Turn used t (reads ts)) (terms-sign used t sign) (goes (sign-free used t long new))
 
 -- a word of at most 255 bytes
-known-goes : (used : List PlacedToken) (at : ℕ) (w : List ℕ) → length w ≤ 255 → list_any (same_term (folded w)) (distinct_terms used) ≡ true → Turn used (placed at (word w)) (reads (distinct_terms used))
+known-goes : (used : List PlacedToken) (at : ℕ) (w : List ℕ) → length w ≤ 255 → list_any (same_term (folded w)) (distinct_terms used) ≡ true →
+    Turn used (placed at (word w)) (reads (distinct_terms used))
 known-goes used at w short known =
     let same : distinct_terms (used ++ placed at (word w) ∷ []) ≡ distinct_terms used = terms-more used at w ∙ rw known refl in
-    let free = sign-free used (placed at (word w)) (λ (long : 255 < length w). omega arith) (λ (new : IsNewTerm (distinct_terms used) (word w)). new.1 (any-contains (folded w) (distinct_terms used) known)) in
+    let free = sign-free used (placed at (word w)) (λ (long : 255 < length w). omega arith)
+    (λ (new : IsNewTerm (distinct_terms used) (word w)). new.1 (any-contains (folded w) (distinct_terms used) known)) in
     subst (λ (ts : List (List ℕ)). Turn used (placed at (word w)) (reads ts)) same (goes free)
 
 no-contains : (used : List PlacedToken) (w : List ℕ) → list_any (same_term (folded w)) (distinct_terms used) ≡ false → Contains (distinct_terms used) (folded w) → ⊥
@@ -132,7 +135,8 @@ new-free used at w short few (too_deep place) r = r
 new-free used at w short few (too_long place) r = omega (arith, r.1)
 new-free used at w short few (too_many place) r = omega (arith, r.2)
 
-new-goes : (used : List PlacedToken) (at : ℕ) (w : List ℕ) → length w ≤ 255 → length (distinct_terms used) < 64 → list_any (same_term (folded w)) (distinct_terms used) ≡ false → Turn used (placed at (word w)) (reads (distinct_terms used ++ folded w ∷ []))
+new-goes : (used : List PlacedToken) (at : ℕ) (w : List ℕ) → length w ≤ 255 → length (distinct_terms used) < 64 →
+    list_any (same_term (folded w)) (distinct_terms used) ≡ false → Turn used (placed at (word w)) (reads (distinct_terms used ++ folded w ∷ []))
 new-goes used at w short few unknown =
     let same : distinct_terms (used ++ placed at (word w) ∷ []) ≡ distinct_terms used ++ folded w ∷ [] = terms-more used at w ∙ rw unknown refl in
     subst (λ (ts : List (List ℕ)). Turn used (placed at (word w)) (reads ts)) same (goes (new-free used at w short few))
@@ -185,7 +189,8 @@ data Outcome (used ts : List PlacedToken) : Reading (List (List ℕ)) → Type 0
   read : NoneRefused IsTermRefusedAfter used ts → Outcome used ts (reads (distinct_terms (used ++ ts)))
   stopped : (why : Refusal) → FoundAt used ts why → Outcome used ts (refused why)
 
-later : (used : List PlacedToken) (t : PlacedToken) (ts : List PlacedToken) (r : Reading (List (List ℕ))) → ((why : Refusal) → IsTermRefusedAfter used t why → ⊥) → Outcome (used ++ t ∷ []) ts r → Outcome used (t ∷ ts) r
+later : (used : List PlacedToken) (t : PlacedToken) (ts : List PlacedToken) (r : Reading (List (List ℕ))) →
+    ((why : Refusal) → IsTermRefusedAfter used t why → ⊥) → Outcome (used ++ t ∷ []) ts r → Outcome used (t ∷ ts) r
 later used t ts r free (read none) = subst (λ (us : List PlacedToken). Outcome used (t ∷ ts) (reads (distinct_terms us))) (sym (append_assoc used (t ∷ []) ts)) (read (free, none))
 later used t ts r free (stopped why here) = stopped why (record {
   mid = t ∷ here.mid;
@@ -196,9 +201,19 @@ later used t ts r free (stopped why here) = stopped why (record {
   refused = subst (λ (us : List PlacedToken). IsTermRefusedAfter us here.token why) (append_assoc used (t ∷ []) here.mid) here.refused;
 })
 
-after-turn : (used : List PlacedToken) (t : PlacedToken) (ts : List PlacedToken) (r : Reading (List (List ℕ))) → Turn used t r → Outcome (used ++ t ∷ []) ts (ranked_from (reads (distinct_terms (used ++ t ∷ []))) ts) → Outcome used (t ∷ ts) (ranked_from r ts)
+after-turn : (used : List PlacedToken) (t : PlacedToken) (ts : List PlacedToken) (r : Reading (List (List ℕ))) → Turn used t r →
+    Outcome (used ++ t ∷ []) ts (ranked_from (reads (distinct_terms (used ++ t ∷ []))) ts) → Outcome used (t ∷ ts) (ranked_from r ts)
 after-turn used t ts r (goes free) more = later used t ts _ free more
-after-turn used t ts r (stops why here) more = subst (Outcome used (t ∷ ts)) (sym (refused-stays why ts)) (stopped why (record { mid = []; token = t; after = ts; whole = refl; none = tt; refused = subst (λ (us : List PlacedToken). IsTermRefusedAfter us t why) (sym (append-nil used)) here }))
+after-turn used t ts r (stops why here) more = subst (Outcome used (t ∷ ts)) (sym (refused-stays why ts))
+    (stopped why (record {
+      mid = [];
+      token = t;
+      after = ts;
+      whole = refl;
+      none = tt;
+      refused =
+          subst (λ (us : List PlacedToken). IsTermRefusedAfter us t why) (sym (append-nil used)) here;
+    }))
 
 outcome : (used ts : List PlacedToken) → Outcome used ts (ranked_from (reads (distinct_terms used)) ts)
 outcome used [] = subst (λ (us : List PlacedToken). Outcome used [] (reads (distinct_terms us))) (append-nil used) (read tt)
@@ -206,14 +221,18 @@ outcome used (t ∷ ts) = after-turn used t ts _ (turn used t) (outcome (used ++
 
 -- ---- and back
 
-turn-free : (used : List PlacedToken) (t : PlacedToken) (r : Reading (List (List ℕ))) → Turn used t r → ((why : Refusal) → IsTermRefusedAfter used t why → ⊥) → r ≡ reads (distinct_terms (used ++ t ∷ []))
+turn-free : (used : List PlacedToken) (t : PlacedToken) (r : Reading (List (List ℕ))) → Turn used t r → ((why : Refusal) → IsTermRefusedAfter used t why → ⊥) →
+    r ≡ reads (distinct_terms (used ++ t ∷ []))
 turn-free used t r (goes free) none = refl
 turn-free used t r (stops why here) none = absurd (none why here)
 
-passed : (used mid rest : List PlacedToken) → NoneRefused IsTermRefusedAfter used mid → ranked_from (reads (distinct_terms used)) (mid ++ rest) ≡ ranked_from (reads (distinct_terms (used ++ mid))) rest
+passed : (used mid rest : List PlacedToken) → NoneRefused IsTermRefusedAfter used mid → ranked_from (reads (distinct_terms used)) (mid ++ rest)
+    ≡ ranked_from (reads (distinct_terms (used ++ mid))) rest
 passed used [] rest none = ap (λ (us : List PlacedToken). ranked_from (reads (distinct_terms us)) rest) (sym (append-nil used))
 passed used (t ∷ mid) rest none =
-    ap (λ r. ranked_from r (mid ++ rest)) (turn-free used t _ (turn used t) none.0) ∙ (passed (used ++ t ∷ []) mid rest none.1 ∙ ap (λ (us : List PlacedToken). ranked_from (reads (distinct_terms us)) rest) (append_assoc used (t ∷ []) mid))
+    ap (λ r. ranked_from r (mid ++ rest)) (turn-free used t _ (turn used t) none.0)
+    ∙ (passed (used ++ t ∷ []) mid rest none.1 ∙ ap (λ (us : List PlacedToken). ranked_from (reads (distinct_terms us)) rest)
+    (append_assoc used (t ∷ []) mid))
 
 long-not-new : (terms : List (List ℕ)) (t : Token) → IsLongWord t → IsNewTerm terms t → ⊥
 long-not-new terms (word w) long new = omega (arith, new.0)
@@ -247,7 +266,8 @@ list-computes line terms h = ap (ranked_from (reads [])) (sym (append-nil (token
 pub term-refusal-computes : (line : List ℕ) (why : Refusal) → IsTermRefusal line why → ranked line ≡ refused why
 unfolding ranked
 term-refusal-computes line why h =
-    ap (ranked_from (reads [])) h.whole ∙ (passed [] h.before (h.token ∷ h.after) h.none ∙ (ap (λ r. ranked_from r h.after) (turn-stops h.before h.token _ why (turn h.before h.token) h.refused) ∙ refused-stays why h.after))
+    ap (ranked_from (reads [])) h.whole ∙ (passed [] h.before (h.token ∷ h.after) h.none ∙
+    (ap (λ r. ranked_from r h.after) (turn-stops h.before h.token _ why (turn h.before h.token) h.refused) ∙ refused-stays why h.after))
 
 read-list : (line : List ℕ) (r : Reading (List (List ℕ))) (terms : List (List ℕ)) → Outcome [] (tokens line) r → r ≡ reads terms → IsTermList line terms
 read-list line r terms (read none) e = record { is = cc; allowed = none }

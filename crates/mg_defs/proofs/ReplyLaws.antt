@@ -36,7 +36,8 @@ flat_map-push : {X : Type 0} (f : X → List ℕ) (xs : List X) (x : X) → flat
 flat_map-push f [] x = simp append-nil
 flat_map-push f (y ∷ xs) x = ap (λ t. f y ++ t) (flat_map-push f xs x) ∙ sym (append_assoc (f y) (flat_map f xs) (f x))
 
-pub shown-more : (f : Shown → List ℕ) (most : Option ℕ) (xs : List Shown) (x : Shown) → shows most (length xs) ≡ true → flat_map f (limited_to most (xs ++ x ∷ [])) ≡ flat_map f (limited_to most xs) ++ f x
+pub shown-more : (f : Shown → List ℕ) (most : Option ℕ) (xs : List Shown) (x : Shown) → shows most (length xs) ≡ true →
+    flat_map f (limited_to most (xs ++ x ∷ [])) ≡ flat_map f (limited_to most xs) ++ f x
 shown-more f most xs x h = ap (flat_map f) (first-more most xs x h) ∙ flat_map-push f (limited_to most xs) x
 
 pub shown-full : (f : Shown → List ℕ) (most : Option ℕ) (xs : List Shown) (x : Shown) → shows most (length xs) ≡ false → flat_map f (limited_to most (xs ++ x ∷ [])) ≡ flat_map f (limited_to most xs)
@@ -60,7 +61,9 @@ none_first (Some zero) = refl
 none_first (Some (suc k)) = refl
 
 -- what is printed for one more
-pub hit_adds : (collection : List ℕ) (now : Settings) (doc : List ℕ) (so_far : List Shown) (hit : Shown) (total : ℕ) → document collection hit.number ≡ doc → length so_far ≡ total → flat_map (shown collection now.mode) (limited_to now.most (so_far ++ hit ∷ [])) ≡ flat_map (shown collection now.mode) (limited_to now.most so_far) ++ hit_text doc now.mode now.most total hit
+pub hit_adds : (collection : List ℕ) (now : Settings) (doc : List ℕ) (so_far : List Shown) (hit : Shown) (total : ℕ) → document collection hit.number ≡ doc →
+    length so_far ≡ total → flat_map (shown collection now.mode) (limited_to now.most (so_far ++ hit ∷ []))
+    ≡ flat_map (shown collection now.mode) (limited_to now.most so_far) ++ hit_text doc now.mode now.most total hit
 unfolding hit_text
 hit_adds collection now doc so_far hit total is_doc size =
     elim (cases_Bool (shows now.most total)) [
@@ -90,11 +93,13 @@ flat_map-append f [] ys = refl
 flat_map-append f (x ∷ xs) ys = ap (λ t. f x ++ t) (flat_map-append f xs ys) ∙ sym (append_assoc (f x) (flat_map f xs) (flat_map f ys))
 
 -- what was printed for the first of them begins the reply
-pub reply-front : (collection : List ℕ) (now : Settings) (xs ys : List Shown) → (more : List ℕ) × (answer_text collection now (xs ++ ys) ≡ flat_map (shown collection now.mode) (limited_to now.most xs) ++ more)
+pub reply-front : (collection : List ℕ) (now : Settings) (xs ys : List Shown) → (more : List ℕ)
+    × (answer_text collection now (xs ++ ys) ≡ flat_map (shown collection now.mode) (limited_to now.most xs) ++ more)
 unfolding answer_text
 reply-front collection now xs ys =
     let f = first-front now.most xs ys in
     let g = shown collection now.mode in (
       flat_map g f.0 ++ count (length (xs ++ ys)),
-      ap (λ zs. flat_map g zs ++ count (length (xs ++ ys))) f.1 ∙ ap (λ t. t ++ count (length (xs ++ ys))) (flat_map-append g (limited_to now.most xs) f.0) ∙ append_assoc (flat_map g (limited_to now.most xs)) (flat_map g f.0) (count (length (xs ++ ys))),
+      ap (λ zs. flat_map g zs ++ count (length (xs ++ ys))) f.1 ∙ ap (λ t. t ++ count (length (xs ++ ys))) (flat_map-append g (limited_to now.most xs) f.0)
+          ∙ append_assoc (flat_map g (limited_to now.most xs)) (flat_map g f.0) (count (length (xs ++ ys))),
     )

@@ -20,14 +20,17 @@ gives_long hearing reply now line long = record {
   asks = λ ls. rw (lt-ltb 1024 (length line) long);
 }
 
-pub gives_line : (hearing : Hearing) (reply : Settings → List ℕ → List ℕ) (now : Settings) (line : List ℕ) → length line ≤ 1024 → stops (read now line) ≡ false → Gives hearing reply now line (command_text reply bad_command now (without_return line) (hears hearing (read now line))) (asked_by now (without_return line) (hears hearing (read now line))) (settings_after now (hears hearing (read now line)))
+pub gives_line : (hearing : Hearing) (reply : Settings → List ℕ → List ℕ) (now : Settings) (line : List ℕ) → length line ≤ 1024 →
+    stops (read now line) ≡ false → Gives hearing reply now line (command_text reply bad_command now (without_return line) (hears hearing (read now line)))
+    (asked_by now (without_return line) (hears hearing (read now line))) (settings_after now (hears hearing (read now line)))
 unfolding replies line_text after_line ends questions asked
 gives_line hearing reply now line short goes = record {
   goes_on = λ ls. rw (le-ltb 1024 (length line) short, goes);
   asks = λ ls. rw (le-ltb 1024 (length line) short, goes);
 }
 
-pub gives_end : (hearing : Hearing) (reply : Settings → List ℕ → List ℕ) (now : Settings) (line : List ℕ) (ls : List (List ℕ)) → length line ≤ 1024 → stops (read now line) ≡ true → (replies hearing reply now (line ∷ ls) ≡ []) × (questions hearing now (line ∷ ls) ≡ [])
+pub gives_end : (hearing : Hearing) (reply : Settings → List ℕ → List ℕ) (now : Settings) (line : List ℕ) (ls : List (List ℕ)) → length line ≤ 1024 →
+    stops (read now line) ≡ true → (replies hearing reply now (line ∷ ls) ≡ []) × (questions hearing now (line ∷ ls) ≡ [])
 unfolding replies line_text after_line ends questions asked
 gives_end hearing reply now line ls short stop = (rw (le-ltb 1024 (length line) short, stop), rw (le-ltb 1024 (length line) short, stop))
 

@@ -48,11 +48,13 @@ above-later : (s t : List ℕ) (strings : List (List ℕ)) → order_of s t ≡ 
 above-later s t [] l h = tt
 above-later s t (u ∷ strings) l h = (nat_list_cmp_total.trans s t u l h.0, above-later s t strings l h.1)
 
-above-insert : (s k : List ℕ) (strings : List (List ℕ)) → order_of s k ≡ Less → AllByRecursion (λ u. order_of s u ≡ Less) strings → AllByRecursion (λ u. order_of s u ≡ Less) (insert_key order_of strings k)
+above-insert : (s k : List ℕ) (strings : List (List ℕ)) → order_of s k ≡ Less → AllByRecursion (λ u. order_of s u ≡ Less) strings →
+    AllByRecursion (λ u. order_of s u ≡ Less) (insert_key order_of strings k)
 above-insert s k [] l h = (l, tt)
 above-insert s k (t ∷ strings) l h = by (above-insert s k strings l h.1) (order_of k t)
   where
-    by : AllByRecursion (λ u. order_of s u ≡ Less) (insert_key order_of strings k) → (r : Ordering) → AllByRecursion (λ u. order_of s u ≡ Less) (match_ordering r (k ∷ t ∷ strings) (t ∷ strings) (t ∷ insert_key order_of strings k))
+    by : AllByRecursion (λ u. order_of s u ≡ Less) (insert_key order_of strings k) → (r : Ordering) →
+        AllByRecursion (λ u. order_of s u ≡ Less) (match_ordering r (k ∷ t ∷ strings) (t ∷ strings) (t ∷ insert_key order_of strings k))
     by more Less = (l, h)
     by more Equal = h
     by more Greater = (h.0, more)
@@ -62,7 +64,8 @@ unfolding IsStrictlySortedBy
 rising-insert k [] h = (tt, tt)
 rising-insert k (t ∷ strings) h = by (rising-insert k strings h.1) (order_of k t) refl
   where
-    by : IsStrictlySortedBy order_of (insert_key order_of strings k) → (r : Ordering) → order_of k t ≡ r → IsStrictlySortedBy order_of (match_ordering r (k ∷ t ∷ strings) (t ∷ strings) (t ∷ insert_key order_of strings k))
+    by : IsStrictlySortedBy order_of (insert_key order_of strings k) → (r : Ordering) → order_of k t ≡ r →
+        IsStrictlySortedBy order_of (match_ordering r (k ∷ t ∷ strings) (t ∷ strings) (t ∷ insert_key order_of strings k))
     by more Less e = ((e, above-later k t strings e h.0), h)
     by more Equal e = h
     by more Greater e = (above-insert t k strings (back k t e) h.0, more)
@@ -81,7 +84,8 @@ has-insert : (s k : List ℕ) (strings : List (List ℕ)) → has (insert_key or
 has-insert s k [] = refl
 has-insert s k (t ∷ strings) = by (has-insert s k strings) (order_of k t) refl
   where
-    by : has (insert_key order_of strings k) s ≡ (bytes_eq s k || has strings s) → (r : Ordering) → order_of k t ≡ r → has (match_ordering r (k ∷ t ∷ strings) (t ∷ strings) (t ∷ insert_key order_of strings k)) s ≡ (bytes_eq s k || (bytes_eq s t || has strings s))
+    by : has (insert_key order_of strings k) s ≡ (bytes_eq s k || has strings s) → (r : Ordering) → order_of k t ≡ r →
+        has (match_ordering r (k ∷ t ∷ strings) (t ∷ strings) (t ∷ insert_key order_of strings k)) s ≡ (bytes_eq s k || (bytes_eq s t || has strings s))
     by more Less e = refl
     by more Equal e = or-same (bytes_eq s k) (bytes_eq s t) (has strings s) (λ h. rw (equal-is k t e) at h)
     by more Greater e = ap (λ b. bytes_eq s t || b) more ∙ or-past (bytes_eq s k) (bytes_eq s t) (has strings s)
@@ -150,7 +154,8 @@ found-above s t (u ∷ strings) h i =
       | inr there ↦ found-above s t strings h.1 there
     ]
 
-first-same : (x y : List ℕ) (xs ys : List (List ℕ)) → AllByRecursion (λ u. order_of x u ≡ Less) xs → AllByRecursion (λ u. order_of y u ≡ Less) ys → has (y ∷ ys) x ≡ true → has (x ∷ xs) y ≡ true → x ≡ y
+first-same : (x y : List ℕ) (xs ys : List (List ℕ)) → AllByRecursion (λ u. order_of x u ≡ Less) xs → AllByRecursion (λ u. order_of y u ≡ Less) ys →
+    has (y ∷ ys) x ≡ true → has (x ∷ xs) y ≡ true → x ≡ y
 first-same x y xs ys a b i j =
     elim (or_cases (bytes_eq x y) (has ys x) i) [
       | inl here ↦ same-is x y here
@@ -161,14 +166,16 @@ first-same x y xs ys a b i j =
     ]
 
 -- what the tails have
-tail-has : (x : List ℕ) (xs ys : List (List ℕ)) → AllByRecursion (λ u. order_of x u ≡ Less) xs → ((s : List ℕ) → has (x ∷ xs) s ≡ true → has (x ∷ ys) s ≡ true) → (s : List ℕ) → has xs s ≡ true → has ys s ≡ true
+tail-has : (x : List ℕ) (xs ys : List (List ℕ)) → AllByRecursion (λ u. order_of x u ≡ Less) xs →
+    ((s : List ℕ) → has (x ∷ xs) s ≡ true → has (x ∷ ys) s ≡ true) → (s : List ℕ) → has xs s ≡ true → has ys s ≡ true
 tail-has x xs ys a h s i =
     elim (or_cases (bytes_eq s x) (has ys s) (h s (or_right (bytes_eq s x) (has xs s) i))) [
       | inl here ↦ absurd (missing x xs a (rw (same-is s x here) at i))
       | inr there ↦ there
     ]
 
-pub rising-unique : (xs ys : List (List ℕ)) → IsStrictlySortedBy order_of xs → IsStrictlySortedBy order_of ys → ((s : List ℕ) → has xs s ≡ true → has ys s ≡ true) → ((s : List ℕ) → has ys s ≡ true → has xs s ≡ true) → xs ≡ ys
+pub rising-unique : (xs ys : List (List ℕ)) → IsStrictlySortedBy order_of xs → IsStrictlySortedBy order_of ys →
+    ((s : List ℕ) → has xs s ≡ true → has ys s ≡ true) → ((s : List ℕ) → has ys s ≡ true → has xs s ≡ true) → xs ≡ ys
 unfolding IsStrictlySortedBy
 rising-unique [] [] a b h k = refl
 rising-unique [] (y ∷ ys) a b h k = absurd (false≢true (k y (or_left (bytes_eq y y) (has ys y) (same-refl y))))

@@ -25,6 +25,8 @@ four_words : summary_text (codes "a a a a ") 16777216 ≡ codes "documents 1\nwo
 unfolding summary_text digits parse
 four_words = refl
 
-three_documents_tried : trial_lines 3 k (codes "cat & !the\ncat dog | sat\ncat & (dog\ncat ) dog\ncat & | dog\n!zebra\nzebra\n") ≡ codes "documents 3\ncollection 39 bytes\nterms 4\noccurrences 8\nreplies 71 bytes\ndecode same\nqueries 40 same\n"
-unfolding trial_lines boolean query_of sign_of refusal reply session heard_session replies line_text after_line ends command words dot_of set_query set_mode set_most set_of value is_most answer_text found row count digits parse
+three_documents_tried : trial_lines 3 k (codes "cat & !the\ncat dog | sat\ncat & (dog\ncat ) dog\ncat & | dog\n!zebra\nzebra\n")
+    ≡ codes "documents 3\ncollection 39 bytes\nterms 4\noccurrences 8\nreplies 71 bytes\ndecode same\nqueries 40 same\n"
+unfolding trial_lines boolean query_of sign_of refusal reply session heard_session replies line_text after_line ends command words dot_of set_query set_mode
+    set_most set_of value is_most answer_text found row count digits parse
 three_documents_tried = refl

@@ -78,7 +78,8 @@ pub dictionary-is : (collection : List ℕ) → IsSortedDistinct (all_terms coll
 dictionary-is collection = sorted-is (all_terms collection)
 
 -- a term has the number of its place
-pub term-number : (collection t : List ℕ) → Contains (all_terms collection) t → (term_number collection t < length (dictionary collection)) × (get_or (dictionary collection) (term_number collection t) t ≡ t)
+pub term-number : (collection t : List ℕ) → Contains (all_terms collection) t → (term_number collection t < length (dictionary collection))
+    × (get_or (dictionary collection) (term_number collection t) t ≡ t)
 term-number collection t c = number-found (dictionary collection) t (has-sorted (all_terms collection) t ∙ has-from (all_terms collection) t c)
 
 pub term-of_number : (collection : List ℕ) (k : ℕ) (d : List ℕ) → k < length (dictionary collection) → term_number collection (get_or (dictionary collection) k d) ≡ k

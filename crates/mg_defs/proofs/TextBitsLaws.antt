@@ -26,13 +26,16 @@ use Rattle.mg_defs.proofs.CodedTextLaws.{length-as_bytes, text-long}
 abbrev has : List (List ℕ) → List ℕ → Bool
 has strings s = list_any (bytes_eq s) strings
 
-same-costs : (c d : List ℕ → ℕ) (p : List ℕ) (sorted : List (List ℕ)) (lengths : List ℕ) → ((q : List ℕ) → bytes_eq p q ≡ false → d q ≡ c q) → AllByRecursion (λ y. bytes_eq p y ≡ false) sorted → cost_of (map d sorted) lengths ≡ cost_of (map c sorted) lengths
+same-costs : (c d : List ℕ → ℕ) (p : List ℕ) (sorted : List (List ℕ)) (lengths : List ℕ) → ((q : List ℕ) → bytes_eq p q ≡ false → d q ≡ c q) →
+    AllByRecursion (λ y. bytes_eq p y ≡ false) sorted → cost_of (map d sorted) lengths ≡ cost_of (map c sorted) lengths
 same-costs c d p [] lengths h apart = refl
 same-costs c d p (t ∷ sorted) [] h apart = refl
 same-costs c d p (t ∷ sorted) (l ∷ lengths) h apart = rw (h t apart.0, same-costs c d p sorted lengths h apart.1) refl
 
 -- one more of a piece costs its length
-one-more : (c d : List ℕ → ℕ) (p : List ℕ) (sorted : List (List ℕ)) (lengths : List ℕ) → length lengths ≡ length sorted → IsDistinct bytes_eq sorted → has sorted p ≡ true → ((q : List ℕ) → bytes_eq p q ≡ false → d q ≡ c q) → d p ≡ c p + 1 → cost_of (map d sorted) lengths ≡ cost_of (map c sorted) lengths + get_or lengths (number_of sorted p) 0
+one-more : (c d : List ℕ → ℕ) (p : List ℕ) (sorted : List (List ℕ)) (lengths : List ℕ) → length lengths ≡ length sorted → IsDistinct bytes_eq sorted →
+    has sorted p ≡ true → ((q : List ℕ) → bytes_eq p q ≡ false → d q ≡ c q) → d p ≡ c p + 1 →
+    cost_of (map d sorted) lengths ≡ cost_of (map c sorted) lengths + get_or lengths (number_of sorted p) 0
 unfolding IsDistinct
 one-more c d p [] lengths long apart h others same = absurd (false≢true h)
 one-more c d p (t ∷ sorted) [] long apart h others same = absurd cc
@@ -58,7 +61,9 @@ count-more : (p : List ℕ) (pieces : List (List ℕ)) (q : List ℕ) → count_
 count-more p pieces q = sum_by-cons (λ r. cond (bytes_eq q r) 1 0) p pieces
 
 -- the lengths of all pieces together
-pub cost-of_pieces : (sorted pieces : List (List ℕ)) (lengths : List ℕ) → length lengths ≡ length sorted → IsDistinct bytes_eq sorted → AllByRecursion (λ p. has sorted p ≡ true) pieces → sum_by (λ p. get_or lengths (number_of sorted p) 0) pieces ≡ cost_of (map (count_in pieces) sorted) lengths
+pub cost-of_pieces : (sorted pieces : List (List ℕ)) (lengths : List ℕ) → length lengths ≡ length sorted → IsDistinct bytes_eq sorted →
+    AllByRecursion (λ p. has sorted p ≡ true) pieces → sum_by (λ p. get_or lengths (number_of sorted p) 0) pieces
+    ≡ cost_of (map (count_in pieces) sorted) lengths
 cost-of_pieces sorted [] lengths long apart h = sym (no-costs sorted lengths)
 cost-of_pieces sorted (p ∷ pieces) lengths long apart h =
     let before : List ℕ → ℕ = count_in pieces in
@@ -73,20 +78,24 @@ cost-of_pieces sorted (p ∷ pieces) lengths long apart h =
 abbrev bits_in : StreamCode → List ℕ → ℕ
 bits_in code piece = length (codeword_of code piece)
 
-pairs-bits : (code : TextCode) (pairs : List Pair) → length (flat_map (coded_pair code) pairs) ≡ sum_by (bits_in code.words) (map (λ (p : Pair). p.word) pairs) + sum_by (bits_in code.others) (map (λ (p : Pair). p.other) pairs)
+pairs-bits : (code : TextCode) (pairs : List Pair) → length (flat_map (coded_pair code) pairs)
+    ≡ sum_by (bits_in code.words) (map (λ (p : Pair). p.word) pairs) + sum_by (bits_in code.others) (map (λ (p : Pair). p.other) pairs)
 pairs-bits code [] = refl
 pairs-bits code (p ∷ pairs) =
     let word = sum_by-cons (bits_in code.words) p.word (map (λ (q : Pair). q.word) pairs) in
     let other = sum_by-cons (bits_in code.others) p.other (map (λ (q : Pair). q.other) pairs) in
-    length-append (coded_pair code p) (flat_map (coded_pair code) pairs) ∙ omega (arith, length-append (codeword_of code.words p.word) (codeword_of code.others p.other), pairs-bits code pairs, word, other)
+    length-append (coded_pair code p) (flat_map (coded_pair code) pairs)
+    ∙ omega (arith, length-append (codeword_of code.words p.word) (codeword_of code.others p.other), pairs-bits code pairs, word, other)
 
-doc-bits : (code : TextCode) (doc : List ℕ) → length (coded_doc code doc) ≡ length (gamma (length (parse doc) + 1)) + (sum_by (bits_in code.words) (pieces_in Words doc) + sum_by (bits_in code.others) (pieces_in Others doc))
+doc-bits : (code : TextCode) (doc : List ℕ) → length (coded_doc code doc) ≡ length (gamma (length (parse doc) + 1))
+    + (sum_by (bits_in code.words) (pieces_in Words doc) + sum_by (bits_in code.others) (pieces_in Others doc))
 doc-bits code doc = length-append (gamma (length (parse doc) + 1)) (flat_map (coded_pair code) (parse doc)) ∙ ap (λ n. length (gamma (length (parse doc) + 1)) + n) (pairs-bits code (parse doc))
 
 abbrev head_of : List ℕ → ℕ
 head_of doc = length (gamma (length (parse doc) + 1))
 
-docs-bits : (code : TextCode) (docs : List (List ℕ)) → sum_by (λ doc. length (coded_doc code doc)) docs ≡ sum_by head_of docs + (sum_by (bits_in code.words) (flat_map (pieces_in Words) docs) + sum_by (bits_in code.others) (flat_map (pieces_in Others) docs))
+docs-bits : (code : TextCode) (docs : List (List ℕ)) → sum_by (λ doc. length (coded_doc code doc)) docs
+    ≡ sum_by head_of docs + (sum_by (bits_in code.words) (flat_map (pieces_in Words) docs) + sum_by (bits_in code.others) (flat_map (pieces_in Others) docs))
 docs-bits code [] = refl
 docs-bits code (doc ∷ docs) =
     let words = sum_by-append (bits_in code.words) (pieces_in Words doc) (flat_map (pieces_in Words) docs) in
@@ -103,18 +112,24 @@ all-have : (sorted pieces : List (List ℕ)) → ((s : List ℕ) → has pieces 
 all-have sorted [] h = tt
 all-have sorted (p ∷ pieces) h = (h p (or_left (bytes_eq p p) (has pieces p) (same-refl p)), all-have sorted pieces (λ s i. h s (or_right (bytes_eq s p) (has pieces s) i)))
 
-lengths-are : (code : StreamCode) (sorted pieces : List (List ℕ)) → code.pieces ≡ sorted → AreGood code.lengths → length code.lengths ≡ length sorted → AllByRecursion (λ p. has sorted p ≡ true) pieces → AllByRecursion (λ p. bits_in code p ≡ get_or code.lengths (number_of sorted p) 0) pieces
+lengths-are : (code : StreamCode) (sorted pieces : List (List ℕ)) → code.pieces ≡ sorted → AreGood code.lengths → length code.lengths ≡ length sorted →
+    AllByRecursion (λ p. has sorted p ≡ true) pieces → AllByRecursion (λ p. bits_in code p ≡ get_or code.lengths (number_of sorted p) 0) pieces
 lengths-are code sorted [] is good long h = tt
-lengths-are code sorted (p ∷ pieces) is good long h =
-    (ap (λ (x : List (List ℕ)). length (codeword code.lengths (number_of x p))) is ∙ length-codeword code.lengths (number_of sorted p) good (omega (arith, long, (number-found sorted p h.0).0)), lengths-are code sorted pieces is good long h.1)
+lengths-are code sorted (p ∷ pieces) is good long h = (
+  ap (λ (x : List (List ℕ)). length (codeword code.lengths (number_of x p))) is ∙ length-codeword code.lengths (number_of sorted p) good
+      (omega (arith, long, (number-found sorted p h.0).0)),
+  lengths-are code sorted pieces is good long h.1,
+)
 
-pub stream-bits : (kind : Stream) (collection : List ℕ) (code : StreamCode) → IsCodeOf kind collection code → sum_by (bits_in code) (all_pieces kind collection) ≡ huffman_cost (piece_counts kind collection)
+pub stream-bits : (kind : Stream) (collection : List ℕ) (code : StreamCode) → IsCodeOf kind collection code →
+    sum_by (bits_in code) (all_pieces kind collection) ≡ huffman_cost (piece_counts kind collection)
 stream-bits kind collection code h =
     let pieces = all_pieces kind collection in
     let sorted = sorted_pieces kind collection in
     let there = all-have sorted pieces (λ s i. has-sorted pieces s ∙ i) in
     let long : length code.lengths ≡ length sorted = h.lengths.each ∙ length-map sorted (count_in pieces) in
-    sum-same (bits_in code) (λ p. get_or code.lengths (number_of sorted p) 0) pieces (lengths-are code sorted pieces h.pieces h.lengths.good long there) ∙ (cost-of_pieces sorted pieces code.lengths long (distinct-sorted pieces) there ∙ h.lengths.cost)
+    sum-same (bits_in code) (λ p. get_or code.lengths (number_of sorted p) 0) pieces (lengths-are code sorted pieces h.pieces h.lengths.good long there)
+    ∙ (cost-of_pieces sorted pieces code.lengths long (distinct-sorted pieces) there ∙ h.lengths.cost)
 
 -- all documents have as many bits as the text
 pub text-bits : (code : TextCode) (collection : List ℕ) → IsTextCode collection code → sum_by (λ doc. length (coded_doc code doc)) (documents collection) ≡ text_bits collection

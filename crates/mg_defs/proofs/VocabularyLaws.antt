@@ -42,7 +42,12 @@ first-seen (q ∷ pieces) p h =
       | inr none ↦ elim (or_cases (bytes_eq p q) (has pieces p) h) [
         | inl here ↦
             let tied : bytes_eq q p ≡ true = same-sym q p ∙ here in
-            rw (first-new pieces p none, filter-append (λ r. not (bytes_eq q r)) (first_appearances pieces) (p ∷ []), tied, append-nil (filter (λ r. not (bytes_eq q r)) (first_appearances pieces))) refl
+            rw (
+              first-new pieces p none,
+              filter-append (λ r. not (bytes_eq q r)) (first_appearances pieces) (p ∷ []),
+              tied,
+              append-nil (filter (λ r. not (bytes_eq q r)) (first_appearances pieces)),
+            ) refl
         | inr there ↦ absurd (false≢true (sym none ∙ there))
       ]
     ]
@@ -95,7 +100,8 @@ count-push pieces p q = sum_by_push (λ r. cond (bytes_eq q r) 1 0) pieces p
 abbrev entries_of : (List ℕ → ℕ) → List (List ℕ) → List (List ℕ × ℕ)
 entries_of c strings = map (λ q. (q, c q)) strings
 
-same-counts : (c d : List ℕ → ℕ) (p : List ℕ) (strings : List (List ℕ)) → ((q : List ℕ) → bytes_eq p q ≡ false → d q ≡ c q) → AllByRecursion (λ y. bytes_eq p y ≡ false) strings → entries_of d strings ≡ entries_of c strings
+same-counts : (c d : List ℕ → ℕ) (p : List ℕ) (strings : List (List ℕ)) → ((q : List ℕ) → bytes_eq p q ≡ false → d q ≡ c q) →
+    AllByRecursion (λ y. bytes_eq p y ≡ false) strings → entries_of d strings ≡ entries_of c strings
 same-counts c d p [] h apart = refl
 same-counts c d p (q ∷ strings) h apart =
     let head = h q apart.0 in
@@ -110,7 +116,8 @@ counted-new : (c : List ℕ → ℕ) (p : List ℕ) (strings : List (List ℕ)) 
 counted-new c p [] h = refl
 counted-new c p (q ∷ strings) h = rw (h.0, counted-new c p strings h.1) refl
 
-counted-seen : (c d : List ℕ → ℕ) (p : List ℕ) (strings : List (List ℕ)) → IsDistinct bytes_eq strings → has strings p ≡ true → ((q : List ℕ) → bytes_eq p q ≡ false → d q ≡ c q) → d p ≡ c p + 1 → counted p (entries_of c strings) ≡ entries_of d strings
+counted-seen : (c d : List ℕ → ℕ) (p : List ℕ) (strings : List (List ℕ)) → IsDistinct bytes_eq strings → has strings p ≡ true →
+    ((q : List ℕ) → bytes_eq p q ≡ false → d q ≡ c q) → d p ≡ c p + 1 → counted p (entries_of c strings) ≡ entries_of d strings
 unfolding IsDistinct
 counted-seen c d p [] apart h others same = absurd (false≢true h)
 counted-seen c d p (q ∷ strings) apart h others same =
@@ -153,7 +160,8 @@ vocabulary-push pieces p =
       | inr new ↦
           let apart = none-apart p (first_appearances pieces) (has-first pieces p ∙ new) in
           let one : after p ≡ 1 = omega (arith, same, none-counted pieces p new) in
-          ap (entries_of after) (first-new pieces p new) ∙ map-append (λ q. (q, after q)) (first_appearances pieces) (p ∷ []) ∙ rw (same-counts before after p (first_appearances pieces) others apart, one) (sym (counted-new before p (first_appearances pieces) apart))
+          ap (entries_of after) (first-new pieces p new) ∙ map-append (λ q. (q, after q)) (first_appearances pieces) (p ∷ [])
+          ∙ rw (same-counts before after p (first_appearances pieces) others apart, one) (sym (counted-new before p (first_appearances pieces) apart))
     ]
 
 -- ---- what a vocabulary says of its pieces
@@ -202,7 +210,8 @@ map-agree : (c d : List ℕ → ℕ) (strings : List (List ℕ)) → ((q : List 
 map-agree c d strings h = ap (λ (f : List ℕ → ℕ). map f strings) (λ i. λ q. h q i)
 
 pub counts-of_vocabulary : (pieces : List (List ℕ)) → counts_of (vocabulary pieces) ≡ map (count_in pieces) (sorted_distinct pieces)
-counts-of_vocabulary pieces = map-agree (entry_count (vocabulary pieces)) (count_in pieces) (sorted_of (vocabulary pieces)) (entry-count pieces) ∙ ap (map (count_in pieces)) (sorted-of_vocabulary pieces)
+counts-of_vocabulary pieces = map-agree (entry_count (vocabulary pieces)) (count_in pieces) (sorted_of (vocabulary pieces)) (entry-count pieces)
+    ∙ ap (map (count_in pieces)) (sorted-of_vocabulary pieces)
 
 total-counted : (p : List ℕ) (entries : List (List ℕ × ℕ)) → total (counted p entries) ≡ total entries + 1
 total-counted p [] = refl
@@ -216,7 +225,8 @@ total-counted p (e ∷ entries) =
 total-from : (done rest : List (List ℕ)) → total (vocabulary done) ≡ length done → total (vocabulary (done ++ rest)) ≡ length (done ++ rest)
 total-from done [] h = rw (append-nil done) h
 total-from done (p ∷ rest) h =
-    let step : total (vocabulary (done ++ p ∷ [])) ≡ length (done ++ p ∷ []) = ap total (vocabulary-push done p) ∙ (total-counted p (vocabulary done) ∙ omega (arith, h, length-append done (p ∷ []))) in
+    let step : total (vocabulary (done ++ p ∷ [])) ≡ length (done ++ p ∷ []) = ap total (vocabulary-push done p)
+    ∙ (total-counted p (vocabulary done) ∙ omega (arith, h, length-append done (p ∷ []))) in
     rw (append_assoc done (p ∷ []) rest) at (total-from (done ++ p ∷ []) rest step)
 
 pub total-of_vocabulary : (pieces : List (List ℕ)) → total (vocabulary pieces) ≡ length pieces
@@ -232,21 +242,25 @@ all-there pieces (q ∷ strings) h = (h q (or_left (bytes_eq q q) (has strings q
 
 -- every count is at least 1
 pub counts-positive : (pieces : List (List ℕ)) → All (λ (e : List ℕ × ℕ). 1 ≤ e.1) (vocabulary pieces)
-counts-positive pieces = All-from_recursion (λ (e : List ℕ × ℕ). 1 ≤ e.1) (vocabulary pieces) (positive-from pieces (first_appearances pieces) (all-there pieces (first_appearances pieces) (λ s i. sym (has-first pieces s) ∙ i)))
+counts-positive pieces = All-from_recursion (λ (e : List ℕ × ℕ). 1 ≤ e.1) (vocabulary pieces)
+    (positive-from pieces (first_appearances pieces) (all-there pieces (first_appearances pieces) (λ s i. sym (has-first pieces s) ∙ i)))
 
 entries-long : (c : List ℕ → ℕ) (strings : List (List ℕ)) → length (entries_of c strings) ≡ length strings
 entries-long c [] = refl
 entries-long c (q ∷ strings) = ap suc (entries-long c strings)
 
 pub distinct-sorted : (pieces : List (List ℕ)) → IsDistinct bytes_eq (sorted_distinct pieces)
-distinct-sorted pieces = subst (λ (e : List ℕ → List ℕ → Bool). IsDistinct e (sorted_distinct pieces)) (λ i. λ a b. is_eq-slice_cmp a b i) (IsDistinct-from_sorted (slice_cmp nat_cmp) (sorted_distinct pieces) (sorted-rising pieces))
+distinct-sorted pieces = subst (λ (e : List ℕ → List ℕ → Bool). IsDistinct e (sorted_distinct pieces)) (λ i. λ a b. is_eq-slice_cmp a b i)
+    (IsDistinct-from_sorted (slice_cmp nat_cmp) (sorted_distinct pieces) (sorted-rising pieces))
 
 -- as many entries as distinct pieces
 pub length-of_vocabulary : (pieces : List (List ℕ)) → length (vocabulary pieces) ≡ length (sorted_distinct pieces)
 length-of_vocabulary pieces =
-    entries-long (count_in pieces) (first_appearances pieces) ∙ length-from_same_keys nat_list_eq_equiv (first_appearances pieces) (sorted_distinct pieces) (distinct-first pieces) (distinct-sorted pieces) (λ s. has-first pieces s ∙ sym (has-sorted pieces s))
+    entries-long (count_in pieces) (first_appearances pieces) ∙ length-from_same_keys nat_list_eq_equiv (first_appearances pieces) (sorted_distinct pieces)
+    (distinct-first pieces) (distinct-sorted pieces) (λ s. has-first pieces s ∙ sym (has-sorted pieces s))
 
 -- ---- the same of a collection's stream
 
-pub collection-symbols : (kind : Stream) (collection : List ℕ) → (sorted_of (vocabulary (all_pieces kind collection)) ≡ sorted_pieces kind collection) × (counts_of (vocabulary (all_pieces kind collection)) ≡ piece_counts kind collection)
+pub collection-symbols : (kind : Stream) (collection : List ℕ) → (sorted_of (vocabulary (all_pieces kind collection)) ≡ sorted_pieces kind collection)
+    × (counts_of (vocabulary (all_pieces kind collection)) ≡ piece_counts kind collection)
 collection-symbols kind collection = (sorted-of_vocabulary (all_pieces kind collection), counts-of_vocabulary (all_pieces kind collection))

@@ -31,7 +31,8 @@ IsLongWord closing = ⊥
 -- The token is refused at its place, after those before it: with it they begin no query, or it opens a parenthesis where as many are open as may be, or it is a long word.
 abbrev pub IsRefusedAfter : List PlacedToken → PlacedToken → Refusal → Type 0
 IsRefusedAfter before t (syntax at) = (at ≡ t.at) × (BeginsQuery (bare before ++ t.token ∷ []) → ⊥)
-IsRefusedAfter before t (too_deep at) = (at ≡ t.at) × (t.token ≡ opening) × (open_parentheses ≤ open_count (bare before))
+IsRefusedAfter before t (too_deep at) = (at ≡ t.at) × (t.token ≡ opening)
+    × (open_parentheses ≤ open_count (bare before))
 IsRefusedAfter before t (too_long at) = (at ≡ t.at) × IsLongWord t.token
 IsRefusedAfter before t (too_many at) = ⊥
 
@@ -47,4 +48,5 @@ pub record IsAccepted (line : List ℕ) (q : Query) : Type 0 where
 -- The line is refused at its first token that is; or, where none is and the tokens are no query, at the line's length.
 pub data IsRefusal (line : List ℕ) (why : Refusal) : Type 0 where
   at_a_token : IsFirstRefusal IsRefusedAfter (tokens line) why → IsRefusal line why
-  at_the_end : NoneRefused IsRefusedAfter [] (tokens line) → ((q : Query) → ReadsAs (bare (tokens line)) q → ⊥) → why ≡ syntax (length line) → IsRefusal line why
+  at_the_end : NoneRefused IsRefusedAfter [] (tokens line) → ((q : Query) → ReadsAs (bare (tokens line)) q → ⊥) →
+      why ≡ syntax (length line) → IsRefusal line why

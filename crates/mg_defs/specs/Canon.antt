@@ -31,7 +31,8 @@ count_of l lengths = count_by (λ k. k == l) lengths
 
 -- the number that the codeword of the symbol is, where there are two or more symbols and the symbol is one of them, counted from 0
 abbrev pub codeword_value : List ℕ → ℕ → ℕ
-codeword_value lengths symbol = let l = get_or lengths symbol 0 in first_codeword l lengths + count_of l (take symbol lengths)
+codeword_value lengths symbol = let l = get_or lengths symbol 0 in first_codeword l lengths
+    + count_of l (take symbol lengths)
 
 -- the codeword of the symbol, in the same range
 abbrev pub codeword : List ℕ → ℕ → Bits

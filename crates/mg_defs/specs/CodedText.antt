@@ -115,4 +115,7 @@ pub record BitRange : Type 0 where
   pub to : ℕ
 
 abbrev pub doc_range : TextCode → List ℕ → ℕ → BitRange
-doc_range code collection d = record { from = 8 * place_after code collection (d - 1); to = 8 * place_after code collection d }
+doc_range code collection d = record {
+  from = 8 * place_after code collection (d - 1);
+  to = 8 * place_after code collection d;
+}

@@ -40,19 +40,26 @@ is_digit b = nat_le 48 b && nat_le b 57
 
 -- digits, not too many of them, of a number from 1 on that is not too large
 unfoldable pub is_most : List ℕ → Bool
-is_most word = list_all is_digit word && nat_le (length word) shown_digits && nat_le 1 (value 0 word) && nat_le (value 0 word) shown_documents
+is_most word = list_all is_digit word && nat_le (length word) shown_digits && nat_le 1 (value 0 word)
+    && nat_le (value 0 word) shown_documents
 
 unfoldable pub set_query : List ℕ → Settings → Command
-set_query word now = if same_term word (codes "boolean") then Set (record now { ranked = false }) else (if same_term word (codes "ranked") then Set (record now { ranked = true }) else Wrong)
+set_query word now = if same_term word (codes "boolean") then Set (record now { ranked = false })
+    else (if same_term word (codes "ranked") then Set (record now { ranked = true }) else Wrong)
 
 unfoldable pub set_mode : List ℕ → Settings → Command
-set_mode word now = if same_term word (codes "docnums") then Set (record now { mode = Docnums }) else (if same_term word (codes "text") then Set (record now { mode = Text }) else (if same_term word (codes "count") then Set (record now { mode = Count }) else Wrong))
+set_mode word now = if same_term word (codes "docnums") then Set (record now { mode = Docnums })
+    else (if same_term word (codes "text") then Set (record now { mode = Text })
+    else (if same_term word (codes "count") then Set (record now { mode = Count }) else Wrong))
 
 unfoldable pub set_most : List ℕ → Settings → Command
-set_most word now = if same_term word (codes "all") then Set (record now { most = None }) else (if is_most word then Set (record now { most = Some (value 0 word) }) else Wrong)
+set_most word now = if same_term word (codes "all") then Set (record now { most = None })
+    else (if is_most word then Set (record now { most = Some (value 0 word) }) else Wrong)
 
 unfoldable pub set_of : List ℕ → List ℕ → Settings → Command
-set_of name word now = if same_term name (codes "query") then set_query word now else (if same_term name (codes "mode") then set_mode word now else (if same_term name (codes "maxdocs") then set_most word now else Wrong))
+set_of name word now = if same_term name (codes "query") then set_query word now
+    else (if same_term name (codes "mode") then set_mode word now
+    else (if same_term name (codes "maxdocs") then set_most word now else Wrong))
 
 unfoldable pub dot_of : List (List ℕ) → Settings → Command
 dot_of (w ∷ []) now = if same_term w (codes ".quit") then Quit else Wrong
@@ -64,7 +71,8 @@ begins_with_stop [] = false
 begins_with_stop (b ∷ line) = b == 46
 
 unfoldable pub command : List ℕ → Settings → Command
-command line now = if begins_with_stop line then dot_of (words line) now else (if list_all is_blank line then Skip else Ask)
+command line now = if begins_with_stop line then dot_of (words line) now
+    else (if list_all is_blank line then Skip else Ask)
 
 -- ---- what a command prints, which settings hold after it, and whether it ends the session
 

@@ -24,7 +24,8 @@ shared (x ∷ xs) (y ∷ ys) = if x == y then shared xs ys + 1 else 0
 unfoldable pub entry_bytes : ℕ → List ℕ → Entry → List ℕ
 entry_bytes i before e =
     if i % 4 == 0 then length e.string ∷ (e.string ++ e.field)
-    else shared before e.string ∷ (length e.string - shared before e.string) ∷ (drop (shared before e.string) e.string ++ e.field)
+    else shared before e.string ∷ (length e.string - shared before e.string) ∷
+    (drop (shared before e.string) e.string ++ e.field)
 
 -- an entry that may have this number and come after this string
 pub record IsEntry (width i : ℕ) (before : List ℕ) (e : Entry) : Type 0 where
@@ -52,7 +53,8 @@ last_string before (e ∷ es) = last_string e.string es
 
 unfoldable pub places_from : ℕ → List ℕ → ℕ → List Entry → List ℕ
 places_from i before at [] = []
-places_from i before at (e ∷ es) = (if i % 4 == 0 then four at else []) ++ places_from (i + 1) e.string (at + length (entry_bytes i before e)) es
+places_from i before at (e ∷ es) = (if i % 4 == 0 then four at else [])
+    ++ places_from (i + 1) e.string (at + length (entry_bytes i before e)) es
 
 -- the place of each whole entry
 abbrev pub whole_at : List Entry → List ℕ
@@ -80,15 +82,22 @@ abbrev pub read_whole : ℕ → ℕ → List ℕ → List ℕ → Option Found
 read_whole width i before [] = None
 read_whole width i before (n ∷ bytes) =
     if nat_le n piece_bytes && (nat_le (n + width) (length bytes) && (i == 0 || is_below before (take n bytes)))
-    then Some (record { entry = record { string = take n bytes; field = take width (drop n bytes) }; size = n + width + 1 })
+    then Some (record {
+      entry = record { string = take n bytes; field = take width (drop n bytes) };
+      size = n + width + 1;
+    })
     else None
 
 abbrev pub read_cut : ℕ → List ℕ → List ℕ → Option Found
 read_cut width before [] = None
 read_cut width before (k ∷ []) = None
 read_cut width before (k ∷ n ∷ bytes) =
-    if nat_le k (length before) && (nat_le (k + n) piece_bytes && (nat_le (n + width) (length bytes) && rises_after_prefix (drop k before) (take n bytes)))
-    then Some (record { entry = record { string = take k before ++ take n bytes; field = take width (drop n bytes) }; size = n + width + 2 })
+    if nat_le k (length before) && (nat_le (k + n) piece_bytes
+    && (nat_le (n + width) (length bytes) && rises_after_prefix (drop k before) (take n bytes)))
+    then Some (record {
+      entry = record { string = take k before ++ take n bytes; field = take width (drop n bytes) };
+      size = n + width + 2;
+    })
     else None
 
 -- the entry of a number that stands first, after the string before it
@@ -103,11 +112,13 @@ pub record StandsFirst (width i : ℕ) (before bytes : List ℕ) (it : Found) : 
 
 -- the bytes do not begin with an entry of this number, for any string above the one before and any field
 abbrev pub NoEntry : ℕ → ℕ → List ℕ → List ℕ → Type 0
-NoEntry width i before bytes = (e : Entry) (rest : List ℕ) → IsEntry width i before e → bytes ≢ entry_bytes i before e ++ rest
+NoEntry width i before bytes = (e : Entry) (rest : List ℕ) → IsEntry width i before e →
+    bytes ≢ entry_bytes i before e ++ rest
 
 -- an entry that was written before a rest is read, with its size
 abbrev pub IsReadBack : ℕ → ℕ → List ℕ → Entry → List ℕ → Type 0
-IsReadBack width i before e rest = read_entry width i before (entry_bytes i before e ++ rest) ≡ Some (record { entry = e; size = length (entry_bytes i before e) })
+IsReadBack width i before e rest = read_entry width i before (entry_bytes i before e ++ rest)
+    ≡ Some (record { entry = e; size = length (entry_bytes i before e) })
 
 -- where the one entry stands at a place, and the other at a later one
 abbrev pub WhereInOrder : List Entry → ℕ → ℕ → Entry → Entry → Type 0 → Type 0

@@ -15,7 +15,8 @@ draw n x = stepped x / 2 ^ 33 % n
 abbrev pub syllables : List (List ℕ)
 syllables =
     codes "ba" ∷ codes "ce" ∷ codes "di" ∷ codes "fo" ∷ codes "gu" ∷ codes "ha" ∷ codes "je" ∷ codes "ki" ∷
-    codes "lo" ∷ codes "mu" ∷ codes "na" ∷ codes "pe" ∷ codes "ri" ∷ codes "so" ∷ codes "tu" ∷ (118 ∷ 195 ∷ 169 ∷ []) ∷ []
+    codes "lo" ∷ codes "mu" ∷ codes "na" ∷ codes "pe" ∷ codes "ri" ∷ codes "so" ∷ codes "tu" ∷ (118 ∷ 195 ∷ 169 ∷ []) ∷
+    []
 
 -- of a digit in base 16
 unfoldable pub syllable : ℕ → List ℕ
@@ -48,7 +49,10 @@ made_bytes bytes x = record { bytes = bytes; state = x }
 
 -- one and then the other
 unfoldable pub made_both : (ℕ → Made) → (ℕ → Made) → ℕ → Made
-made_both first next x = record { bytes = (first x).bytes ++ (next (first x).state).bytes; state = (next (first x).state).state }
+made_both first next x = record {
+  bytes = (first x).bytes ++ (next (first x).state).bytes;
+  state = (next (first x).state).state;
+}
 
 -- each in turn
 unfoldable pub made_in_turn : List (ℕ → Made) → ℕ → Made
@@ -75,7 +79,8 @@ separator x = record { bytes = (if draw 8 x == 0 then codes ", " else codes " ")
 
 -- four to twelve words, the first with a capital
 unfoldable pub sentence : ℕ → Made
-sentence x = made_in_turn (capital_pick ∷ repeated (3 + draw 9 x) (made_both separator pick) ∷ made_bytes (codes ".\n") ∷ []) (stepped x)
+sentence x = made_in_turn (capital_pick ∷ repeated (3 + draw 9 x) (made_both separator pick) ∷
+    made_bytes (codes ".\n") ∷ []) (stepped x)
 
 -- one to six
 unfoldable pub sentences : ℕ → Made
@@ -84,7 +89,8 @@ sentences x = repeated (1 + draw 6 x) sentence (stepped x)
 unfoldable pub heading : ℕ → Made
 heading =
     made_in_turn (made_bytes (codes "From: ") ∷ pick ∷ made_bytes (codes "@") ∷ pick ∷ made_bytes (codes ".example\n") ∷
-    made_bytes (codes "Subject: ") ∷ pick ∷ made_bytes (codes " ") ∷ pick ∷ made_bytes (codes " ") ∷ pick ∷ made_bytes (codes "\n\n") ∷ [])
+    made_bytes (codes "Subject: ") ∷ pick ∷ made_bytes (codes " ") ∷ pick ∷ made_bytes (codes " ") ∷ pick ∷
+    made_bytes (codes "\n\n") ∷ [])
 
 -- closed by its byte 2
 unfoldable pub mail : ℕ → Made
@@ -106,12 +112,14 @@ one_without = made_in_turn (pick ∷ made_bytes (codes " & !") ∷ pick ∷ made
 
 -- one of two words, and a third
 unfoldable pub either_and : ℕ → Made
-either_and = made_in_turn (made_bytes (codes "(") ∷ pick ∷ made_bytes (codes " | ") ∷ pick ∷ made_bytes (codes ") ") ∷ pick ∷ made_bytes (codes "\n") ∷ [])
+either_and = made_in_turn (made_bytes (codes "(") ∷ pick ∷ made_bytes (codes " | ") ∷ pick ∷ made_bytes (codes ") ") ∷
+    pick ∷ made_bytes (codes "\n") ∷ [])
 
 -- three words by rank, ten rows at most
 unfoldable pub made_ranked : ℕ → Made
 made_ranked =
-    made_in_turn (made_bytes (codes ".set query ranked\n") ∷ made_bytes (codes ".set maxdocs 10\n") ∷ pick ∷ made_bytes (codes " ") ∷ pick ∷ made_bytes (codes " ") ∷ pick ∷ made_bytes (codes "\n") ∷
+    made_in_turn (made_bytes (codes ".set query ranked\n") ∷ made_bytes (codes ".set maxdocs 10\n") ∷ pick ∷
+    made_bytes (codes " ") ∷ pick ∷ made_bytes (codes " ") ∷ pick ∷ made_bytes (codes "\n") ∷
     made_bytes (codes ".set query boolean\n") ∷ made_bytes (codes ".set maxdocs all\n") ∷ [])
 
 unfoldable pub four_queries : ℕ → Made

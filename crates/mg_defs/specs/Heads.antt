@@ -34,15 +34,18 @@ as_number b = if b then 1 else 0
 
 -- the fields that stand at one place in every version
 abbrev pub first_fields : Head → List ℕ
-first_fields h = magic h.version ++ four h.documents ++ four h.words ++ four h.others ++ four h.terms ++ four h.cap ++ four (as_number h.open_end)
+first_fields h = magic h.version ++ four h.documents ++ four h.words ++ four h.others ++ four h.terms ++ four h.cap
+    ++ four (as_number h.open_end)
 
 -- version 1: 64 bytes
 abbrev pub narrow_bytes : Head → List ℕ
-narrow_bytes h = first_fields h ++ four h.collection ++ four h.occurrences ++ four h.runs ++ four h.text_bytes ++ eight h.post_bytes ++ eight h.skip_count
+narrow_bytes h = first_fields h ++ four h.collection ++ four h.occurrences ++ four h.runs ++ four h.text_bytes
+    ++ eight h.post_bytes ++ eight h.skip_count
 
 -- version 2: 80 bytes
 abbrev pub wide_bytes : Head → List ℕ
-wide_bytes h = first_fields h ++ eight h.collection ++ eight h.occurrences ++ four h.runs ++ four 0 ++ eight h.text_bytes ++ eight h.post_bytes ++ eight h.skip_count
+wide_bytes h = first_fields h ++ eight h.collection ++ eight h.occurrences ++ four h.runs ++ four 0
+    ++ eight h.text_bytes ++ eight h.post_bytes ++ eight h.skip_count
 
 unfoldable pub head_bytes : Head → List ℕ
 head_bytes h = if h.version == 1 then narrow_bytes h else wide_bytes h
@@ -98,34 +101,43 @@ within at low high found = record { at = at; low = low; high = high; found = fou
 -- the first eight bytes, of a version from low to high
 abbrev pub magic_checks : ℕ → ℕ → List ℕ → List Check
 magic_checks low high bytes =
-    exactly 0 77 (slice_index bytes 0) ∷ exactly 1 71 (slice_index bytes 1) ∷ exactly 2 82 (slice_index bytes 2) ∷ exactly 3 79 (slice_index bytes 3) ∷ exactly 4 87 (slice_index bytes 4) ∷ exactly 5 118 (slice_index bytes 5)
+    exactly 0 77 (slice_index bytes 0) ∷ exactly 1 71 (slice_index bytes 1) ∷ exactly 2 82 (slice_index bytes 2) ∷
+    exactly 3 79 (slice_index bytes 3) ∷ exactly 4 87 (slice_index bytes 4) ∷ exactly 5 118 (slice_index bytes 5)
     ∷ within 6 (48 + low) (48 + high) (slice_index bytes 6) ∷ exactly 7 10 (slice_index bytes 7) ∷ []
 
 -- the fields that stand at one place in every version
 abbrev pub first_checks : Limits → List ℕ → List Check
 first_checks most bytes =
-    within 8 0 most.documents (four_at bytes 8) ∷ within 12 0 most.pieces (four_at bytes 12) ∷ within 16 0 most.pieces (four_at bytes 16) ∷ within 20 0 (four_at bytes 12) (four_at bytes 20) ∷ within 24 least_cap greatest_cap (four_at bytes 24)
+    within 8 0 most.documents (four_at bytes 8) ∷ within 12 0 most.pieces (four_at bytes 12) ∷
+    within 16 0 most.pieces (four_at bytes 16) ∷ within 20 0 (four_at bytes 12) (four_at bytes 20) ∷
+    within 24 least_cap greatest_cap (four_at bytes 24)
     ∷ within 28 0 1 (four_at bytes 28) ∷ []
 
 -- the others of version 1
 abbrev pub narrow_checks : List ℕ → List Check
-narrow_checks bytes = within 32 0 version_1.collection (four_at bytes 32) ∷ within 36 0 (four_at bytes 32) (four_at bytes 36) ∷ exactly 40 (run_count (four_at bytes 36) (four_at bytes 24)) (four_at bytes 40) ∷ within 56 0 (four_at bytes 36) (eight_at bytes 56) ∷ []
+narrow_checks bytes = within 32 0 version_1.collection (four_at bytes 32) ∷
+    within 36 0 (four_at bytes 32) (four_at bytes 36) ∷ exactly 40 (run_count (four_at bytes 36) (four_at bytes 24))
+    (four_at bytes 40) ∷ within 56 0 (four_at bytes 36) (eight_at bytes 56) ∷ []
 
 -- and of version 2
 abbrev pub wide_checks : List ℕ → List Check
 wide_checks bytes =
-    within 32 0 version_2.collection (eight_at bytes 32) ∷ within 40 0 (eight_at bytes 32) (eight_at bytes 40) ∷ exactly 48 (run_count (eight_at bytes 40) (four_at bytes 24)) (four_at bytes 48) ∷ exactly 52 0 (four_at bytes 52)
+    within 32 0 version_2.collection (eight_at bytes 32) ∷ within 40 0 (eight_at bytes 32) (eight_at bytes 40) ∷
+    exactly 48 (run_count (eight_at bytes 40) (four_at bytes 24)) (four_at bytes 48) ∷
+    exactly 52 0 (four_at bytes 52)
     ∷ within 72 0 (eight_at bytes 40) (eight_at bytes 72) ∷ []
 
 -- the size that the version asks for, and then the fields
 abbrev pub rest_checks : List ℕ → List Check
 rest_checks bytes =
-    if slice_index bytes 6 == 49 then exactly 0 64 (length bytes) ∷ (first_checks version_1 bytes ++ narrow_checks bytes)
+    if slice_index bytes 6 == 49 then exactly 0 64 (length bytes) ∷
+    (first_checks version_1 bytes ++ narrow_checks bytes)
     else exactly 0 80 (length bytes) ∷ (first_checks version_2 bytes ++ wide_checks bytes)
 
 -- what is wrong first in bytes that are no head of a version from low to high
 unfoldable pub first_damage : ℕ → ℕ → List ℕ → Option Check
-first_damage low high bytes = if nat_lt (length bytes) 64 then Some (exactly 0 64 (length bytes)) else find is_wrong (magic_checks low high bytes ++ rest_checks bytes)
+first_damage low high bytes = if nat_lt (length bytes) 64 then Some (exactly 0 64 (length bytes))
+    else find is_wrong (magic_checks low high bytes ++ rest_checks bytes)
 
 -- the head that bytes with no damage write
 abbrev pub narrow_head : List ℕ → Head

@@ -18,7 +18,11 @@ info_bytes info = four info.docs ++ eight info.post_at ++ four info.skip_at
 
 -- of the term with this number
 abbrev pub info_of : List ℕ → ℕ → List ℕ → TermInfo
-info_of collection number t = record { docs = docs collection t; post_at = list_byte collection number; skip_at = first_entry collection number }
+info_of collection number t = record {
+  docs = docs collection t;
+  post_at = list_byte collection number;
+  skip_at = first_entry collection number;
+}
 
 -- the entry of the term with this number: its string, and what the lexicon tells of it
 abbrev pub term_entry : List ℕ → ℕ → List ℕ → Entry

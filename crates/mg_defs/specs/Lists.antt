@@ -10,7 +10,8 @@ use Rattle.mg_defs.specs.PagesOf.{pages}
 
 -- the documents that have the term, rising, each with its count
 abbrev pub postings : List ℕ → List ℕ → List Posting
-postings collection t = filter (λ (p : Posting). nat_lt 0 p.freq) (map (λ (d : ℕ × List ℕ). record { doc = d.0; freq = freq_in d.1 t }) (enumerate_from 1 (documents collection)))
+postings collection t = filter (λ (p : Posting). nat_lt 0 p.freq)
+    (map (λ (d : ℕ × List ℕ). record { doc = d.0; freq = freq_in d.1 t }) (enumerate_from 1 (documents collection)))
 
 -- a posting that may follow a document, among so many documents
 pub record Follows (all before : ℕ) (p : Posting) : Type 0 where
@@ -120,7 +121,8 @@ WhereListBegins b all ps bits fact = 1 ≤ b → b ≤ 2 ^ 64 → Rises all 0 ps
 
 -- where postings that rise there, as many as the block has, begin
 abbrev pub WhereBlockBegins : ℕ → ℕ → ℕ → List Posting → List Posting → Bits → Type 0 → Type 0
-WhereBlockBegins b all k ps qs bits fact = Rises all (doc_before (64 * k) ps) qs → length qs ≡ length (block_of k ps) → BlockBegins b k ps qs bits → fact
+WhereBlockBegins b all k ps qs bits fact = Rises all (doc_before (64 * k) ps) qs → length qs ≡ length (block_of k ps) →
+    BlockBegins b k ps qs bits → fact
 
 -- ---- of a collection
 
@@ -144,7 +146,9 @@ skip_bits collection = flat_map entry_bits (lists_entries (length (documents col
 
 -- the byte at which the list of the term with this number begins, and its first skip entry
 abbrev pub list_byte : List ℕ → ℕ → ℕ
-list_byte collection number = length (lists_bits (length (documents collection)) (take number (inverted collection))) / 8
+list_byte collection number = length (lists_bits (length (documents collection)) (take number (inverted collection))) /
+    8
 
 abbrev pub first_entry : List ℕ → ℕ → ℕ
-first_entry collection number = length (lists_entries (length (documents collection)) (take number (inverted collection)))
+first_entry collection number = length (lists_entries (length (documents collection))
+    (take number (inverted collection)))

@@ -12,10 +12,13 @@ eight n = to_be_bytes w64 n
 
 -- the number in the four bytes from a place on
 unfoldable pub four_at : List ℕ → ℕ → ℕ
-four_at bytes at = from_be_bytes w32 (slice_index bytes at ∷ slice_index bytes (at + 1) ∷ slice_index bytes (at + 2) ∷ slice_index bytes (at + 3) ∷ [])
+four_at bytes at = from_be_bytes w32 (slice_index bytes at ∷ slice_index bytes (at + 1) ∷ slice_index bytes (at + 2) ∷
+    slice_index bytes (at + 3) ∷ [])
 
 -- the number in the eight bytes from a place on
 unfoldable pub eight_at : List ℕ → ℕ → ℕ
 eight_at bytes at =
     from_be_bytes w64
-    (slice_index bytes at ∷ slice_index bytes (at + 1) ∷ slice_index bytes (at + 2) ∷ slice_index bytes (at + 3) ∷ slice_index bytes (at + 4) ∷ slice_index bytes (at + 5) ∷ slice_index bytes (at + 6) ∷ slice_index bytes (at + 7) ∷ [])
+    (slice_index bytes at ∷ slice_index bytes (at + 1) ∷ slice_index bytes (at + 2) ∷ slice_index bytes (at + 3) ∷
+    slice_index bytes (at + 4) ∷ slice_index bytes (at + 5) ∷ slice_index bytes (at + 6) ∷
+    slice_index bytes (at + 7) ∷ [])

@@ -13,7 +13,8 @@ says_nothing line = list_all is_blank line
 
 -- what a line prints, given the reply to a question
 unfoldable pub plain_text : (List ℕ → List ℕ) → List ℕ → List ℕ
-plain_text reply line = if is_long line then line_too_long else (if says_nothing (without_return line) then [] else reply (without_return line))
+plain_text reply line = if is_long line then line_too_long
+    else (if says_nothing (without_return line) then [] else reply (without_return line))
 
 unfoldable pub plain_replies : (List ℕ → List ℕ) → List (List ℕ) → List ℕ
 plain_replies reply [] = []
@@ -24,7 +25,8 @@ plain_session reply input = plain_replies reply (lines input)
 
 -- the questions that it answers
 unfoldable pub asked_plainly : List ℕ → List (List ℕ)
-asked_plainly line = if is_long line then [] else (if says_nothing (without_return line) then [] else without_return line ∷ [])
+asked_plainly line = if is_long line then []
+    else (if says_nothing (without_return line) then [] else without_return line ∷ [])
 
 unfoldable pub plain_questions : List (List ℕ) → List (List ℕ)
 plain_questions [] = []

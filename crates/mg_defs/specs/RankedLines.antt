@@ -40,7 +40,8 @@ abbrev pub IsTermRefusedAfter : List PlacedToken → PlacedToken → Refusal →
 IsTermRefusedAfter before t (syntax at) = ⊥
 IsTermRefusedAfter before t (too_deep at) = ⊥
 IsTermRefusedAfter before t (too_long at) = (at ≡ t.at) × IsLongWord t.token
-IsTermRefusedAfter before t (too_many at) = (at ≡ t.at) × IsNewTerm (distinct_terms before) t.token × (ranked_terms ≤ length (distinct_terms before))
+IsTermRefusedAfter before t (too_many at) = (at ≡ t.at) × IsNewTerm (distinct_terms before) t.token
+    × (ranked_terms ≤ length (distinct_terms before))
 
 -- The line's distinct terms, where none of its tokens is refused.
 pub record IsTermList (line : List ℕ) (terms : List (List ℕ)) : Type 0 where

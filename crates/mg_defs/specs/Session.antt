@@ -32,7 +32,8 @@ hears Questions c = as_question c
 -- what a line that is heard so prints, and which settings hold after it
 unfoldable pub line_text : Hearing → (Settings → List ℕ → List ℕ) → Settings → List ℕ → List ℕ
 line_text hearing reply now line =
-    if is_long line then line_too_long else command_text reply bad_command now (without_return line) (hears hearing (read now line))
+    if is_long line then line_too_long else command_text reply bad_command now (without_return line)
+    (hears hearing (read now line))
 
 unfoldable pub after_line : Hearing → Settings → List ℕ → Settings
 after_line hearing now line = if is_long line then now else settings_after now (hears hearing (read now line))
@@ -44,7 +45,8 @@ ends now line = if is_long line then false else stops (read now line)
 -- the replies to lines, given the reply to a query line
 unfoldable pub replies : Hearing → (Settings → List ℕ → List ℕ) → Settings → List (List ℕ) → List ℕ
 replies hearing reply now [] = []
-replies hearing reply now (l ∷ ls) = if ends now l then [] else line_text hearing reply now l ++ replies hearing reply (after_line hearing now l) ls
+replies hearing reply now (l ∷ ls) = if ends now l then [] else line_text hearing reply now l
+    ++ replies hearing reply (after_line hearing now l) ls
 
 unfoldable pub heard_session : Hearing → (Settings → List ℕ → List ℕ) → List ℕ → List ℕ
 heard_session hearing reply input = replies hearing reply first_settings (lines input)
@@ -71,7 +73,8 @@ asked hearing now line = if is_long line then [] else asked_by now (without_retu
 
 unfoldable pub questions : Hearing → Settings → List (List ℕ) → List Question
 questions hearing now [] = []
-questions hearing now (l ∷ ls) = if ends now l then [] else asked hearing now l ++ questions hearing (after_line hearing now l) ls
+questions hearing now (l ∷ ls) = if ends now l then [] else asked hearing now l
+    ++ questions hearing (after_line hearing now l) ls
 
 unfoldable pub heard_questions : Hearing → List ℕ → List Question
 heard_questions hearing input = questions hearing first_settings (lines input)

@@ -20,7 +20,8 @@ plain number = record { number = number; score = None }
 
 -- those of these documents that satisfy the query; the first of them has this number
 unfoldable pub found : Query → ℕ → List (List ℕ) → List Shown
-found q number docs = map (λ (d : ℕ × List ℕ). plain d.0) (filter (λ (d : ℕ × List ℕ). satisfies q d.1) (enumerate_from number docs))
+found q number docs = map (λ (d : ℕ × List ℕ). plain d.0)
+    (filter (λ (d : ℕ × List ℕ). satisfies q d.1) (enumerate_from number docs))
 
 abbrev pub satisfying : List ℕ → Query → List Shown
 satisfying collection q = found q 1 (documents collection)
@@ -42,4 +43,5 @@ abbrev pub shown : List ℕ → Mode → Shown → List ℕ
 shown collection mode s = shown_as (document collection s.number) mode s
 
 unfoldable pub answer_text : List ℕ → Settings → List Shown → List ℕ
-answer_text collection now answer = flat_map (shown collection now.mode) (limited_to now.most answer) ++ count (length answer)
+answer_text collection now answer = flat_map (shown collection now.mode) (limited_to now.most answer)
+    ++ count (length answer)

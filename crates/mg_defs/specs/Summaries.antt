@@ -16,7 +16,8 @@ run_cap budget = budget / 12
 
 -- the most bytes of the pool at one time: an occurrence takes 12, a run that is merged 64
 abbrev pub pool_peak : ℕ → ℕ → ℕ
-pool_peak occurrences budget = max (12 * min occurrences (run_cap budget)) (64 * min (run_count occurrences (run_cap budget)) (budget / 64))
+pool_peak occurrences budget = max (12 * min occurrences (run_cap budget))
+    (64 * min (run_count occurrences (run_cap budget)) (budget / 64))
 
 -- a name, a blank, a number and the line's end
 abbrev pub number_line : List ℕ → ℕ → List ℕ
@@ -31,7 +32,8 @@ summary_text collection budget = concat (
     ∷ number_line (codes "terms") (length (dictionary collection))
     ∷ number_line (codes "occurrences") (length (occurrences collection))
     ∷ number_line (codes "runs") (run_count (length (occurrences collection)) (run_cap budget))
-    ∷ concat (codes "pool " ∷ decimal (pool_peak (length (occurrences collection)) budget) ∷ codes " of " ∷ decimal budget ∷ codes "\n" ∷ [])
+    ∷ concat (codes "pool " ∷ decimal (pool_peak (length (occurrences collection)) budget) ∷ codes " of " ∷
+    decimal budget ∷ codes "\n" ∷ [])
     ∷ [])
 
 -- the seven lines of a trial over a collection of so many documents and a session's input

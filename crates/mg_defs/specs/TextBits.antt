@@ -13,7 +13,8 @@ head_bits collection = sum_by (λ doc. length (gamma (length (parse doc) + 1))) 
 
 -- Huffman's cost of the words, of the others, and the heads
 abbrev pub text_bits : List ℕ → ℕ
-text_bits collection = huffman_cost (piece_counts Words collection) + huffman_cost (piece_counts Others collection) + head_bits collection
+text_bits collection = huffman_cost (piece_counts Words collection) + huffman_cost (piece_counts Others collection)
+    + head_bits collection
 
 -- the most bytes that the text takes: those bits, and less than a byte more for each document
 abbrev pub most_text_bytes : List ℕ → ℕ

@@ -38,7 +38,8 @@ HasDictionaryTerms collection doc = sorted_distinct (terms doc) ≡ filter (has_
 
 -- Of a document for a list of terms, in parts of 65536: the terms that it has add up, each as often as the list has it.
 abbrev pub score_over : List ℕ → List (List ℕ) → List ℕ → ℕ
-score_over collection list doc = score_of (sum_by (λ t. wd doc t * wt collection t) (filter (has_term doc) list)) (weight doc)
+score_over collection list doc = score_of (sum_by (λ t. wd doc t * wt collection t) (filter (has_term doc) list))
+    (weight doc)
 
 -- of a document for a query: over its distinct terms
 abbrev pub score : List ℕ → List (List ℕ) → List ℕ → ℕ

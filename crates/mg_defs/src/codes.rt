@@ -16,13 +16,18 @@ pub fn no_code_is_a_front()
 
 /// A reader of such a code has at most one answer.
 pub fn one_answer()
-    ensures unary { (limit : ℕ) (bits : Bits) (a b : Answer) → OneAnswer (UpTo limit) unary bits a b }
-    ensures gamma { (limit : ℕ) (bits : Bits) (a b : Answer) → limit < 2 ^ 64 → OneAnswer (UpTo limit) gamma bits a b }
-    ensures short { (p : ℕ) (bits : Bits) (a b : Answer) → 1 ≤ p → p ≤ 2 ^ 64 → OneAnswer (Below p) (short p) bits a b }
-    ensures golomb { (p limit : ℕ) (bits : Bits) (a b : Answer) → 1 ≤ p → p ≤ 2 ^ 64 → OneAnswer (UpTo limit) (golomb p) bits a b }
+    ensures unary { (limit : ℕ) (bits : Bits) (a b : Answer) →
+        OneAnswer (UpTo limit) unary bits a b }
+    ensures gamma { (limit : ℕ) (bits : Bits) (a b : Answer) → limit < 2 ^ 64 →
+        OneAnswer (UpTo limit) gamma bits a b }
+    ensures short { (p : ℕ) (bits : Bits) (a b : Answer) → 1 ≤ p → p ≤ 2 ^ 64 →
+        OneAnswer (Below p) (short p) bits a b }
+    ensures golomb { (p limit : ℕ) (bits : Bits) (a b : Answer) → 1 ≤ p → p ≤ 2 ^ 64 →
+        OneAnswer (UpTo limit) (golomb p) bits a b }
 {}
 
 /// The pages with a bit of a range go from the page of its first bit to that of its last.
 pub fn pages_of_a_range()
-    ensures { (from to page : ℕ) → HasBit from to page ↔ ((from < to) × (page_at from ≤ page) × (page ≤ page_at (to - 1))) }
+    ensures { (from to page : ℕ) → HasBit from to page ↔
+        ((from < to) × (page_at from ≤ page) × (page ≤ page_at (to - 1))) }
 {}

@@ -9,7 +9,9 @@ pub fn one_head()
 
 /// Bytes have no damage exactly where they are a head.
 pub fn damage_decides()
-    ensures none { (low high : ℕ) (bytes : List ℕ) (h : Head) → IsHead low high bytes h → HasNoDamage low high bytes }
-    ensures head { (low high : ℕ) (bytes : List ℕ) → 1 ≤ low → high ≤ 2 → IsOfBytes bytes → HasNoDamage low high bytes →
+    ensures none { (low high : ℕ) (bytes : List ℕ) (h : Head) → IsHead low high bytes h →
+        HasNoDamage low high bytes }
+    ensures head { (low high : ℕ) (bytes : List ℕ) → 1 ≤ low → high ≤ 2 → IsOfBytes bytes →
+        HasNoDamage low high bytes →
         IsHead low high bytes (read_head bytes) }
 {}

@@ -8,7 +8,8 @@ ghost use Rattle.mg_defs.specs.Cost.{huffman_cost};
 /// No codeword of good lengths is the front of another, and each has as many bits as its length
 /// says.
 pub fn no_codeword_is_a_front()
-    ensures prefix_free { (lengths : List ℕ) → AreGood lengths → IsPrefixFree (Below (length lengths)) (codeword lengths) }
+    ensures prefix_free { (lengths : List ℕ) → AreGood lengths →
+        IsPrefixFree (Below (length lengths)) (codeword lengths) }
     ensures bits { (lengths : List ℕ) (symbol : ℕ) → AreGood lengths → symbol < length lengths →
         length (codeword lengths symbol) ≡ slice_index lengths symbol }
 {}
@@ -21,5 +22,6 @@ pub fn first_is_exact()
 
 /// The order of the counts changes nothing of Huffman's cost.
 pub fn cost_in_any_order()
-    ensures { (counts others : List ℕ) → IsPermutation counts others → huffman_cost others ≡ huffman_cost counts }
+    ensures { (counts others : List ℕ) → IsPermutation counts others →
+        huffman_cost others ≡ huffman_cost counts }
 {}

@@ -9,7 +9,10 @@ ghost use Rattle.mg_defs.specs.Terms.{term_count};
 pub fn terms_are_entries()
     ensures entries { (collection : List ℕ) → AreEntries 16 0 [] (lexicon collection) }
     ensures count { (collection : List ℕ) → length (lexicon collection) ≡ term_count collection }
-    ensures term { (collection : List ℕ) (i : ℕ) (t : List ℕ) → IsTermAt collection i t → IsEntryAt collection i (term_entry collection i t) }
-    ensures string { (collection : List ℕ) (i : ℕ) (e : Entry) → IsEntryAt collection i e → IsTermAt collection i e.string }
-    ensures field { (collection : List ℕ) (i : ℕ) (e : Entry) → IsEntryAt collection i e → e.field ≡ info_bytes (info_of collection i e.string) }
+    ensures term { (collection : List ℕ) (i : ℕ) (t : List ℕ) → IsTermAt collection i t →
+        IsEntryAt collection i (term_entry collection i t) }
+    ensures string { (collection : List ℕ) (i : ℕ) (e : Entry) → IsEntryAt collection i e →
+        IsTermAt collection i e.string }
+    ensures field { (collection : List ℕ) (i : ℕ) (e : Entry) → IsEntryAt collection i e →
+        e.field ≡ info_bytes (info_of collection i e.string) }
 {}

@@ -9,7 +9,8 @@ ghost use Rattle.mg_defs.specs.declared.session.Settings.{Settings};
 /// input's end where it isn't empty.
 pub fn lines_of()
     ensures none { lines [] ≡ [] }
-    ensures ended { (line rest : List ℕ) → HasNoEnd line → lines (line ++ (10 ∷ rest)) ≡ line ∷ lines rest }
+    ensures ended { (line rest : List ℕ) → HasNoEnd line →
+        lines (line ++ (10 ∷ rest)) ≡ line ∷ lines rest }
     ensures last { (line : List ℕ) → HasNoEnd line → 0 < length line → lines line ≡ line ∷ [] }
 {}
 

@@ -13,11 +13,14 @@ pub fn block_stands()
 
 /// The range of one block holds each document up to the list's last.
 pub fn one_range()
-    ensures some { (ps : List Posting) (doc : ℕ) → 0 < doc → doc ≤ last_doc 0 ps → (k : ℕ) × (k < block_count (length ps)) × InRange k ps doc }
-    ensures only { (all : ℕ) (ps : List Posting) (doc j k : ℕ) → Rises all 0 ps → InRange j ps doc → InRange k ps doc → j ≡ k }
+    ensures some { (ps : List Posting) (doc : ℕ) → 0 < doc → doc ≤ last_doc 0 ps →
+        (k : ℕ) × (k < block_count (length ps)) × InRange k ps doc }
+    ensures only { (all : ℕ) (ps : List Posting) (doc j k : ℕ) → Rises all 0 ps → InRange j ps doc →
+        InRange k ps doc → j ≡ k }
 {}
 
 /// The documents of a term's list rise, and each count is at least 1.
 pub fn list_rises()
-    ensures { (collection t : List ℕ) → length collection < 2 ^ 32 → Rises (document_count collection) 0 (postings collection t) }
+    ensures { (collection t : List ℕ) → length collection < 2 ^ 32 →
+        Rises (document_count collection) 0 (postings collection t) }
 {}

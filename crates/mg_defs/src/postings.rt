@@ -8,13 +8,15 @@ ghost use Rattle.mg_defs.specs.declared.TermPosting.{TermPosting};
 /// each document.
 pub fn one_list_of_postings()
     ensures is { (s : List (ℕ × ℕ)) → ArePostings (map once s) (term_postings s) }
-    ensures only { (s : List (ℕ × ℕ)) (found : List TermPosting) → ArePostings (map once s) found → found ≡ term_postings s }
+    ensures only { (s : List (ℕ × ℕ)) (found : List TermPosting) → ArePostings (map once s) found →
+        found ≡ term_postings s }
 {}
 
 /// The postings of two lists of occurrences, one after the other, are the postings of both merged,
 /// with the counts added at the same term and document.
 pub fn postings_of_joined()
-    ensures { (s u : List (ℕ × ℕ)) → term_postings (s ++ u) ≡ merged_two (term_postings s) (term_postings u) }
+    ensures { (s u : List (ℕ × ℕ)) → term_postings (s ++ u)
+        ≡ merged_two (term_postings s) (term_postings u) }
 {}
 
 /// All runs merged are the postings of all occurrences, however many occurrences go to a run.

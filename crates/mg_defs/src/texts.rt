@@ -18,14 +18,16 @@ ghost use Rattle.mg_defs.specs.declared.Stream.TheVariants.{Words};
 /// A collection has one split, and it is the computed one.
 pub fn one_split()
     ensures is { (bytes : List ℕ) → IsSplit bytes (documents bytes) (has_open_end bytes) }
-    ensures only { (bytes : List ℕ) (docs : List (List ℕ)) (ending : Bool) → IsSplit bytes docs ending →
+    ensures only { (bytes : List ℕ) (docs : List (List ℕ)) (ending : Bool) →
+        IsSplit bytes docs ending →
         (docs ≡ documents bytes) × (ending ≡ has_open_end bytes) }
 {}
 
 /// The documents are the closed ones, and where the end is open one more that is not empty.
 pub fn closed_and_open()
     ensures whole { (bytes : List ℕ) →
-        documents bytes ≡ closed_documents bytes ++ (if has_open_end bytes then open_part bytes ∷ [] else []) }
+        documents bytes ≡ closed_documents bytes
+        ++ (if has_open_end bytes then open_part bytes ∷ [] else []) }
     ensures end { (bytes : List ℕ) → IsTrue (has_open_end bytes) ↔ (0 < length (open_part bytes)) }
     ensures count { (bytes : List ℕ) → length (closed_documents bytes) ≡ closed_count bytes }
 {}
@@ -104,7 +106,8 @@ pub fn vocabulary_has_each_once()
         IsTrue (has_piece (vocabulary pieces) piece) ↔ Contains pieces piece }
     ensures count { (pieces : List (List ℕ)) (piece : List ℕ) →
         entry_count (vocabulary pieces) piece ≡ count_in pieces piece }
-    ensures sorted { (pieces : List (List ℕ)) → sorted_of (vocabulary pieces) ≡ sorted_distinct pieces }
+    ensures sorted { (pieces : List (List ℕ)) → sorted_of (vocabulary pieces)
+        ≡ sorted_distinct pieces }
     ensures counts { (pieces : List (List ℕ)) →
         counts_of (vocabulary pieces) ≡ map (count_in pieces) (sorted_distinct pieces) }
 {}
@@ -130,11 +133,14 @@ pub fn bits_fill_bytes()
 pub fn documents_have_places()
     ensures count { (code : TextCode) (collection : List ℕ) →
         length (places code collection) ≡ document_count collection + 1 }
-    ensures place { (code : TextCode) (collection : List ℕ) (d : ℕ) → d ≤ document_count collection →
+    ensures place { (code : TextCode) (collection : List ℕ) (d : ℕ) →
+        d ≤ document_count collection →
         place_at code collection d ≡ place_after code collection d }
     ensures size { (code : TextCode) (collection : List ℕ) →
-        length (text_part code collection) ≡ place_after code collection (document_count collection) }
-    ensures bytes { (code : TextCode) (collection : List ℕ) (d : ℕ) → d < document_count collection → StandsInText code collection d }
+        length (text_part code collection) ≡ place_after code collection
+        (document_count collection) }
+    ensures bytes { (code : TextCode) (collection : List ℕ) (d : ℕ) →
+        d < document_count collection → StandsInText code collection d }
 {}
 
 /// All documents have the bits of Huffman's cost of the words and of the others, and of their heads;

@@ -21,20 +21,26 @@ pub fn one_root()
 
 /// A document's weight is the root of the sum of the squared weights of its distinct terms.
 pub fn weight_is_root()
-    ensures { (doc : List ℕ) → length doc ≤ 2 ^ 32 → IsRoot (sum_by (λ t. wd doc t * wd doc t) (sorted_distinct (terms doc))) (weight doc) }
+    ensures { (doc : List ℕ) → length doc ≤ 2 ^ 32 →
+        IsRoot (sum_by (λ t. wd doc t * wd doc t) (sorted_distinct (terms doc))) (weight doc) }
 {}
 
 /// Over distinct terms, a score takes the list of them as it stands.
 pub fn terms_count_once()
-    ensures score { (collection doc : List ℕ) (ts : List (List ℕ)) → IsDistinct bytes_eq ts → score collection ts doc ≡ score_over collection ts doc }
-    ensures hits { (collection : List ℕ) (ts : List (List ℕ)) → IsDistinct bytes_eq ts → hits collection ts ≡ hits_over collection ts }
+    ensures score { (collection doc : List ℕ) (ts : List (List ℕ)) → IsDistinct bytes_eq ts →
+        score collection ts doc ≡ score_over collection ts doc }
+    ensures hits { (collection : List ℕ) (ts : List (List ℕ)) → IsDistinct bytes_eq ts →
+        hits collection ts ≡ hits_over collection ts }
 {}
 
 /// The documents with a term of a query have one order by falling score and, at a tie, by rising
 /// number, and it is the computed one.
 pub fn one_ranking()
-    ensures sorted { (collection : List ℕ) (query : List (List ℕ)) → AreSorted (sorted_hits collection query) }
-    ensures permutes { (collection : List ℕ) (query : List (List ℕ)) → AreHits collection query (sorted_hits collection query) }
-    ensures only { (collection : List ℕ) (query : List (List ℕ)) (hs : List Hit) → AreSorted hs → AreHits collection query hs →
+    ensures sorted { (collection : List ℕ) (query : List (List ℕ)) →
+        AreSorted (sorted_hits collection query) }
+    ensures permutes { (collection : List ℕ) (query : List (List ℕ)) →
+        AreHits collection query (sorted_hits collection query) }
+    ensures only { (collection : List ℕ) (query : List (List ℕ)) (hs : List Hit) → AreSorted hs →
+        AreHits collection query hs →
         hs ≡ sorted_hits collection query }
 {}

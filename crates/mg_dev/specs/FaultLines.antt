@@ -26,14 +26,21 @@ fault_line StoreFault = codes "mg: the store failed\n"
 fault_line ReadFault = codes "mg: the input could not be read\n"
 fault_line WriteFault = codes "mg: the output could not be written\n"
 fault_line NotBuilt = codes "mg: nothing is built under this name\n"
-fault_line (Damaged bad) = concat (codes "mg: damaged: part " ∷ printed_name bad.part ∷ codes " at " ∷ decimal bad.at ∷ codes ": found " ∷ decimal bad.found ∷ codes ", wanted " ∷ decimal bad.low ∷ codes " to " ∷ decimal bad.high ∷ codes "\n" ∷ [])
+fault_line (Damaged bad) = concat (codes "mg: damaged: part " ∷ printed_name bad.part ∷ codes " at " ∷ decimal bad.at ∷
+    codes ": found " ∷ decimal bad.found ∷ codes ", wanted " ∷ decimal bad.low ∷ codes " to " ∷ decimal bad.high ∷
+    codes "\n" ∷ [])
 fault_line NoCollection = codes "mg: there is no such collection\n"
-fault_line (TooLarge size most) = concat (codes "mg: the collection has " ∷ decimal size ∷ codes " bytes, more than " ∷ decimal most ∷ codes "\n" ∷ [])
+fault_line (TooLarge size most) = concat (codes "mg: the collection has " ∷ decimal size ∷ codes " bytes, more than " ∷
+    decimal most ∷ codes "\n" ∷ [])
 fault_line TooManyDocuments = codes "mg: more than 16777216 documents\n"
-fault_line (TooManyPieces stream) = concat (codes "mg: more than 4194304 distinct " ∷ stream_name stream ∷ codes "\n" ∷ [])
-fault_line (Changed what first second) = concat (codes "mg: the collection changed while it was read: " ∷ counted_name what ∷ codes " was " ∷ decimal first ∷ codes ", then " ∷ decimal second ∷ codes "\n" ∷ [])
+fault_line (TooManyPieces stream) = concat (codes "mg: more than 4194304 distinct " ∷ stream_name stream ∷ codes "\n" ∷
+    [])
+fault_line (Changed what first second) = concat (codes "mg: the collection changed while it was read: " ∷
+    counted_name what ∷ codes " was " ∷ decimal first ∷ codes ", then " ∷ decimal second ∷ codes "\n" ∷ [])
 fault_line Memory = codes "mg: out of memory\n"
-fault_line (NameClash part) = concat (codes "mg: the collection has the name of part " ∷ printed_name part ∷ codes "\n" ∷ [])
+fault_line (NameClash part) = concat (codes "mg: the collection has the name of part " ∷ printed_name part ∷
+    codes "\n" ∷ [])
 fault_line InputTooLong = codes "mg: the input is longer than 4294967296 bytes\n"
 fault_line SameName = codes "mg: both names are the same\n"
-fault_line (TooManyRotations count) = concat (codes "mg: the terms have " ∷ decimal count ∷ codes " rotations, more than 134217728\n" ∷ [])
+fault_line (TooManyRotations count) = concat (codes "mg: the terms have " ∷ decimal count ∷
+    codes " rotations, more than 134217728\n" ∷ [])

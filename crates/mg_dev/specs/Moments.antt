@@ -57,8 +57,10 @@ sink_at written faults lacks sink = record { written = written sink; faults = fa
 
 -- what relates the files, the reads and the faults of a store before a call to those after it
 abbrev pub StoreStep : Type 1
-StoreStep = (files_before files_now : Option Files) (reads_before reads_now : Reads) (faults_before faults_now : ℕ) → Type 0
+StoreStep = (files_before files_now : Option Files) (reads_before reads_now : Reads) (faults_before faults_now : ℕ) →
+    Type 0
 
 -- it relates a store before a call to the store after it
 abbrev pub Between : {X : Type 0} → (X → Option Files) → (X → Reads) → (X → ℕ) → X → X → StoreStep → Type 0
-Between files reads faults before now step = step (files before) (files now) (reads before) (reads now) (faults before) (faults now)
+Between files reads faults before now step = step (files before) (files now) (reads before) (reads now) (faults before)
+    (faults now)

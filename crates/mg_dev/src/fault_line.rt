@@ -17,7 +17,8 @@ pub enum Piece<'a> {
 }
 
 fn put_piece<O: Sink>(out: &mut O, piece: Piece<'_>) -> Result<(), PutErr>
-    ensures content { AfterPut (O.written out.old) (O.written out.new) (piece_text piece.entry) result }
+    ensures content { AfterPut (O.written out.old) (O.written out.new) (piece_text piece.entry)
+        result }
     ensures cause { HasPutCause (O.faults out.old) (O.faults out.new) result }
     ensures lack { HasLack (O.lacks out.old) (O.lacks out.new) result }
 {
@@ -33,7 +34,8 @@ fn put_piece<O: Sink>(out: &mut O, piece: Piece<'_>) -> Result<(), PutErr>
 /// Puts the pieces of a line, one after the other, so that none takes memory.
 #[tactic(auto, using(crate::specs::StreamLaws::stream_laws))]
 pub fn put_pieces<O: Sink>(out: &mut O, pieces: &[Piece<'_>]) -> Result<(), PutErr>
-    ensures content { AfterPut (O.written out.old) (O.written out.new) (flat_map piece_text pieces.now) result }
+    ensures content { AfterPut (O.written out.old) (O.written out.new)
+        (flat_map piece_text pieces.now) result }
     ensures cause { HasPutCause (O.faults out.old) (O.faults out.new) result }
     ensures lack { HasLack (O.lacks out.old) (O.lacks out.new) result }
 {
@@ -57,7 +59,8 @@ fn stream_name(stream: Stream) -> &'static str
 
 #[tactic(auto, unfolding(crate::specs::FaultLines::fault_line))]
 fn put_damaged<O: Sink>(out: &mut O, bad: Bad) -> Result<(), PutErr>
-    ensures content { AfterPut (O.written out.old) (O.written out.new) (fault_line (Fault.Damaged bad)) result }
+    ensures content { AfterPut (O.written out.old) (O.written out.new)
+        (fault_line (Fault.Damaged bad)) result }
     ensures cause { HasPutCause (O.faults out.old) (O.faults out.new) result }
     ensures lack { HasLack (O.lacks out.old) (O.lacks out.new) result }
 {
@@ -79,7 +82,8 @@ fn put_damaged<O: Sink>(out: &mut O, bad: Bad) -> Result<(), PutErr>
 
 #[tactic(auto, unfolding(crate::specs::FaultLines::fault_line))]
 fn put_changed<O: Sink>(out: &mut O, what: What, first: u64, second: u64) -> Result<(), PutErr>
-    ensures content { AfterPut (O.written out.old) (O.written out.new) (fault_line (Fault.Changed what first second)) result }
+    ensures content { AfterPut (O.written out.old) (O.written out.new)
+        (fault_line (Fault.Changed what first second)) result }
     ensures cause { HasPutCause (O.faults out.old) (O.faults out.new) result }
     ensures lack { HasLack (O.lacks out.old) (O.lacks out.new) result }
 {
@@ -97,7 +101,8 @@ fn put_changed<O: Sink>(out: &mut O, what: What, first: u64, second: u64) -> Res
 
 #[tactic(auto, unfolding(crate::specs::FaultLines::fault_line))]
 fn put_too_large<O: Sink>(out: &mut O, size: u64, most: u64) -> Result<(), PutErr>
-    ensures content { AfterPut (O.written out.old) (O.written out.new) (fault_line (Fault.TooLarge size most)) result }
+    ensures content { AfterPut (O.written out.old) (O.written out.new)
+        (fault_line (Fault.TooLarge size most)) result }
     ensures cause { HasPutCause (O.faults out.old) (O.faults out.new) result }
     ensures lack { HasLack (O.lacks out.old) (O.lacks out.new) result }
 {
@@ -113,7 +118,8 @@ fn put_too_large<O: Sink>(out: &mut O, size: u64, most: u64) -> Result<(), PutEr
 
 #[tactic(auto, unfolding(crate::specs::FaultLines::fault_line))]
 fn put_too_many_pieces<O: Sink>(out: &mut O, stream: Stream) -> Result<(), PutErr>
-    ensures content { AfterPut (O.written out.old) (O.written out.new) (fault_line (Fault.TooManyPieces stream)) result }
+    ensures content { AfterPut (O.written out.old) (O.written out.new)
+        (fault_line (Fault.TooManyPieces stream)) result }
     ensures cause { HasPutCause (O.faults out.old) (O.faults out.new) result }
     ensures lack { HasLack (O.lacks out.old) (O.lacks out.new) result }
 {
@@ -127,7 +133,8 @@ fn put_too_many_pieces<O: Sink>(out: &mut O, stream: Stream) -> Result<(), PutEr
 
 #[tactic(auto, unfolding(crate::specs::FaultLines::fault_line))]
 fn put_name_clash<O: Sink>(out: &mut O, part: Part) -> Result<(), PutErr>
-    ensures content { AfterPut (O.written out.old) (O.written out.new) (fault_line (Fault.NameClash part)) result }
+    ensures content { AfterPut (O.written out.old) (O.written out.new)
+        (fault_line (Fault.NameClash part)) result }
     ensures cause { HasPutCause (O.faults out.old) (O.faults out.new) result }
     ensures lack { HasLack (O.lacks out.old) (O.lacks out.new) result }
 {
@@ -141,7 +148,8 @@ fn put_name_clash<O: Sink>(out: &mut O, part: Part) -> Result<(), PutErr>
 
 #[tactic(auto, unfolding(crate::specs::FaultLines::fault_line))]
 fn put_too_many_rotations<O: Sink>(out: &mut O, count: u64) -> Result<(), PutErr>
-    ensures content { AfterPut (O.written out.old) (O.written out.new) (fault_line (Fault.TooManyRotations count)) result }
+    ensures content { AfterPut (O.written out.old) (O.written out.new)
+        (fault_line (Fault.TooManyRotations count)) result }
     ensures cause { HasPutCause (O.faults out.old) (O.faults out.new) result }
     ensures lack { HasLack (O.lacks out.old) (O.lacks out.new) result }
 {
@@ -156,7 +164,8 @@ fn put_too_many_rotations<O: Sink>(out: &mut O, count: u64) -> Result<(), PutErr
 /// Writes the fault's line, with its line feed.
 #[tactic(auto, unfolding(crate::specs::FaultLines::fault_line))]
 pub fn put_fault_line<O: Sink>(out: &mut O, fault: &Fault) -> Result<(), PutErr>
-    ensures content { AfterPut (O.written out.old) (O.written out.new) (fault_line fault.now) result }
+    ensures content { AfterPut (O.written out.old) (O.written out.new) (fault_line fault.now)
+        result }
     ensures cause { HasPutCause (O.faults out.old) (O.faults out.new) result }
     ensures lack { HasLack (O.lacks out.old) (O.lacks out.new) result }
 {

@@ -8,5 +8,6 @@ ghost use Rattle.mg_dev.specs.declared.part.Part.TheVariants.{Plain};
 /// Plain, have one full name only where both the base and the part are the same.
 pub fn names_apart()
     ensures parts { (base : List ℕ) (p q : Part) → full_name base p ≡ full_name base q → p ≡ q }
-    ensures bases { (a b : List ℕ) (p q : Part) → p ≢ Plain → q ≢ Plain → full_name a p ≡ full_name b q → (a ≡ b) × (p ≡ q) }
+    ensures bases { (a b : List ℕ) (p q : Part) → p ≢ Plain → q ≢ Plain →
+        full_name a p ≡ full_name b q → (a ≡ b) × (p ≡ q) }
 {}

@@ -7,7 +7,8 @@ use crate::Part;
 
 /// Counts one more read of the part. A count stands still at its type's end.
 pub fn count_read(reads: &mut [u64; 14], part: Part)
-    ensures { OneRead (λ q. slice_index reads.old (number q)) (λ q. slice_index reads.new (number q)) part }
+    ensures { OneRead (λ q. slice_index reads.old (number q))
+        (λ q. slice_index reads.new (number q)) part }
 {
     let i = part.number();
     reads[i] = reads[i].saturating_add(1);

@@ -26,7 +26,8 @@ pub trait Store {
 
     /// The file's size in bytes, or None where it is missing.
     fn size(&mut self, file: &FileRef<'_>) -> Result<Option<u64>, Failed>
-        ensures answer { IsSize (files self.old) (full_name file.now.base.now file.now.part) result }
+        ensures answer { IsSize (files self.old) (full_name file.now.base.now file.now.part)
+            result }
         ensures files { files self.new ≡ files self.old }
         ensures reads { SameReads (reads self.old) (reads self.new) }
         ensures cause { HasCause (faults self.old) (faults self.new) result };
@@ -36,21 +37,24 @@ pub trait Store {
     /// whether it succeeds or fails.
     fn read_at(&mut self, file: &FileRef<'_>, at: u64, buf: &mut [u8]) -> Result<usize, Failed>
         ensures bound { ReadsAtMost result buf.new }
-        ensures bytes { IsRead (files self.old) (full_name file.now.base.now file.now.part) at buf.new result }
+        ensures bytes { IsRead (files self.old) (full_name file.now.base.now file.now.part) at
+            buf.new result }
         ensures files { files self.new ≡ files self.old }
         ensures reads { OneRead (reads self.old) (reads self.new) file.now.part }
         ensures cause { HasCause (faults self.old) (faults self.new) result };
 
     /// Leaves the file there and empty. After a refusal it is as before, or there and empty.
     fn reset(&mut self, file: &FileRef<'_>) -> Result<(), PutErr>
-        ensures content { AfterReset (files self.old) (files self.new) (full_name file.now.base.now file.now.part) result }
+        ensures content { AfterReset (files self.old) (files self.new)
+            (full_name file.now.base.now file.now.part) result }
         ensures reads { SameReads (reads self.old) (reads self.new) }
         ensures cause { HasPutCause (faults self.old) (faults self.new) result };
 
     /// Adds the piece at the file's end, and makes a missing file. After a refusal the file grew
     /// by a prefix of the piece; a missing one may have been made.
     fn append(&mut self, file: &FileRef<'_>, piece: &[u8]) -> Result<(), PutErr>
-        ensures content { AfterAppend (files self.old) (files self.new) (full_name file.now.base.now file.now.part) piece.now result }
+        ensures content { AfterAppend (files self.old) (files self.new)
+            (full_name file.now.base.now file.now.part) piece.now result }
         ensures reads { SameReads (reads self.old) (reads self.new) }
         ensures cause { HasPutCause (faults self.old) (faults self.new) result };
 }

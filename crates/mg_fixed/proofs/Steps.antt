@@ -11,7 +11,8 @@ digits_more : (n y so_far : ℕ) → so_far * 2 ^ suc n + digits_of (suc n) y �
 unfolding digits_of
 digits_more n y so_far = grind (arith, two-pow-succ n)
 
-pub digits_on : (i so_far y d z whole : ℕ) → i < 8 → d ≡ digit y → z ≡ next y → so_far * 2 ^ (8 - i) + digits_of (8 - i) y ≡ whole → (so_far * 2 + d) * 2 ^ (8 - (i + 1)) + digits_of (8 - (i + 1)) z ≡ whole
+pub digits_on : (i so_far y d z whole : ℕ) → i < 8 → d ≡ digit y → z ≡ next y → so_far * 2 ^ (8 - i) + digits_of (8 - i) y ≡ whole →
+    (so_far * 2 + d) * 2 ^ (8 - (i + 1)) + digits_of (8 - (i + 1)) z ≡ whole
 digits_on i so_far y d z whole lt ed ez h =
     let e : 8 - i ≡ suc (8 - (i + 1)) = omega arith in
     rw (ed, ez) (sym (digits_more (8 - (i + 1)) y so_far) ∙ subst (λ k. so_far * 2 ^ k + digits_of k y ≡ whole) e h)
@@ -42,7 +43,8 @@ high_small x w lt high =
     let P : ℕ → Type 0 = λ k. x < 2 ^ k in
     shr_below x 32 (w - 31) (subst P e (omega (arith, two-pow-succ w)))
 
-pub lg_from : (x w i digits y whole : ℕ) → 1 ≤ x → x < 2 ^ 64 → 2 ^ w ≤ x → x < 2 * 2 ^ w → 8 ≤ i → digits * 2 ^ (8 - i) + digits_of (8 - i) y ≡ whole → whole ≡ digits_of 8 (x * 2 ^ 31 / 2 ^ w) → 256 * w + digits ≡ lg x
+pub lg_from : (x w i digits y whole : ℕ) → 1 ≤ x → x < 2 ^ 64 → 2 ^ w ≤ x → x < 2 * 2 ^ w → 8 ≤ i → digits * 2 ^ (8 - i) + digits_of (8 - i) y ≡ whole →
+    whole ≡ digits_of 8 (x * 2 ^ 31 / 2 ^ w) → 256 * w + digits ≡ lg x
 unfolding digits_of
 lg_from x w i digits y whole some fits low high le h e =
     let z : 8 - i ≡ zero = omega arith in

@@ -26,7 +26,8 @@ between_start es string high long = record {
   above = λ block e large there. let within : 4 * block < length es = slice_get_within es (4 * block) e there in absurd (omega arith);
 }
 
-pub between_step : (width : ℕ) (es : List Entry) (string : List ℕ) (low high middle : ℕ) (above : Bool) (d : Entry) (l h : ℕ) → AreEntries width 0 [] es → slice_get es (4 * middle) ≡ Some d → above ≡ is_below string d.string → Between es string low high →
+pub between_step : (width : ℕ) (es : List Entry) (string : List ℕ) (low high middle : ℕ) (above : Bool) (d : Entry) (l h : ℕ) → AreEntries width 0 [] es →
+    slice_get es (4 * middle) ≡ Some d → above ≡ is_below string d.string → Between es string low high →
     l ≡ cond above low (middle + 1) → h ≡ cond above middle high → Between es string l h
 between_step width es string low high middle true d l h are there less between l_is h_is = record {
   below = λ block e small here. between.below block e (omega arith) here;
@@ -63,13 +64,15 @@ not_from width es string low i e are around large there same =
     by_side first.0 first.3 (around.above (i / 4) first.0 large first.3) (cases_lt (4 * (i / 4)) i)
   where
     by_side : (f : Entry) → slice_get es (4 * (i / 4)) ≡ Some f → is_below string f.string ≡ true → (4 * (i / 4) < i) ⊎ (i ≤ 4 * (i / 4)) → ⊥
-    by_side f here above (inl before) = not_itself string (ap (is_below string) (sym same) ∙ below_trans string f.string e.string above (rising width 0 [] es (4 * (i / 4)) i f e are before here there))
+    by_side f here above (inl before) = not_itself string (ap (is_below string) (sym same)
+        ∙ below_trans string f.string e.string above (rising width 0 [] es (4 * (i / 4)) i f e are before here there))
     by_side f here above (inr at) = not_itself string (ap (is_below string) (sym (ap (λ (x : Entry). x.string) (same_there es (4 * (i / 4)) i f e (omega arith) here there) ∙ same)) ∙ above)
 
 pub none_at_all : (width : ℕ) (es : List Entry) (string : List ℕ) → AreEntries width 0 [] es → Around es string 0 → IsAbsent string es
 none_at_all width es string are around i e there same = not_from width es string 0 i e are around (omega arith) there same
 
-pub none_elsewhere : (width : ℕ) (es : List Entry) (string : List ℕ) (block : ℕ) → AreEntries width 0 [] es → Around es string (block + 1) → 4 * block < length es → NoneAmong es (4 * block) 4 string → IsAbsent string es
+pub none_elsewhere : (width : ℕ) (es : List Entry) (string : List ℕ) (block : ℕ) → AreEntries width 0 [] es → Around es string (block + 1) →
+    4 * block < length es → NoneAmong es (4 * block) 4 string → IsAbsent string es
 none_elsewhere width es string block are around within none i e there same = by_side (cases_lt i (4 * block)) (cases_lt i (4 * block + 4))
   where
     first : (f : Entry) × (slice_get es (4 * block) ≡ Some f)
@@ -77,7 +80,8 @@ none_elsewhere width es string block are around within none i e there same = by_
 
     by_side : (i < 4 * block) ⊎ (4 * block ≤ i) → (i < 4 * block + 4) ⊎ (4 * block + 4 ≤ i) → ⊥
     by_side (inl before) more =
-        true_is_not_false (sym (ap (λ t. is_below t first.0.string) (sym same) ∙ rising width 0 [] es i (4 * block) e first.0 are before there first.1) ∙ around.below block first.0 (omega arith) first.1)
+        true_is_not_false (sym (ap (λ t. is_below t first.0.string) (sym same) ∙ rising width 0 [] es i (4 * block) e first.0 are before there first.1)
+        ∙ around.below block first.0 (omega arith) first.1)
       where
         true_is_not_false : true ≡ false → ⊥
         true_is_not_false f = cc
@@ -87,7 +91,8 @@ none_elsewhere width es string block are around within none i e there same = by_
 pub stands_same : (r s : Fronted) (f g : Option Files) (es : List Entry) → SameParts r s → g ≡ f → FrontStands r f es → FrontStands s g es
 stands_same r s f g es same e stands = record {
   told = subst IsSome (sym e) stands.told;
-  strings = subst (λ w. IsFront w (bytes_at g s.strings.name) es) (sym same.width) (subst (λ n. IsFront r.width (bytes_at g n) es) (sym same.strings) (subst (λ h. IsFront r.width (bytes_at h r.strings.name) es) (sym e) stands.strings));
+  strings = subst (λ w. IsFront w (bytes_at g s.strings.name) es) (sym same.width)
+      (subst (λ n. IsFront r.width (bytes_at g n) es) (sym same.strings) (subst (λ h. IsFront r.width (bytes_at h r.strings.name) es) (sym e) stands.strings));
   places = ap (bytes_at g) same.places ∙ ap (λ h. bytes_at h r.places.name) e ∙ stands.places;
   count = stands.count ∙ sym same.count;
   small = subst (λ n. length (bytes_at g n) < 2 ^ 32) (sym same.strings) (subst (λ h. length (bytes_at h r.strings.name) < 2 ^ 32) (sym e) stands.small);
@@ -104,10 +109,12 @@ lost_same (Bad bad) r s f g block same e (inl none) = inl (record {
 lost_same (Bad bad) r s f g block same e (inr none) = inr (record {
   is = subst (λ p. IsBad bad p bad.at 1 1 0) same.strings_part none.is;
   small = none.small;
-  told = λ told. subst (λ h. take 4 (drop (4 * block) (bytes_at h r.places.name)) ≡ four bad.at) e (subst (λ n. take 4 (drop (4 * block) (bytes_at g n)) ≡ four bad.at) same.places (none.told (subst IsSome (sym e) told)));
+  told = λ told. subst (λ h. take 4 (drop (4 * block) (bytes_at h r.places.name)) ≡ four bad.at) e
+      (subst (λ n. take 4 (drop (4 * block) (bytes_at g n)) ≡ four bad.at) same.places (none.told (subst IsSome (sym e) told)));
 })
 
-pub lost_among : {T : Type 0} (result : Result T PartErr) (r s : Fronted) (f g : Option Files) (block : ℕ) → 4 * block < r.count → SameParts r s → g ≡ f → IfErr result (λ refusal. IsLost refusal s g block) → IfErr result (λ refusal. IsLostAmong refusal r f)
+pub lost_among : {T : Type 0} (result : Result T PartErr) (r s : Fronted) (f g : Option Files) (block : ℕ) → 4 * block < r.count → SameParts r s → g ≡ f →
+    IfErr result (λ refusal. IsLost refusal s g block) → IfErr result (λ refusal. IsLostAmong refusal r f)
 lost_among (Ok value) r s f g block within same e lost = tt
 lost_among (Err refusal) r s f g block within same e lost = (block, within, lost_same refusal r s f g block same e lost)
 
@@ -117,7 +124,8 @@ none_behind es from most string (inl last) none k e within here same = let there
 none_behind es from most string (inr full) none k e within here same = none k e (omega arith) here same
 
 -- the number of a string, from its block's answer
-pub found_in : (width : ℕ) (es : List Entry) (string : List ℕ) (block : ℕ) (r : Result (Option ℕ) PartErr) (out : FrontEntry) → AreEntries width 0 [] es → Around es string (block + 1) → 4 * block < length es → AnswersIn r block width string out es → AnswersFind r width string out es
+pub found_in : (width : ℕ) (es : List Entry) (string : List ℕ) (block : ℕ) (r : Result (Option ℕ) PartErr) (out : FrontEntry) → AreEntries width 0 [] es →
+    Around es string (block + 1) → 4 * block < length es → AnswersIn r block width string out es → AnswersFind r width string out es
 found_in width es string block (Ok (Some i)) out are around within answer = answer
 found_in width es string block (Ok None) out are around within none = none_elsewhere width es string block are around within none
 found_in width es string block (Err Device) out are around within answer = tt

@@ -59,11 +59,15 @@ module _ (width i : ℕ) (before bytes : List ℕ) (at : ℕ) where
   whole_no_follow n s e is above =
       ap (read_whole width i before) (head_is bytes at n e) ∙ fails _ _ (then_false _ _ (then_false _ _ (ap (λ t. i == 0 || is_below before t) (sym is) ∙ above)))
 
-  pub whole_yes : (n : ℕ) (s f : List ℕ) (size : ℕ) → Some n ≡ slice_get bytes at → n ≤ 255 → s ≡ take n (drop (at + 1) bytes) → n ≤ length (drop (at + 1) bytes) → f ≡ take width (drop (at + 1 + n) bytes) → width ≤ length (drop (at + 1 + n) bytes) →
+  pub whole_yes : (n : ℕ) (s f : List ℕ) (size : ℕ) → Some n ≡ slice_get bytes at → n ≤ 255 → s ≡ take n (drop (at + 1) bytes) →
+      n ≤ length (drop (at + 1) bytes) → f ≡ take width (drop (at + 1 + n) bytes) → width ≤ length (drop (at + 1 + n) bytes) →
       (i == 0 || is_below before s) ≡ true → size ≡ n + width + 1 → read_whole width i before (drop at bytes) ≡ Some (record { entry = record { string = s; field = f }; size = size })
   whole_yes n s f size e small is enough is_field far above count =
       ap (read_whole width i before) (head_is bytes at n e)
-      ∙ passes _ _ (first_true _ _ (le_true _ _ small) (first_true _ _ (le_true (n + width) (length (drop (at + 1) bytes)) (omega (arith, length-drop (at + 1 + n) bytes, length-drop (at + 1) bytes))) (ap (λ t. i == 0 || is_below before t) (sym is) ∙ above)))
+      ∙ passes _ _
+      (first_true _ _ (le_true _ _ small) (first_true _ _
+      (le_true (n + width) (length (drop (at + 1) bytes)) (omega (arith, length-drop (at + 1 + n) bytes, length-drop (at + 1) bytes)))
+      (ap (λ t. i == 0 || is_below before t) (sym is) ∙ above)))
       ∙ ap Some (λ j. record { entry = record { string = sym is j; field = field_is j }; size = sym count j })
     where
       field_is : take width (drop n (drop (at + 1) bytes)) ≡ f
@@ -100,16 +104,23 @@ module _ (width : ℕ) (before bytes : List ℕ) (at : ℕ) where
   pub cut_short : (k n : ℕ) → Some k ≡ slice_get bytes at → Some n ≡ slice_get bytes (at + 1) → length (drop (at + 2) bytes) < n + width → read_cut width before (drop at bytes) ≡ None
   cut_short k n e f short = ap (read_cut width before) (heads k n e f) ∙ fails _ _ (then_false _ _ (then_false _ _ (first_false _ _ (le_false (n + width) (length (drop (at + 2) bytes)) short))))
 
-  pub cut_no_rise : (k n : ℕ) (s : List ℕ) → Some k ≡ slice_get bytes at → Some n ≡ slice_get bytes (at + 1) → s ≡ take n (drop (at + 2) bytes) → rises_after_prefix (drop k before) s ≡ false → read_cut width before (drop at bytes) ≡ None
+  pub cut_no_rise : (k n : ℕ) (s : List ℕ) → Some k ≡ slice_get bytes at → Some n ≡ slice_get bytes (at + 1) → s ≡ take n (drop (at + 2) bytes) →
+      rises_after_prefix (drop k before) s ≡ false → read_cut width before (drop at bytes) ≡ None
   cut_no_rise k n s e f is above =
-      ap (read_cut width before) (heads k n e f) ∙ fails (nat_le k (length before) && (nat_le (k + n) 255 && (nat_le (n + width) (length (drop (at + 2) bytes)) && rises_after_prefix (drop k before) (take n (drop (at + 2) bytes))))) _ (then_false (nat_le k (length before)) _ (then_false (nat_le (k + n) 255) _ (then_false (nat_le (n + width) (length (drop (at + 2) bytes))) _ (ap (rises_after_prefix (drop k before)) (sym is) ∙ above))))
+      ap (read_cut width before) (heads k n e f) ∙ fails (nat_le k (length before)
+      && (nat_le (k + n) 255 && (nat_le (n + width) (length (drop (at + 2) bytes)) && rises_after_prefix (drop k before) (take n (drop (at + 2) bytes))))) _
+      (then_false (nat_le k (length before)) _ (then_false (nat_le (k + n) 255) _
+      (then_false (nat_le (n + width) (length (drop (at + 2) bytes))) _ (ap (rises_after_prefix (drop k before)) (sym is) ∙ above))))
 
-  pub cut_yes : (k n : ℕ) (string s f : List ℕ) (size : ℕ) → Some k ≡ slice_get bytes at → Some n ≡ slice_get bytes (at + 1) → k ≤ length before → k + n ≤ 255 → s ≡ take n (drop (at + 2) bytes) → n ≤ length (drop (at + 2) bytes) →
+  pub cut_yes : (k n : ℕ) (string s f : List ℕ) (size : ℕ) → Some k ≡ slice_get bytes at → Some n ≡ slice_get bytes (at + 1) → k ≤ length before → k + n ≤ 255 →
+      s ≡ take n (drop (at + 2) bytes) → n ≤ length (drop (at + 2) bytes) →
       f ≡ take width (drop (at + 2 + n) bytes) → width ≤ length (drop (at + 2 + n) bytes) → rises_after_prefix (drop k before) s ≡ true → string ≡ take k before ++ s → size ≡ n + width + 2 →
       read_cut width before (drop at bytes) ≡ Some (record { entry = record { string = string; field = f }; size = size })
   cut_yes k n string s f size e d within small is enough is_field far above all count =
       ap (read_cut width before) (heads k n e d)
-      ∙ passes _ _ (first_true _ _ (le_true _ _ within) (first_true _ _ (le_true _ _ small) (first_true _ _ (le_true (n + width) (length (drop (at + 2) bytes)) (omega (arith, length-drop (at + 2 + n) bytes, length-drop (at + 2) bytes))) (ap (rises_after_prefix (drop k before)) (sym is) ∙ above))))
+      ∙ passes _ _ (first_true _ _ (le_true _ _ within) (first_true _ _ (le_true _ _ small)
+      (first_true _ _ (le_true (n + width) (length (drop (at + 2) bytes)) (omega (arith, length-drop (at + 2 + n) bytes, length-drop (at + 2) bytes)))
+      (ap (rises_after_prefix (drop k before)) (sym is) ∙ above))))
       ∙ ap Some (λ j. record { entry = record { string = string_is j; field = field_is j }; size = sym count j })
     where
       field_is : take width (drop n (drop (at + 2) bytes)) ≡ f

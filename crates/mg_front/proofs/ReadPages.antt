@@ -52,22 +52,29 @@ held_more held p q u pq qu = held_after_more 4096 held (8 * p) (8 * q) (8 * u) (
 -- ---- what the feed's calls read
 
 module _ {files files_now : Option Files} {faults faults_now : ℕ} (old new : Paging) (before now : Reads) where
-  within_count : (a b : ℕ) → ReadsWithin (feeding_of 4096 old) (feeding_of 4096 new) (of_store files faults before) (of_store files_now faults_now now) a b → now old.part ≤ before old.part + to_read 4096 old.held a b
+  within_count : (a b : ℕ) → ReadsWithin (feeding_of 4096 old) (feeding_of 4096 new) (of_store files faults before) (of_store files_now faults_now now) a b →
+      now old.part ≤ before old.part + to_read 4096 old.held a b
   within_count a b within = within.device old.part refl
 
-  byte_count : (at : ℕ) → ReadsWithin (feeding_of 4096 old) (feeding_of 4096 new) (of_store files faults before) (of_store files_now faults_now now) (8 * at) (8 * at + 1) → now old.part ≤ before old.part + lacks old.held (at / 4096)
+  byte_count : (at : ℕ) → ReadsWithin (feeding_of 4096 old) (feeding_of 4096 new) (of_store files faults before) (of_store files_now faults_now now) (8 * at)
+      (8 * at + 1) → now old.part ≤ before old.part + lacks old.held (at / 4096)
   byte_count at within =
       let first : 8 * at / 32768 ≡ at / 4096 = omega arith in
       let count = range_some old.held (8 * at) (8 * at + 1) (omega arith) in
       let same : 8 * at + 1 - 1 ≡ 8 * at = omega arith in
-      let known : to_read 4096 old.held (8 * at) (8 * at + 1) ≡ 8 * at / 32768 - 8 * at / 32768 + lacks old.held (at / 4096) = count ∙ ap (λ (p : ℕ). p / 32768 - 8 * at / 32768 + lacks old.held (8 * at / 32768)) same ∙ ap (λ (p : ℕ). 8 * at / 32768 - 8 * at / 32768 + lacks old.held p) first in
+      let known : to_read 4096 old.held (8 * at) (8 * at + 1) ≡ 8 * at / 32768 - 8 * at / 32768 + lacks old.held (at / 4096) = count
+      ∙ ap (λ (p : ℕ). p / 32768 - 8 * at / 32768 + lacks old.held (8 * at / 32768)) same
+      ∙ ap (λ (p : ℕ). 8 * at / 32768 - 8 * at / 32768 + lacks old.held p) first in
       omega (arith, known, within_count (8 * at) (8 * at + 1) within)
 
   -- one byte
-  pub byte_to : (at : ℕ) → ReadsWithin (feeding_of 4096 old) (feeding_of 4096 new) (of_store files faults before) (of_store files_now faults_now now) (8 * at) (8 * at + 1) → ReadTo old before now at (at + 1)
+  pub byte_to : (at : ℕ) → ReadsWithin (feeding_of 4096 old) (feeding_of 4096 new) (of_store files faults before) (of_store files_now faults_now now) (8 * at)
+      (8 * at + 1) → ReadTo old before now at (at + 1)
   byte_to at within = record { pages = omega (arith, byte_count at within) }
 
-  byte_on : (at : ℕ) → new.held ≡ Some (page_of 4096 (8 * at)) → ReadsWithin (feeding_of 4096 old) (feeding_of 4096 new) (of_store files faults before) (of_store files_now faults_now now) (8 * at) (8 * at + 1) → ReadOn old new before now at (at + 1)
+  byte_on : (at : ℕ) → new.held ≡ Some (page_of 4096 (8 * at)) →
+      ReadsWithin (feeding_of 4096 old) (feeding_of 4096 new) (of_store files faults before) (of_store files_now faults_now now) (8 * at) (8 * at + 1) →
+      ReadOn old new before now at (at + 1)
   byte_on at held within = record { pages = omega (arith, byte_count at within, at_next (cases_lt (at / 4096) ((at + 1) / 4096))); order = omega arith; held = held ∙ sym (held_one old.held at) }
     where
       at_next : (at / 4096 < (at + 1) / 4096) ⊎ ((at + 1) / 4096 ≤ at / 4096) → lacks new.held ((at + 1) / 4096) + at / 4096 ≤ (at + 1) / 4096
@@ -76,16 +83,20 @@ module _ {files files_now : Option Files} {faults faults_now : ℕ} (old new : P
           let here : 8 * at / 32768 ≡ (at + 1) / 4096 = omega arith in
           omega (arith, ap (λ (h : Option ℕ). lacks h ((at + 1) / 4096)) held ∙ lacks_none (8 * at / 32768) ((at + 1) / 4096) here)
 
-  pub byte_on_some : (at : ℕ) (byte : Option ℕ) → OnSome byte (new.held ≡ Some (page_of 4096 (8 * at))) → ReadsWithin (feeding_of 4096 old) (feeding_of 4096 new) (of_store files faults before) (of_store files_now faults_now now) (8 * at) (8 * at + 1) → OnSome byte (ReadOn old new before now at (at + 1))
+  pub byte_on_some : (at : ℕ) (byte : Option ℕ) → OnSome byte (new.held ≡ Some (page_of 4096 (8 * at))) →
+      ReadsWithin (feeding_of 4096 old) (feeding_of 4096 new) (of_store files faults before) (of_store files_now faults_now now) (8 * at) (8 * at + 1) →
+      OnSome byte (ReadOn old new before now at (at + 1))
   byte_on_some at None held within = tt
   byte_on_some at (Some b) held within = byte_on at held within
 
   -- so many bytes
-  bytes_to : (at n : ℕ) → ReadsWithin (feeding_of 4096 old) (feeding_of 4096 new) (of_store files faults before) (of_store files_now faults_now now) (8 * at) (8 * (at + n)) → ReadTo old before now at (at + n)
+  bytes_to : (at n : ℕ) → ReadsWithin (feeding_of 4096 old) (feeding_of 4096 new) (of_store files faults before) (of_store files_now faults_now now) (8 * at)
+      (8 * (at + n)) → ReadTo old before now at (at + n)
   bytes_to at zero within = record { pages = omega (arith, range_none old.held at, within_count (8 * at) (8 * (at + 0)) within) }
   bytes_to at (suc n) within = record { pages = omega (arith, bytes_some old.held at (suc n) (omega arith), within_count (8 * at) (8 * (at + suc n)) within) }
 
-  bytes_on : (at n : ℕ) → ReadsWithin (feeding_of 4096 old) (feeding_of 4096 new) (of_store files faults before) (of_store files_now faults_now now) (8 * at) (8 * (at + n)) → new.held ≡ held_after 4096 old.held (8 * at) (8 * (at + n)) → ReadOn old new before now at (at + n)
+  bytes_on : (at n : ℕ) → ReadsWithin (feeding_of 4096 old) (feeding_of 4096 new) (of_store files faults before) (of_store files_now faults_now now) (8 * at)
+      (8 * (at + n)) → new.held ≡ held_after 4096 old.held (8 * at) (8 * (at + n)) → ReadOn old new before now at (at + n)
   bytes_on at zero within held =
       let same : new.held ≡ old.held = held ∙ held_same old.held at in
       let here : lacks new.held ((at + 0) / 4096) ≡ lacks old.held (at / 4096) = ap (λ (h : Option ℕ). lacks h ((at + 0) / 4096)) same ∙ ap (λ (p : ℕ). lacks old.held (p / 4096)) (omega arith) in
@@ -93,7 +104,16 @@ module _ {files files_now : Option Files} {faults faults_now : ℕ} (old new : P
     where
       held_same : (held : Option ℕ) (at : ℕ) → held_after 4096 held (8 * at) (8 * (at + 0)) ≡ held
       held_same held at = grind (arith, common_steps)
-  bytes_on at (suc n) within held = record { pages = omega (arith, at_next (cases_lt ((at + suc n - 1) / 4096) ((at + suc n) / 4096)), bytes_some old.held at (suc n) (omega arith), within_count (8 * at) (8 * (at + suc n)) within); order = omega arith; held = held }
+  bytes_on at (suc n) within held = record {
+    pages = omega (
+      arith,
+      at_next (cases_lt ((at + suc n - 1) / 4096) ((at + suc n) / 4096)),
+      bytes_some old.held at (suc n) (omega arith),
+      within_count (8 * at) (8 * (at + suc n)) within,
+    );
+    order = omega arith;
+    held = held;
+  }
     where
       held_last : (held : Option ℕ) (a b : ℕ) → a < b → held_after 4096 held a b ≡ Some ((b - 1) / 32768)
       held_last held a b lt = grind (arith, common_steps)
@@ -102,16 +122,24 @@ module _ {files files_now : Option Files} {faults faults_now : ℕ} (old new : P
       at_next (inl other) = omega (arith, lacks_most new.held ((at + suc n) / 4096))
       at_next (inr same) =
           let here : (8 * (at + suc n) - 1) / 32768 ≡ (at + suc n) / 4096 = omega arith in
-          omega (arith, ap (λ (h : Option ℕ). lacks h ((at + suc n) / 4096)) (held ∙ held_last old.held (8 * at) (8 * (at + suc n)) (omega arith)) ∙ lacks_none ((8 * (at + suc n) - 1) / 32768) ((at + suc n) / 4096) here)
+          omega (
+            arith,
+            ap (λ (h : Option ℕ). lacks h ((at + suc n) / 4096)) (held ∙ held_last old.held (8 * at) (8 * (at + suc n)) (omega arith))
+                ∙ lacks_none ((8 * (at + suc n) - 1) / 32768) ((at + suc n) / 4096) here,
+          )
 
-  pub bytes_to_as : (at n m : ℕ) → n ≡ m → ReadsWithin (feeding_of 4096 old) (feeding_of 4096 new) (of_store files faults before) (of_store files_now faults_now now) (8 * at) (8 * (at + n)) → ReadTo old before now at (at + m)
+  pub bytes_to_as : (at n m : ℕ) → n ≡ m → ReadsWithin (feeding_of 4096 old) (feeding_of 4096 new) (of_store files faults before)
+      (of_store files_now faults_now now) (8 * at) (8 * (at + n)) → ReadTo old before now at (at + m)
   bytes_to_as at n m same within = subst (λ k. ReadTo old before now at (at + k)) same (bytes_to at n within)
 
-  pub bytes_on_as : (at n m : ℕ) → n ≡ m → ReadsWithin (feeding_of 4096 old) (feeding_of 4096 new) (of_store files faults before) (of_store files_now faults_now now) (8 * at) (8 * (at + n)) → new.held ≡ held_after 4096 old.held (8 * at) (8 * (at + n)) → ReadOn old new before now at (at + m)
+  pub bytes_on_as : (at n m : ℕ) → n ≡ m → ReadsWithin (feeding_of 4096 old) (feeding_of 4096 new) (of_store files faults before)
+      (of_store files_now faults_now now) (8 * at) (8 * (at + n)) → new.held ≡ held_after 4096 old.held (8 * at) (8 * (at + n)) →
+      ReadOn old new before now at (at + m)
   bytes_on_as at n m same within held = subst (λ k. ReadOn old new before now at (at + k)) same (bytes_on at n within held)
 
   -- four bytes at a multiple of four lie on one page
-  pub four_page : (block : ℕ) → ReadsWithin (feeding_of 4096 old) (feeding_of 4096 new) (of_store files faults before) (of_store files_now faults_now now) (8 * (4 * block)) (8 * (4 * block + 4)) → now old.part ≤ before old.part + 1
+  pub four_page : (block : ℕ) → ReadsWithin (feeding_of 4096 old) (feeding_of 4096 new) (of_store files faults before) (of_store files_now faults_now now)
+      (8 * (4 * block)) (8 * (4 * block + 4)) → now old.part ≤ before old.part + 1
   four_page block within =
       let same : (4 * block + 4 - 1) / 4096 ≡ 4 * block / 4096 = omega arith in
       omega (arith, bytes_some old.held (4 * block) 4 (lit< tt), lacks_most old.held (4 * block / 4096), within_count (8 * (4 * block)) (8 * (4 * block + 4)) within)
@@ -179,7 +207,8 @@ read_first a b r s size none read = omega (arith, from_none, at_end (cases_lt 0 
             ap (λ (h : Option ℕ). lacks h (size / 4096)) held
 
 -- and where it was refused before its end, one page more at most, for the longest entry is shorter than a page
-pub read_first_to : (a b : Paging) (r s t : Reads) (place size : ℕ) → a.held ≡ None → b.part ≡ a.part → place ≤ size → ReadOn a b r s 0 place → ReadTo b s t place (place + 281) → t a.part ≤ r a.part + div_ceil size 4096 + 1
+pub read_first_to : (a b : Paging) (r s t : Reads) (place size : ℕ) → a.held ≡ None → b.part ≡ a.part → place ≤ size → ReadOn a b r s 0 place →
+    ReadTo b s t place (place + 281) → t a.part ≤ r a.part + div_ceil size 4096 + 1
 read_first_to a b r s t place size none part within read refused =
     let s_is : s b.part ≡ s a.part = ap s part in
     let t_is : t b.part ≡ t a.part = ap t part in
@@ -191,14 +220,16 @@ other_part : (p q : Part) → same_part p q ≡ false → same_part q p ≡ fals
 other_part p q apart = grind (arith, nat_tests)
 
 -- a place, and nothing more
-pub place_look : (strings places : Part) (f g : Option Files) (r s : Reads) (x y : ℕ) → same_part strings places ≡ false → s places ≤ r places + 1 → Looked places f g r s x y → ReadLooks strings places r s 1
+pub place_look : (strings places : Part) (f g : Option Files) (r s : Reads) (x y : ℕ) → same_part strings places ≡ false → s places ≤ r places + 1 →
+    Looked places f g r s x y → ReadLooks strings places r s 1
 place_look strings places f g r s x y apart page one = record {
   places_read = page;
   strings_read = omega (arith, one.others strings apart);
 }
 
 -- a place, and the entries from it on
-pub one_look : (a : Paging) (places : Part) (f g h : Option Files) (r s t : Reads) (x y z from : ℕ) → same_part a.part places ≡ false → s places ≤ r places + 1 → Looked places f g r s x y → Looked a.part g h s t y z → ReadTo a s t from (from + 1124) → ReadLooks a.part places r t 1
+pub one_look : (a : Paging) (places : Part) (f g h : Option Files) (r s t : Reads) (x y z from : ℕ) → same_part a.part places ≡ false →
+    s places ≤ r places + 1 → Looked places f g r s x y → Looked a.part g h s t y z → ReadTo a s t from (from + 1124) → ReadLooks a.part places r t 1
 one_look a places f g h r s t x y z from apart page one two read =
     let few : (from + 1124) / 4096 ≤ from / 4096 + 1 = omega arith in
     record {
@@ -219,8 +250,10 @@ looks_wider strings places r s m n wider one = record {
 }
 
 -- a look at the parts that are the same as before
-pub look_as : (strings places strings_now places_now : Part) (r s : Reads) → strings_now ≡ strings → places_now ≡ places → same_part strings places ≡ false → (same_part strings_now places_now ≡ false → ReadLooks strings_now places_now r s 1) → ReadLooks strings places r s 1
-look_as strings places strings_now places_now r s e d apart look = subst (λ p. ReadLooks strings p r s 1) d (subst (λ q. ReadLooks q places_now r s 1) e (look (ap (λ q. same_part q places_now) e ∙ ap (same_part strings) d ∙ apart)))
+pub look_as : (strings places strings_now places_now : Part) (r s : Reads) → strings_now ≡ strings → places_now ≡ places → same_part strings places ≡ false →
+    (same_part strings_now places_now ≡ false → ReadLooks strings_now places_now r s 1) → ReadLooks strings places r s 1
+look_as strings places strings_now places_now r s e d apart look = subst (λ p. ReadLooks strings p r s 1) d
+    (subst (λ q. ReadLooks q places_now r s 1) e (look (ap (λ q. same_part q places_now) e ∙ ap (same_part strings) d ∙ apart)))
 
 -- ---- halving
 
@@ -237,12 +270,19 @@ halved_none strings places r blocks small =
     let ceil = is_ceil (blocks + 1) (omega arith) (omega arith) in
     record { looked = 0; halvings = ceil_log2 (blocks + 1); left_is = omega (arith, ceil.high); all = omega arith; read = record { places_read = omega arith; strings_read = omega arith } }
 
-pub halved_more : (strings places : Part) (r s t : Reads) (left less most : ℕ) → 0 < left → less ≤ left / 2 → Halved strings places r s left most → ReadLooks strings places s t 1 → Halved strings places r t less most
+pub halved_more : (strings places : Part) (r s t : Reads) (left less most : ℕ) → 0 < left → less ≤ left / 2 → Halved strings places r s left most →
+    ReadLooks strings places s t 1 → Halved strings places r t less most
 halved_more strings places r s t left less most some half before one = by_halvings before.halvings before.left_is before.all
   where
     by_halvings : (h : ℕ) → left < 2 ^ h → before.looked + h ≤ most → Halved strings places r t less most
     by_halvings zero small all = absurd (omega (arith, small))
-    by_halvings (suc h) small all = record { looked = before.looked + 1; halvings = h; left_is = omega (arith, small, two-pow-succ h); all = omega arith; read = looks_more strings places r s t before.looked 1 before.read one }
+    by_halvings (suc h) small all = record {
+      looked = before.looked + 1;
+      halvings = h;
+      left_is = omega (arith, small, two-pow-succ h);
+      all = omega arith;
+      read = looks_more strings places r s t before.looked 1 before.read one;
+    }
 
 -- one look more, where something is left
 pub halved_look : (strings places : Part) (r s t : Reads) (left most : ℕ) → 0 < left → Halved strings places r s left most → ReadLooks strings places s t 1 → ReadLooks strings places r t most

@@ -30,7 +30,8 @@ pub record NextOf (width number place : ℕ) (out : FrontEntry) (es : List Entry
   pub on : place + size ≡ length (front (take (4 * block + (number + 1)) es))
 
 -- the next entry of a block is read
-pub step : (width number place last : ℕ) (out : FrontEntry) (es : List Entry) (bytes : List ℕ) (block : ℕ) → IsFront width bytes es → ReadSoFar width number place out es block → number ≤ last → last < 4 → 4 * block + last < length es →
+pub step : (width number place last : ℕ) (out : FrontEntry) (es : List Entry) (bytes : List ℕ) (block : ℕ) → IsFront width bytes es →
+    ReadSoFar width number place out es block → number ≤ last → last < 4 → 4 * block + last < length es →
     (e : Entry) × (size : ℕ) × NextOf width number place out es bytes block e size
 step width number place last out es bytes block is so_far up few within =
     let j = 4 * block + number in
@@ -41,36 +42,50 @@ step width number place last out es bytes block is so_far up few within =
     let up_one : 4 * block + (number + 1) ≡ suc (4 * block + number) = omega arith in
     let code = entry_bytes (length head) (last_string [] head) e in
     let read = read_next width head e some.1 (subst (AreEntries width 0 []) some.2 is.entries) in
-    let bytes_are : drop place bytes ≡ drop (length (front (take (4 * block + number) es))) (front (take (4 * block + number) es ++ some.0 ∷ some.1)) = ap (drop place) (is.bytes_are ∙ ap front some.2) ∙ ap (λ m. drop m (front (head ++ e ∷ some.1))) so_far.place_is in
-    let here : read_entry width (4 * block + number) (last_string [] head) (drop place bytes) ≡ Some (record { entry = e; size = length code }) = ap (read_entry width (4 * block + number) (last_string [] head)) bytes_are ∙ ap (λ m. read_entry width m (last_string [] head) (drop (length (front head)) (front (head ++ e ∷ some.1)))) (sym long) ∙ read in (
+    let bytes_are : drop place bytes ≡ drop (length (front (take (4 * block + number) es))) (front (take (4 * block + number) es ++ some.0 ∷ some.1)) =
+    ap (drop place) (is.bytes_are ∙ ap front some.2) ∙ ap (λ m. drop m (front (head ++ e ∷ some.1))) so_far.place_is in
+    let here : read_entry width (4 * block + number) (last_string [] head) (drop place bytes)
+    ≡ Some (record { entry = e; size = length code }) = ap (read_entry width (4 * block + number) (last_string [] head)) bytes_are
+    ∙ ap (λ m. read_entry width m (last_string [] head) (drop (length (front head)) (front (head ++ e ∷ some.1)))) (sym long) ∙ read in (
       e,
       length code,
       record {
         there = some.3;
         reads = by_order (cases_lt 0 number) here;
-        on = sym (ap (λ m. length (front (take m es))) up_one ∙ ap (λ t. length (front t)) some.4 ∙ ap length (front_more head e) ∙ length-append (front head) code ∙ ap (λ m. m + length code) (sym so_far.place_is));
+        on = sym (ap (λ m. length (front (take m es))) up_one ∙ ap (λ t. length (front t)) some.4 ∙ ap length (front_more head e)
+            ∙ length-append (front head) code ∙ ap (λ m. m + length code) (sym so_far.place_is));
       },
     )
   where
-    by_order : (0 < number) ⊎ (number ≤ 0) → {it : Found} → read_entry width (4 * block + number) (last_string [] (take (4 * block + number) es)) (drop place bytes) ≡ Some it → read_entry width number (take out.length out.string) (drop place bytes) ≡ Some it
+    by_order : (0 < number) ⊎ (number ≤ 0) → {it : Found} →
+        read_entry width (4 * block + number) (last_string [] (take (4 * block + number) es)) (drop place bytes) ≡ Some it →
+        read_entry width number (take out.length out.string) (drop place bytes) ≡ Some it
     by_order (inl later) h =
-        let before : last_string [] (take (4 * block + number) es) ≡ take out.length out.string = last_taken [] es (4 * block + number - 1) (4 * block + number) (entry_of width out) (omega arith) (so_far.last_is later) in
-        read_later width (4 * block + number) number (take out.length out.string) (drop place bytes) _ (omega arith) later (ap (λ b. read_entry width (4 * block + number) b (drop place bytes)) (sym before) ∙ h)
+        let before : last_string [] (take (4 * block + number) es) ≡ take out.length out.string =
+        last_taken [] es (4 * block + number - 1) (4 * block + number) (entry_of width out) (omega arith) (so_far.last_is later) in
+        read_later width (4 * block + number) number (take out.length out.string) (drop place bytes) _ (omega arith) later
+        (ap (λ b. read_entry width (4 * block + number) b (drop place bytes)) (sym before) ∙ h)
     by_order (inr first) h =
         let zero_is : number ≡ 0 = omega arith in
-        ap (λ m. read_entry width m (take out.length out.string) (drop place bytes)) zero_is ∙ read_first width (4 * block + number) (last_string [] (take (4 * block + number) es)) (take out.length out.string) (drop place bytes) _ (omega arith) h
+        ap (λ m. read_entry width m (take out.length out.string) (drop place bytes)) zero_is
+        ∙ read_first width (4 * block + number) (last_string [] (take (4 * block + number) es)) (take out.length out.string) (drop place bytes) _
+        (omega arith) h
 
-pub stepped : (width number place last size : ℕ) (before out : FrontEntry) (o : Option ℕ) (es : List Entry) (bytes : List ℕ) (block : ℕ) → IsFront width bytes es → ReadSoFar width number place before es block → number ≤ last → last < 4 → 4 * block + last < length es →
+pub stepped : (width number place last size : ℕ) (before out : FrontEntry) (o : Option ℕ) (es : List Entry) (bytes : List ℕ) (block : ℕ) →
+    IsFront width bytes es → ReadSoFar width number place before es block → number ≤ last → last < 4 → 4 * block + last < length es →
     o ≡ Some size → read_entry width number (take before.length before.string) (drop place bytes) ≡ found_of width out o → ReadSoFar width (number + 1) (place + size) out es block
 stepped width number place last size before out o es bytes block is so_far up few within some read =
     let next = step width number place last before es bytes block is so_far up few within in
-    let found : ◌≡◌ {A = Found} (record { entry = next.0; size = next.1 }) (record { entry = record { string = take out.length out.string; field = take width out.field }; size = size }) = same_Some _ _ (sym next.2.reads ∙ read ∙ ap (found_of width out) some) in
+    let found : ◌≡◌ {A = Found} (record { entry = next.0; size = next.1 })
+    (record { entry = record { string = take out.length out.string; field = take width out.field }; size = size }) =
+    same_Some _ _ (sym next.2.reads ∙ read ∙ ap (found_of width out) some) in
     record {
       place_is = ap (λ m. place + m) (sym (ap (λ (f : Found). f.size) found)) ∙ next.2.on;
       last_is = λ _. ap (slice_get es) (omega arith) ∙ next.2.there ∙ ap Some (ap (λ (f : Found). f.entry) found);
     }
 
-pub never_none : (width number place last : ℕ) (before out : FrontEntry) (o : Option ℕ) (es : List Entry) (bytes : List ℕ) (block : ℕ) → IsFront width bytes es → ReadSoFar width number place before es block → number ≤ last → last < 4 → 4 * block + last < length es →
+pub never_none : (width number place last : ℕ) (before out : FrontEntry) (o : Option ℕ) (es : List Entry) (bytes : List ℕ) (block : ℕ) →
+    IsFront width bytes es → ReadSoFar width number place before es block → number ≤ last → last < 4 → 4 * block + last < length es →
     o ≡ None → read_entry width number (take before.length before.string) (drop place bytes) ≡ found_of width out o → ⊥
 never_none width number place last before out o es bytes block is so_far up few within none read =
     let next = step width number place last before es bytes block is so_far up few within in
@@ -90,35 +105,49 @@ entry_short width i before e is = by_test (i % 4 == 0)
     within : shared before e.string ≤ length e.string
     within = (shared_within before e.string).1
 
-    by_test : (b : Bool) → length (cond b (length e.string ∷ (e.string ++ e.field)) (shared before e.string ∷ (length e.string - shared before e.string) ∷ (drop (shared before e.string) e.string ++ e.field))) ≤ 257 + width
+    by_test : (b : Bool) →
+        length (cond b (length e.string ∷ (e.string ++ e.field)) (shared before e.string ∷ (length e.string - shared before e.string) ∷
+        (drop (shared before e.string) e.string ++ e.field))) ≤ 257 + width
     by_test true = omega (arith, length-append e.string e.field, is.short, is.field)
     by_test false = omega (arith, length-append (drop (shared before e.string) e.string) e.field, length-drop (shared before e.string) e.string, is.short, is.field)
 
 front_short : (width i : ℕ) (before : List ℕ) (es : List Entry) → width ≤ 24 → AreEntries width i before es → length (front_from i before es) ≤ 281 * length es
 unfolding front_from
 front_short width i before [] wide are = omega arith
-front_short width i before (e ∷ es) wide are = omega (arith, length-append (entry_bytes i before e) (front_from (i + 1) e.string es), entry_short width i before e are.0, front_short width (i + 1) e.string es wide are.1)
+front_short width i before (e ∷ es) wide are = omega (
+  arith,
+  length-append (entry_bytes i before e) (front_from (i + 1) e.string es),
+  entry_short width i before e are.0,
+  front_short width (i + 1) e.string es wide are.1,
+)
 
 -- as many entries as a writer takes have places of four bytes
 pub front_small : (es : List Entry) (width : ℕ) → AreEntries width 0 [] es → length es ≤ 2 ^ 22 → width ≤ 24 → length (front es) < 2 ^ 32
 front_small es width are few wide = omega (arith, front_short width 0 [] es wide are)
 
 -- where the places stand, a block's place is that of its first entry
-pub block_place : (r : Fronted) (files : Option Files) (es : List Entry) (block place : ℕ) → FrontStands r files es → 4 * block < length es → place < 2 ^ 32 → take 4 (drop (4 * block) (bytes_at files r.places.name)) ≡ four place → place ≡ length (front (take (4 * block) es))
+pub block_place : (r : Fronted) (files : Option Files) (es : List Entry) (block place : ℕ) → FrontStands r files es → 4 * block < length es → place < 2 ^ 32 →
+    take 4 (drop (4 * block) (bytes_at files r.places.name)) ≡ four place → place ≡ length (front (take (4 * block) es))
 block_place r files es block place stands within small here =
     let some = some_cons es (4 * block) within in
     let head = take (4 * block) es in
     let long : length (take (4 * block) es) ≡ 4 * block = simp length-take (omega arith) in
-    let there : take 4 (drop (4 * block) (whole_at es)) ≡ four (length (front (take (4 * block) es))) = ap (λ t. take 4 (drop (4 * block) (whole_at t))) some.2 ∙ place_there head some.0 some.1 block long in
-    let all : length (front es) ≡ length (front (take (4 * block) es)) + length (front_from (0 + length (take (4 * block) es)) (last_string [] (take (4 * block) es)) (some.0 ∷ some.1)) = ap (λ t. length (front t)) some.2 ∙ ap length (front_append 0 [] head (some.0 ∷ some.1)) ∙ length-append (front head) (front_from (0 + length head) (last_string [] head) (some.0 ∷ some.1)) in
-    four_same place (length (front (take (4 * block) es))) small (omega (arith, all, stands.small, ap length stands.strings.bytes_are)) (sym here ∙ ap (λ t. take 4 (drop (4 * block) t)) stands.places ∙ there)
+    let there : take 4 (drop (4 * block) (whole_at es)) ≡ four (length (front (take (4 * block) es))) = ap (λ t. take 4 (drop (4 * block) (whole_at t))) some.2
+    ∙ place_there head some.0 some.1 block long in
+    let all : length (front es) ≡ length (front (take (4 * block) es))
+    + length (front_from (0 + length (take (4 * block) es)) (last_string [] (take (4 * block) es)) (some.0 ∷ some.1)) = ap (λ t. length (front t)) some.2
+    ∙ ap length (front_append 0 [] head (some.0 ∷ some.1)) ∙ length-append (front head)
+    (front_from (0 + length head) (last_string [] head) (some.0 ∷ some.1)) in
+    four_same place (length (front (take (4 * block) es))) small (omega (arith, all, stands.small, ap length stands.strings.bytes_are))
+    (sym here ∙ ap (λ t. take 4 (drop (4 * block) t)) stands.places ∙ there)
 
 -- and there is such a place
 pub block_there : (r : Fronted) (files : Option Files) (es : List Entry) (block : ℕ) → FrontStands r files es → 4 * block < length es → length (bytes_at files r.places.name) < 4 * block + 4 → ⊥
 block_there r files es block stands within short = absurd (omega (arith, places_long 0 [] 0 es, ap length stands.places))
 
 -- so where the parts stand, only the store is a reason that the place is not told
-pub only_device : (P : PartErr → Type 0) (r : Fronted) (files : Option Files) (es : List Entry) (block : ℕ) (refusal : PartErr) → P Device → FrontStands r files es → 4 * block < length es → LacksPlace refusal r.places files block → P refusal
+pub only_device : (P : PartErr → Type 0) (r : Fronted) (files : Option Files) (es : List Entry) (block : ℕ) (refusal : PartErr) → P Device →
+    FrontStands r files es → 4 * block < length es → LacksPlace refusal r.places files block → P refusal
 only_device P r files es block Device device stands within lacks = device
 only_device P r files es block Memory device stands within lacks = absurd lacks
 only_device P r files es block (Bad bad) device stands within lacks = absurd (block_there r files es block stands within (lacks.short stands.told))
@@ -134,7 +163,8 @@ lost_place r files block (Bad bad) lacks = inl lacks
 pub looked_places : (strings places : Part) (f g : Option Files) (r s : Reads) (a b : ℕ) → Looked places f g r s a b → LookedAt strings places f g r s a b
 looked_places strings places f g r s a b one = record { files = one.files; faults = one.faults; later = one.later; others = λ p apart other. one.others p other }
 
-pub looked_both : (strings places other : Part) (f g h : Option Files) (r s t : Reads) (a b c : ℕ) → Looked places f g r s a b → Looked other g h s t b c → other ≡ strings → LookedAt strings places f h r t a c
+pub looked_both : (strings places other : Part) (f g h : Option Files) (r s t : Reads) (a b c : ℕ) → Looked places f g r s a b → Looked other g h s t b c →
+    other ≡ strings → LookedAt strings places f h r t a c
 looked_both strings places other f g h r s t a b c one two same = record {
   files = two.files ∙ one.files;
   faults = omega (arith, one.faults, two.faults);
@@ -142,7 +172,8 @@ looked_both strings places other f g h r s t a b c one two same = record {
   others = λ p apart away. two.others p (ap (same_part p) same ∙ apart) ∙ one.others p away;
 }
 
-pub looked_again : (strings places strings_now places_now : Part) (f g h : Option Files) (r s t : Reads) (a b c : ℕ) → LookedAt strings places f g r s a b → LookedAt strings_now places_now g h s t b c → strings_now ≡ strings → places_now ≡ places → LookedAt strings places f h r t a c
+pub looked_again : (strings places strings_now places_now : Part) (f g h : Option Files) (r s t : Reads) (a b c : ℕ) → LookedAt strings places f g r s a b →
+    LookedAt strings_now places_now g h s t b c → strings_now ≡ strings → places_now ≡ places → LookedAt strings places f h r t a c
 looked_again strings places strings_now places_now f g h r s t a b c one two e d = record {
   files = two.files ∙ one.files;
   faults = omega (arith, one.faults, two.faults);
@@ -154,7 +185,8 @@ pub looked_not : (strings places : Part) (f : Option Files) (r : Reads) (a : ℕ
 looked_not strings places f r a = record { files = refl; faults = omega arith; later = λ p. omega arith; others = λ p apart away. refl }
 
 -- one more entry of a block has another string
-pub scanned_more : (es : List Entry) (from n : ℕ) (string : List ℕ) (it : Entry) → NoneAmong es from n string → slice_get es (from + n) ≡ Some it → it.string ≢ string → NoneAmong es from (n + 1) string
+pub scanned_more : (es : List Entry) (from n : ℕ) (string : List ℕ) (it : Entry) → NoneAmong es from n string → slice_get es (from + n) ≡ Some it →
+    it.string ≢ string → NoneAmong es from (n + 1) string
 scanned_more es from n string it none there apart k e within here same = by_side (cases_lt k n)
   where
     by_side : (k < n) ⊎ (n ≤ k) → ⊥
@@ -162,11 +194,13 @@ scanned_more es from n string it none there apart k e within here same = by_side
     by_side (inr at) = apart (ap (λ (x : Entry). x.string) (same_Some it e (sym there ∙ ap (λ m. slice_get es (from + m)) (omega arith) ∙ here)) ∙ same)
 
 -- the entry that was read last
-pub last_read : (width number place : ℕ) (out : FrontEntry) (es : List Entry) (block : ℕ) → ReadSoFar width (number + 1) place out es block → slice_get es (4 * block + number) ≡ Some (entry_of width out)
+pub last_read : (width number place : ℕ) (out : FrontEntry) (es : List Entry) (block : ℕ) → ReadSoFar width (number + 1) place out es block →
+    slice_get es (4 * block + number) ≡ Some (entry_of width out)
 last_read width number place out es block so_far = ap (slice_get es) (omega arith) ∙ so_far.last_is (omega arith)
 
 -- the places of so many entries have the size that is wanted
-pub never_refused : (part : Part) (count : ℕ) (bytes : List ℕ) (es : List Entry) (refusal : PartErr) → bytes ≡ whole_at es → length es ≡ count → AnswersPlaces {T = Unit {0}} part (places_size count) bytes (Err refusal) → IsNotBad refusal
+pub never_refused : (part : Part) (count : ℕ) (bytes : List ℕ) (es : List Entry) (refusal : PartErr) → bytes ≡ whole_at es → length es ≡ count →
+    AnswersPlaces {T = Unit {0}} part (places_size count) bytes (Err refusal) → IsNotBad refusal
 never_refused part count bytes es Device holds long answer = tt
 never_refused part count bytes es Memory holds long answer = tt
 never_refused part count bytes es (Bad bad) holds long answer = answer.0 (ap length holds ∙ omega (arith, places_long 0 [] 0 es))

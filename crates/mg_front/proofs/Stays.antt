@@ -16,11 +16,13 @@ same_bytes f g name same = ap (λ o. unwrap_or o []) same
 put_stays : (w : Writing) (f g : Option Files) → file_at g w.name ≡ file_at f w.name → put_to w g ≡ put_to w f
 put_stays w f g same = ap (λ b. b ++ w.buffered) (same_bytes f g w.name same)
 
-places_stay : (p : Option Writing) (name : List ℕ) (f g : Option Files) (es : List Entry) → is_some g ≡ is_some f → ForSome p (λ q. file_at g q.name ≡ file_at f q.name) → PlacesTook p name f es → PlacesTook p name g es
+places_stay : (p : Option Writing) (name : List ℕ) (f g : Option Files) (es : List Entry) → is_some g ≡ is_some f →
+    ForSome p (λ q. file_at g q.name ≡ file_at f q.name) → PlacesTook p name f es → PlacesTook p name g es
 places_stay None name f g es told same took = tt
 places_stay (Some p) name f g es told same took = (took.0, λ t. put_stays p f g (same p refl) ∙ took.1 (sym told ∙ t))
 
-pub took_stays : (w : Fronting) (f g : Option Files) (es : List Entry) → is_some g ≡ is_some f → file_at g w.strings.name ≡ file_at f w.strings.name → ForSome w.places (λ places. file_at g places.name ≡ file_at f places.name) → Took w f es → Took w g es
+pub took_stays : (w : Fronting) (f g : Option Files) (es : List Entry) → is_some g ≡ is_some f → file_at g w.strings.name ≡ file_at f w.strings.name →
+    ForSome w.places (λ places. file_at g places.name ≡ file_at f places.name) → Took w f es → Took w g es
 took_stays w f g es told strings places is = record {
   count = is.count;
   last = is.last;
@@ -36,13 +38,15 @@ gave_stays w f g es told same is = record {
   given = λ t. subst (λ b. Given w b es) (sym (same_bytes f g w.feed.name same)) (is.given (sym told ∙ t));
 }
 
-pub fits_stay : (r : Fronted) (f g : Option Files) → is_some g ≡ is_some f → file_at g r.strings.name ≡ file_at f r.strings.name → file_at g r.places.name ≡ file_at f r.places.name → FrontFits r f → FrontFits r g
+pub fits_stay : (r : Fronted) (f g : Option Files) → is_some g ≡ is_some f → file_at g r.strings.name ≡ file_at f r.strings.name →
+    file_at g r.places.name ≡ file_at f r.places.name → FrontFits r f → FrontFits r g
 fits_stay r f g told strings places is = record {
   strings = held_page_stays r.strings f g told strings is.strings;
   places = held_page_stays r.places f g told places is.places;
 }
 
-pub stands_stay : (r : Fronted) (f g : Option Files) (es : List Entry) → is_some g ≡ is_some f → file_at g r.strings.name ≡ file_at f r.strings.name → file_at g r.places.name ≡ file_at f r.places.name → FrontStands r f es → FrontStands r g es
+pub stands_stay : (r : Fronted) (f g : Option Files) (es : List Entry) → is_some g ≡ is_some f → file_at g r.strings.name ≡ file_at f r.strings.name →
+    file_at g r.places.name ≡ file_at f r.places.name → FrontStands r f es → FrontStands r g es
 stands_stay r f g es told strings places is = record {
   told = told ∙ is.told;
   strings = subst (λ b. IsFront r.width b es) (sym (same_bytes f g r.strings.name strings)) is.strings;

@@ -21,10 +21,14 @@ pub given_none : (w : Walking) (bytes : List ℕ) → w.done ≡ 0 → w.last �
 unfolding front_from
 given_none w bytes d l p = record { done = d; last = l; entries = tt; place = p; rest = ap (λ n. drop n bytes) (sym p) }
 
-stands_found : (width i : ℕ) (before bytes : List ℕ) (out : FrontEntry) (o : Option ℕ) (size : ℕ) → o ≡ Some size → read_entry width i before bytes ≡ found_of width out o → StandsFirst width i before bytes (record { entry = record { string = take out.length out.string; field = take width out.field }; size = size })
+stands_found : (width i : ℕ) (before bytes : List ℕ) (out : FrontEntry) (o : Option ℕ) (size : ℕ) → o ≡ Some size →
+    read_entry width i before bytes ≡ found_of width out o →
+    StandsFirst width i before bytes (record { entry = record { string = take out.length out.string; field = take width out.field }; size = size })
 stands_found width i before bytes out o size e read = read_stands width i before bytes _ (read ∙ ap (found_of width out) e)
 
-pub begins : (width i : ℕ) (before bytes : List ℕ) (out : FrontEntry) (o : Option ℕ) (size : ℕ) → o ≡ Some size → read_entry width i before bytes ≡ found_of width out o → BeginsWith width i before bytes (record { string = take out.length out.string; field = take width out.field })
+pub begins : (width i : ℕ) (before bytes : List ℕ) (out : FrontEntry) (o : Option ℕ) (size : ℕ) → o ≡ Some size →
+    read_entry width i before bytes ≡ found_of width out o →
+    BeginsWith width i before bytes (record { string = take out.length out.string; field = take width out.field })
 begins width i before bytes out o size e read =
     let s = stands_found width i before bytes out o size e read in
     record { entry = s.entry; rest = s.front ∙ ap (λ n. entry_bytes i before (entry_of width out) ++ drop n bytes) s.size }
@@ -32,7 +36,8 @@ begins width i before bytes out o size e read =
 pub no_entry : (width i : ℕ) (before bytes : List ℕ) (out : FrontEntry) (o : Option ℕ) → o ≡ None → read_entry width i before bytes ≡ found_of width out o → NoEntry width i before bytes
 no_entry width i before bytes out o e read = none_stands width i before bytes (read ∙ ap (found_of width out) e)
 
-pub given_more : (w next : Walking) (bytes : List ℕ) (es : List Entry) (e : Entry) (size : ℕ) → Given w bytes es → StandsFirst w.width w.done w.last (drop w.place bytes) (record { entry = e; size = size }) →
+pub given_more : (w next : Walking) (bytes : List ℕ) (es : List Entry) (e : Entry) (size : ℕ) → Given w bytes es →
+    StandsFirst w.width w.done w.last (drop w.place bytes) (record { entry = e; size = size }) →
     next.width ≡ w.width → next.done ≡ w.done + 1 → next.place ≡ w.place + size → next.last ≡ e.string → Given next bytes (es ++ e ∷ [])
 given_more w next bytes es e size before stands width done place last =
     let is : IsEntry w.width (length es) (last_string [] es) e = subst (λ l. IsEntry w.width (length es) l e) before.last (subst (λ n. IsEntry w.width n w.last e) before.done stands.entry) in
@@ -45,11 +50,14 @@ given_more w next bytes es e size before stands width done place last =
       place = place ∙ omega (arith, before.place, stands.size, ap length code, ap length all, length-append (front es) (entry_bytes (length es) (last_string [] es) e));
       rest =
           before.rest ∙ ap (λ t. front es ++ t) (stands.front ∙ ap (λ t. entry_bytes w.done w.last e ++ t) (drop-drop size w.place bytes) ∙ ap (λ t. t ++ drop (w.place + size) bytes) code)
-          ∙ sym (append_assoc (front es) (entry_bytes (length es) (last_string [] es) e) (drop (w.place + size) bytes)) ∙ ap (λ t. t ++ drop (w.place + size) bytes) (sym all) ∙ ap (λ n. front (es ++ e ∷ []) ++ drop n bytes) (sym place);
+          ∙ sym (append_assoc (front es) (entry_bytes (length es) (last_string [] es) e) (drop (w.place + size) bytes))
+          ∙ ap (λ t. t ++ drop (w.place + size) bytes) (sym all) ∙ ap (λ n. front (es ++ e ∷ []) ++ drop n bytes) (sym place);
     }
 
-pub gave_more : (w next : Walking) (f now : Option Files) (es : List Entry) (out : FrontEntry) (o : Option ℕ) (size : ℕ) → Gave w f es → Fits next.feed now → now ≡ f → next.feed.name ≡ w.feed.name → o ≡ Some size →
-    (IsSome f → read_entry w.width w.done w.last (drop w.place (bytes_at f w.feed.name)) ≡ found_of w.width out o) → next.width ≡ w.width → next.done ≡ w.done + 1 → next.place ≡ w.place + size → next.last ≡ string_of out →
+pub gave_more : (w next : Walking) (f now : Option Files) (es : List Entry) (out : FrontEntry) (o : Option ℕ) (size : ℕ) → Gave w f es → Fits next.feed now →
+    now ≡ f → next.feed.name ≡ w.feed.name → o ≡ Some size →
+    (IsSome f → read_entry w.width w.done w.last (drop w.place (bytes_at f w.feed.name)) ≡ found_of w.width out o) → next.width ≡ w.width →
+    next.done ≡ w.done + 1 → next.place ≡ w.place + size → next.last ≡ string_of out →
     Gave next now (es ++ record { string = take out.length out.string; field = take w.width out.field } ∷ [])
 gave_more w next f now es out o size gave fits same name e read width done place last = record {
   fits = fits;
@@ -72,7 +80,8 @@ next_of : (w : Walking) (bytes : List ℕ) (es all : List Entry) → Given w byt
 unfolding front_from
 next_of w bytes es all given is = let p = prefix_of w.width 0 [] es all (drop w.place bytes) given.entries is.entries (sym is.bytes_are ∙ given.rest) in by_rest p.0 p.1 p.2
   where
-    by_rest : (rest : List Entry) → all ≡ es ++ rest → drop w.place bytes ≡ front_from (0 + length es) (last_string [] es) rest → NoneIs w bytes all ⊎ ((e : Entry) × (fs : List Entry) × NextIs w bytes all e fs)
+    by_rest : (rest : List Entry) → all ≡ es ++ rest → drop w.place bytes ≡ front_from (0 + length es) (last_string [] es) rest →
+        NoneIs w bytes all ⊎ ((e : Entry) × (fs : List Entry) × NextIs w bytes all e fs)
     by_rest [] same tail = inl (record { rest = tail; end = given.done ∙ sym (ap length (same ∙ append-nil es)) })
     by_rest (e ∷ fs) same tail =
         let n : 0 + length es ≡ w.done = omega (arith, given.done) in
@@ -90,7 +99,8 @@ next_of w bytes es all given is = let p = prefix_of w.width 0 [] es all (drop w.
         )
 
 -- where the part is front coding, the walk answers its entries, and never that it is bad
-pub among : (result : Result Bool PartErr) (w : Walking) (out : FrontEntry) (bytes : List ℕ) (es all : List Entry) → Given w bytes es → IsFront w.width bytes all → length all ≡ w.count → AnswersNext result w out bytes → AnswersAmong result w out all
+pub among : (result : Result Bool PartErr) (w : Walking) (out : FrontEntry) (bytes : List ℕ) (es all : List Entry) → Given w bytes es →
+    IsFront w.width bytes all → length all ≡ w.count → AnswersNext result w out bytes → AnswersAmong result w out all
 among (Ok true) w out bytes es all given is count answer = by_case (next_of w bytes es all given is)
   where
     by_case : NoneIs w bytes all ⊎ ((e : Entry) × (fs : List Entry) × NextIs w bytes all e fs) → slice_get all w.done ≡ Some (entry_of w.width out)

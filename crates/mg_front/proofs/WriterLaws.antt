@@ -17,42 +17,51 @@ same_bytes : (f g : Option Files) (n : List ℕ) → file_at g n ≡ file_at f n
 same_bytes f g n e = ap (λ o. unwrap_or o []) e
 
 -- writing places leaves the strings
-strings_stay : (p : Option Writing) (name : List ℕ) (f mid : Option Files) (r s : Reads) (es : List Entry) → WroteToPlaces p f mid r s → PlacesTook p name f es → (file_at mid name ≡ file_at f name) × (is_some mid ≡ is_some f)
+strings_stay : (p : Option Writing) (name : List ℕ) (f mid : Option Files) (r s : Reads) (es : List Entry) → WroteToPlaces p f mid r s →
+    PlacesTook p name f es → (file_at mid name ≡ file_at f name) × (is_some mid ≡ is_some f)
 strings_stay None name f mid r s es wrote took = (ap (λ g. file_at g name) wrote.0, ap is_some wrote.0)
 strings_stay (Some p) name f mid r s es wrote took = (wrote.others name (λ same. took.0 (sym same)), wrote.told)
 
-places_more : (p q : Option Writing) (name next_name : List ℕ) (f mid now : Option Files) (es : List Entry) (e : Entry) (bytes : List ℕ) → next_name ≡ name → PlaceWrote p q f mid bytes → (IsSome now → IsSome mid) → (IsSome mid → IsSome f) → ((n : List ℕ) → n ≢ name → file_at now n ≡ file_at mid n) →
+places_more : (p q : Option Writing) (name next_name : List ℕ) (f mid now : Option Files) (es : List Entry) (e : Entry) (bytes : List ℕ) → next_name ≡ name →
+    PlaceWrote p q f mid bytes → (IsSome now → IsSome mid) → (IsSome mid → IsSome f) → ((n : List ℕ) → n ≢ name → file_at now n ≡ file_at mid n) →
     whole_at (es ++ e ∷ []) ≡ whole_at es ++ bytes → PlacesTook p name f es → PlacesTook q next_name now (es ++ e ∷ [])
 places_more None None name next_name f mid now es e bytes same wrote b c others more took = tt
 places_more None (Some q) name next_name f mid now es e bytes same wrote b c others more took = absurd wrote
 places_more (Some p) None name next_name f mid now es e bytes same wrote b c others more took = absurd wrote
 places_more (Some p) (Some q) name next_name f mid now es e bytes same wrote b c others more took = (
   λ clash. took.0 (sym wrote.name ∙ clash ∙ same),
-  λ told. ap (λ t. t ++ q.buffered) (same_bytes mid now q.name (others q.name (λ clash. took.0 (sym wrote.name ∙ clash)))) ∙ wrote.bytes (c (b told)) ∙ ap (λ t. t ++ bytes) (took.1 (c (b told))) ∙ sym more,
+  λ told. ap (λ t. t ++ q.buffered) (same_bytes mid now q.name (others q.name (λ clash. took.0 (sym wrote.name ∙ clash)))) ∙ wrote.bytes (c (b told))
+      ∙ ap (λ t. t ++ bytes) (took.1 (c (b told))) ∙ sym more,
 )
 
-pub took_more : (w next : Fronting) (f mid now : Option Files) (r s t : Reads) (es : List Entry) (e : Entry) → Took w f es → IsEntry w.width w.count w.last e → PlaceWrote w.places next.places f mid (cond (w.count % 4 == 0) (four w.place) []) → WroteToPlaces w.places f mid r s →
-    Wrote w.strings next.strings mid now (entry_bytes w.count w.last e) → WroteTo w.strings.name mid now s t → next.width ≡ w.width → next.count ≡ w.count + 1 → next.place ≡ w.place + length (entry_bytes w.count w.last e) → next.last ≡ e.string → Took next now (es ++ e ∷ [])
+pub took_more : (w next : Fronting) (f mid now : Option Files) (r s t : Reads) (es : List Entry) (e : Entry) → Took w f es → IsEntry w.width w.count w.last e →
+    PlaceWrote w.places next.places f mid (cond (w.count % 4 == 0) (four w.place) []) → WroteToPlaces w.places f mid r s →
+    Wrote w.strings next.strings mid now (entry_bytes w.count w.last e) → WroteTo w.strings.name mid now s t → next.width ≡ w.width → next.count ≡ w.count + 1 →
+    next.place ≡ w.place + length (entry_bytes w.count w.last e) → next.last ≡ e.string → Took next now (es ++ e ∷ [])
 took_more w next f mid now r s t es e took entry placed places wrote strings width count place last =
     let is : IsEntry w.width (length es) (last_string [] es) e = subst (λ l. IsEntry w.width (length es) l e) took.last (subst (λ n. IsEntry w.width n w.last e) took.count entry) in
     let code : entry_bytes w.count w.last e ≡ entry_bytes (length es) (last_string [] es) e = ap (λ n. entry_bytes n w.last e) took.count ∙ ap (λ l. entry_bytes (length es) l e) took.last in
     let all : front (es ++ e ∷ []) ≡ front es ++ entry_bytes (length es) (last_string [] es) e = front_more es e in
     let stay = strings_stay w.places w.strings.name f mid r s es places took.places in
     let back : IsSome now → IsSome mid = told_back mid now strings.told in
-    let more : whole_at (es ++ e ∷ []) ≡ whole_at es ++ cond (w.count % 4 == 0) (four w.place) [] = whole_more es e ∙ ap (λ n. whole_at es ++ cond (n % 4 == 0) (four (length (front es))) []) (sym took.count) ∙ ap (λ n. whole_at es ++ cond (w.count % 4 == 0) (four n) []) (sym took.place) in
+    let more : whole_at (es ++ e ∷ []) ≡ whole_at es ++ cond (w.count % 4 == 0) (four w.place) [] = whole_more es e
+    ∙ ap (λ n. whole_at es ++ cond (n % 4 == 0) (four (length (front es))) []) (sym took.count)
+    ∙ ap (λ n. whole_at es ++ cond (w.count % 4 == 0) (four n) []) (sym took.place) in
     record {
       count = count ∙ omega (arith, took.count, length-append es (e ∷ []));
       last = last ∙ sym (last_append [] es (e ∷ []));
       entries = subst (λ n. AreEntries n 0 [] (es ++ e ∷ [])) (sym width) (entries_more w.width es e took.entries is);
       place = place ∙ omega (arith, took.place, ap length code, ap length all, length-append (front es) (entry_bytes (length es) (last_string [] es) e));
-      strings = λ told. wrote.bytes (back told) ∙ ap (λ u. u ++ w.strings.buffered ++ entry_bytes w.count w.last e) (same_bytes f mid w.strings.name stay.0) ∙ ap (λ u. u ++ entry_bytes w.count w.last e) (took.strings (told_back f mid stay.1 (back told))) ∙ ap (λ u. front es ++ u) code ∙ sym all;
+      strings = λ told. wrote.bytes (back told) ∙ ap (λ u. u ++ w.strings.buffered ++ entry_bytes w.count w.last e) (same_bytes f mid w.strings.name stay.0)
+          ∙ ap (λ u. u ++ entry_bytes w.count w.last e) (took.strings (told_back f mid stay.1 (back told))) ∙ ap (λ u. front es ++ u) code ∙ sym all;
       places = places_more w.places next.places w.strings.name next.strings.name f mid now es e _ wrote.name placed back (told_back f mid stay.1) strings.others more took.places;
     }
 
 -- ---- the first and the last call
 
 -- a writer that has started stands for no entry
-pub took_none : (w : Fronting) (asked : Option (List ℕ)) (f mid now : Option Files) (r s : Reads) → w.count ≡ 0 → w.last ≡ [] → w.place ≡ 0 → (IsSome f → put_to w.strings mid ≡ []) → is_some mid ≡ is_some f → StartedPlaces asked w.places mid now → WroteToAsked asked mid now r s →
+pub took_none : (w : Fronting) (asked : Option (List ℕ)) (f mid now : Option Files) (r s : Reads) → w.count ≡ 0 → w.last ≡ [] → w.place ≡ 0 →
+    (IsSome f → put_to w.strings mid ≡ []) → is_some mid ≡ is_some f → StartedPlaces asked w.places mid now → WroteToAsked asked mid now r s →
     ForSome asked (λ name. name ≢ w.strings.name) → Took w now []
 unfolding front_from places_from
 took_none w None f mid now r s count last place empty back started wrote apart = record {
@@ -72,7 +81,8 @@ took_none w (Some name) f mid now r s count last place empty back started wrote 
   last = last;
   entries = tt;
   place = place;
-  strings = λ told. ap (λ t. t ++ w.strings.buffered) (same_bytes mid now w.strings.name (wrote.others w.strings.name (λ same. apart name refl (sym same)))) ∙ empty (told_back f mid back (told_back mid now wrote.told told));
+  strings = λ told. ap (λ t. t ++ w.strings.buffered) (same_bytes mid now w.strings.name (wrote.others w.strings.name (λ same. apart name refl (sym same))))
+      ∙ empty (told_back f mid back (told_back mid now wrote.told told));
   places = some_places w.places started;
 }
   where
@@ -80,7 +90,8 @@ took_none w (Some name) f mid now r s count last place empty back started wrote 
     some_places None started = absurd started
     some_places (Some p) started = (λ same. apart name refl (sym started.0 ∙ same), λ told. started.1 (told_back mid now wrote.told told))
 
-pub asked_others : (asked : Option (List ℕ)) (strings n : List ℕ) (f mid now : Option Files) (r s t : Reads) → WroteTo strings f mid r s → WroteToAsked asked mid now s t → IsNotAsked n strings asked → file_at now n ≡ file_at f n
+pub asked_others : (asked : Option (List ℕ)) (strings n : List ℕ) (f mid now : Option Files) (r s t : Reads) → WroteTo strings f mid r s →
+    WroteToAsked asked mid now s t → IsNotAsked n strings asked → file_at now n ≡ file_at f n
 asked_others None strings n f mid now r s t wrote asked apart = ap (λ g. file_at g n) asked.0 ∙ wrote.others n apart
 asked_others (Some places) strings n f mid now r s t wrote asked apart = asked.others n apart.1 ∙ wrote.others n apart.0
 
@@ -93,10 +104,13 @@ asked_reads None f now r s wrote = wrote.1
 asked_reads (Some places) f now r s wrote = wrote.reads
 
 -- the files after the last call
-pub finished : (w : Fronting) (strings : Writing) (places : Option Writing) (f mid now : Option Files) (r s t : Reads) (es : List Entry) → Took w f es → IsSome f → Wrote w.strings strings f mid [] → strings.buffered ≡ [] → WroteTo w.strings.name f mid r s → PlaceWrote w.places places mid now [] → HoldsNothing places → WroteToPlaces w.places mid now s t →
+pub finished : (w : Fronting) (strings : Writing) (places : Option Writing) (f mid now : Option Files) (r s t : Reads) (es : List Entry) → Took w f es →
+    IsSome f → Wrote w.strings strings f mid [] → strings.buffered ≡ [] → WroteTo w.strings.name f mid r s → PlaceWrote w.places places mid now [] →
+    HoldsNothing places → WroteToPlaces w.places mid now s t →
     Finished w now es
 finished w strings places f mid now r s t es took told wrote nothing others placed held stays = record {
-  strings = by_places w.places stays took.places ∙ sym (append-nil (bytes_at mid w.strings.name)) ∙ ap (λ t. bytes_at mid w.strings.name ++ t) (sym nothing) ∙ ap (λ n. bytes_at mid n ++ strings.buffered) (sym wrote.name) ∙ wrote.bytes told ∙ append-nil (put_to w.strings f) ∙ took.strings told;
+  strings = by_places w.places stays took.places ∙ sym (append-nil (bytes_at mid w.strings.name)) ∙ ap (λ t. bytes_at mid w.strings.name ++ t) (sym nothing)
+      ∙ ap (λ n. bytes_at mid n ++ strings.buffered) (sym wrote.name) ∙ wrote.bytes told ∙ append-nil (put_to w.strings f) ∙ took.strings told;
   places = places_hold w.places places placed held took.places;
 }
   where
@@ -108,7 +122,8 @@ finished w strings places f mid now r s t es took told wrote nothing others plac
     places_hold None q put hold take = tt
     places_hold (Some p) None put hold take = absurd put
     places_hold (Some p) (Some q) put hold take =
-        sym (append-nil (bytes_at now p.name)) ∙ ap (λ t. bytes_at now p.name ++ t) (sym hold) ∙ ap (λ n. bytes_at now n ++ q.buffered) (sym put.name) ∙ put.bytes (subst (λ b. b ≡ true) (sym others.told) told) ∙ append-nil (put_to p mid)
+        sym (append-nil (bytes_at now p.name)) ∙ ap (λ t. bytes_at now p.name ++ t) (sym hold) ∙ ap (λ n. bytes_at now n ++ q.buffered) (sym put.name)
+        ∙ put.bytes (subst (λ b. b ≡ true) (sym others.told) told) ∙ append-nil (put_to p mid)
         ∙ ap (λ t. t ++ p.buffered) (same_bytes f mid p.name (others.others p.name take.0)) ∙ take.1 told
 
 -- writing a place keeps the file

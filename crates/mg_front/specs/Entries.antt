@@ -19,11 +19,14 @@ entry_of width e = record { string = take e.length e.string; field = take width 
 -- what was read, where something was
 abbrev pub found_of : ℕ → FrontEntry → Option ℕ → Option Found
 found_of width e None = None
-found_of width e (Some size) = Some (record { entry = record { string = take e.length e.string; field = take width e.field }; size = size })
+found_of width e (Some size) =
+    Some (record { entry = record { string = take e.length e.string; field = take width e.field }; size = size })
 
 -- what was found from a place of a feed's file on is what reading these bytes finds, where the files are told
-abbrev pub FoundFrom : {E : Type 0} → Paging → Option Files → ℕ → (List ℕ → Option Found) → Result (Option ℕ) E → (Option ℕ → Option Found) → Type 0
-FoundFrom feed files at reading result found = IsSome files → IfOk result (λ size. reading (drop at (bytes_at files feed.name)) ≡ found size)
+abbrev pub FoundFrom : {E : Type 0} → Paging → Option Files → ℕ → (List ℕ → Option Found) → Result (Option ℕ) E →
+    (Option ℕ → Option Found) → Type 0
+FoundFrom feed files at reading result found = IsSome files →
+    IfOk result (λ size. reading (drop at (bytes_at files feed.name)) ≡ found size)
 
 -- the bytes of an entry that shares so many bytes with the string before
 abbrev pub cut_bytes : ℕ → List ℕ → List ℕ → List ℕ
@@ -35,7 +38,8 @@ coded_entry number before string field = entry_bytes number before (record { str
 
 -- so many bytes came after the first ones, or the bytes end before
 abbrev pub IsPut : Bool → List ℕ → List ℕ → ℕ → ℕ → ℕ → List ℕ → Type 0
-IsPut true old new from count at bytes = (take (from + count) new ≡ take from old ++ take count (drop at bytes)) × (count ≤ length (drop at bytes))
+IsPut true old new from count at bytes = (take (from + count) new ≡ take from old ++ take count (drop at bytes))
+    × (count ≤ length (drop at bytes))
 IsPut false old new from count at bytes = length (drop at bytes) < count
 
 -- a head shares no more than the string before has, and the entry's string is no longer than 255 bytes
@@ -50,7 +54,8 @@ HeadAfter None before shared more = (length before < shared) ⊎ (255 < shared +
 
 -- the two bytes from a place on are a head, or no entry that is not whole stands there
 abbrev pub HeadAt : Option Head → List ℕ → ℕ → List ℕ → Type 0
-HeadAt (Some head) before at bytes = (Some head.shared ≡ slice_get bytes at) × (Some head.more ≡ slice_get bytes (at + 1))
+HeadAt (Some head) before at bytes = (Some head.shared ≡ slice_get bytes at)
+    × (Some head.more ≡ slice_get bytes (at + 1))
 HeadAt None before at bytes = (width : ℕ) → read_cut width before (drop at bytes) ≡ None
 
 -- the entry's string is as long as its head tells

@@ -48,7 +48,8 @@ TookAlso old new before now e = (es : List Entry) → Took old before es → Too
 -- a fact where both stores tell alike and hold the same files of a writer
 abbrev pub WhereSameFronts : Fronting → Option Files → Option Files → Type 0 → Type 0
 WhereSameFronts w one other fact =
-    TellAlike one other → SameAt one other w.strings.name → ForSome w.places (λ places. SameAt one other places.name) → fact
+    TellAlike one other → SameAt one other w.strings.name → ForSome w.places (λ places. SameAt one other places.name) →
+    fact
 
 -- a name of neither file
 abbrev pub IsOther : List ℕ → List ℕ → Option Writing → Type 0

@@ -9,7 +9,8 @@ use Rattle.mg_defs.specs.Codes.{ceil_log2}
 
 -- A call that read the bytes from one place up to another read at most one page for each page boundary between them, and the page of the first where it was not held. The page that is held now counts for the next byte, and is that of the last byte that was read.
 pub record ReadOn (old new : Paging) (before now : Reads) (from to : ℕ) : Type 0 where
-  pub pages : now old.part + lacks new.held (to / 4096) + from / 4096 ≤ before old.part + lacks old.held (from / 4096) + to / 4096
+  pub pages : now old.part + lacks new.held (to / 4096) + from / 4096
+      ≤ before old.part + lacks old.held (from / 4096) + to / 4096
   pub order : from ≤ to
   pub held : new.held ≡ held_after 4096 old.held (8 * from) (8 * to)
 

@@ -31,7 +31,8 @@ pub record Fronted : Type 0 where
 
 -- so many places were looked at, where the strings and the places are two parts
 abbrev pub ReaderLooks : Fronted → Reads → Reads → ℕ → Type 0
-ReaderLooks r before now times = same_part r.strings.part r.places.part ≡ false → ReadLooks r.strings.part r.places.part before now times
+ReaderLooks r before now times = same_part r.strings.part r.places.part ≡ false →
+    ReadLooks r.strings.part r.places.part before now times
 
 -- a fact where both stores tell alike and hold the same parts of a reader
 abbrev pub WhereSameParts : Fronted → Option Files → Option Files → Type 0 → Type 0
@@ -102,7 +103,8 @@ IsAbsent string es = (i : ℕ) (e : Entry) → slice_get es i ≡ Some e → e.s
 
 -- where the parts stand: the number of the string, with its entry, or none exactly where it is no entry's
 abbrev pub AnswersFind : Result (Option ℕ) PartErr → ℕ → List ℕ → FrontEntry → List Entry → Type 0
-AnswersFind (Ok (Some i)) width string out es = (slice_get es i ≡ Some (entry_of width out)) × (take out.length out.string ≡ string)
+AnswersFind (Ok (Some i)) width string out es = (slice_get es i ≡ Some (entry_of width out))
+    × (take out.length out.string ≡ string)
 AnswersFind (Ok None) width string out es = IsAbsent string es
 AnswersFind (Err Device) width string out es = Unit {0}
 AnswersFind (Err Memory) width string out es = ⊥
@@ -111,7 +113,8 @@ AnswersFind (Err (Bad bad)) width string out es = ⊥
 -- ---- loading
 
 -- a reader of these files
-pub record IsReader (r : Fronted) (strings : List ℕ) (strings_part : Part) (places : List ℕ) (places_part : Part) (width count : ℕ) : Type 0 where
+pub record IsReader (r : Fronted) (strings : List ℕ) (strings_part : Part) (places : List ℕ) (places_part : Part)
+    (width count : ℕ) : Type 0 where
   pub strings_is : r.strings.name ≡ strings
   pub strings_part_is : r.strings.part ≡ strings_part
   pub places_is : r.places.name ≡ places
@@ -128,11 +131,13 @@ abbrev pub AnswersPlaces : {T : Type 0} → Part → ℕ → List ℕ → Result
 AnswersPlaces part wanted bytes (Ok value) = length bytes ≡ wanted
 AnswersPlaces part wanted bytes (Err Device) = Unit {0}
 AnswersPlaces part wanted bytes (Err Memory) = length bytes ≡ wanted
-AnswersPlaces part wanted bytes (Err (Bad bad)) = (length bytes ≢ wanted) × IsBad bad part 0 wanted wanted (length bytes)
+AnswersPlaces part wanted bytes (Err (Bad bad)) = (length bytes ≢ wanted)
+    × IsBad bad part 0 wanted wanted (length bytes)
 
 -- the same by a file and the number of the entries, where the files are told
 abbrev pub AnswersPlacesOf : {T : Type 0} → FileRef → ℕ → Option Files → Result T PartErr → Type 0
-AnswersPlacesOf file count files result = IsSome files → AnswersPlaces file.part (places_size count) (bytes_at files (file_name file)) result
+AnswersPlacesOf file count files result = IsSome files →
+    AnswersPlaces file.part (places_size count) (bytes_at files (file_name file)) result
 
 -- a fact where the files are told and a file holds the places of so many entries
 abbrev pub WherePlacesStand : FileRef → Option Files → ℕ → Type 0 → Type 0
@@ -143,7 +148,8 @@ WherePlacesStand file files count fact =
 
 -- a fact on entries and one of their blocks of four, where the files are told: a feed's file is the front coding of the entries, and the block begins at this place
 abbrev pub AtBlock : Paging → Option Files → ℕ → ℕ → (List Entry → ℕ → Type 0) → Type 0
-AtBlock feed files width from fact = IsSome files → (es : List Entry) (block : ℕ) → IsFront width (bytes_at files feed.name) es →
+AtBlock feed files width from fact = IsSome files → (es : List Entry) (block : ℕ) →
+    IsFront width (bytes_at files feed.name) es →
     from ≡ length (front (take (4 * block) es)) → fact es block
 
 -- the entry of a number in a block is read, where there is one
@@ -153,8 +159,10 @@ GivesEntry result number width out es block = 4 * block + number < length es →
 
 -- the first strings of the blocks before low are not above the string, and those of the others are
 pub record Around (es : List Entry) (string : List ℕ) (low : ℕ) : Type 0 where
-  pub below : (block : ℕ) (e : Entry) → block < low → slice_get es (4 * block) ≡ Some e → is_below string e.string ≡ false
-  pub above : (block : ℕ) (e : Entry) → low ≤ block → slice_get es (4 * block) ≡ Some e → is_below string e.string ≡ true
+  pub below : (block : ℕ) (e : Entry) → block < low → slice_get es (4 * block) ≡ Some e →
+      is_below string e.string ≡ false
+  pub above : (block : ℕ) (e : Entry) → low ≤ block → slice_get es (4 * block) ≡ Some e →
+      is_below string e.string ≡ true
 
 -- the last block whose first string is not above the string
 abbrev pub AnswersBlock : Result (Option ℕ) PartErr → List ℕ → List Entry → Type 0
@@ -170,17 +178,20 @@ NoneAmong es from count string = (k : ℕ) (e : Entry) → k < count → slice_g
 
 -- what reading so many entries from a whole one on answers
 abbrev pub AnswersScan : Scan → ℕ → ℕ → List ℕ → ℕ → FrontEntry → List Entry → Type 0
-AnswersScan (Found number) from count string width out es = (number < count) × (slice_get es (from + number) ≡ Some (entry_of width out)) × (take out.length out.string ≡ string)
+AnswersScan (Found number) from count string width out es = (number < count)
+    × (slice_get es (from + number) ≡ Some (entry_of width out)) × (take out.length out.string ≡ string)
 AnswersScan Absent from count string width out es = NoneAmong es from count string
 AnswersScan Damaged from count string width out es = ⊥
 
 -- so many entries of a block are read for a string, where there are so many
 abbrev pub ScansBlock : {E : Type 0} → Result Scan E → ℕ → List ℕ → ℕ → FrontEntry → List Entry → ℕ → Type 0
-ScansBlock result most string width out es block = 4 * block + most ≤ length es → IfOk result (λ scan. AnswersScan scan (4 * block) most string width out es)
+ScansBlock result most string width out es block = 4 * block + most ≤ length es →
+    IfOk result (λ scan. AnswersScan scan (4 * block) most string width out es)
 
 -- the number of the string among those of a block
 abbrev pub AnswersIn : Result (Option ℕ) PartErr → ℕ → ℕ → List ℕ → FrontEntry → List Entry → Type 0
-AnswersIn (Ok (Some i)) block width string out es = (slice_get es i ≡ Some (entry_of width out)) × (take out.length out.string ≡ string)
+AnswersIn (Ok (Some i)) block width string out es = (slice_get es i ≡ Some (entry_of width out))
+    × (take out.length out.string ≡ string)
 AnswersIn (Ok None) block width string out es = NoneAmong es (4 * block) 4 string
 AnswersIn (Err Device) block width string out es = Unit {0}
 AnswersIn (Err Memory) block width string out es = ⊥

@@ -40,11 +40,13 @@ with_next es false e = es
 
 -- whatever entries the walk gave, it gave the next one too, where there was one
 abbrev pub GaveNext : Walking → Walking → Option Files → Option Files → Result Bool PartErr → FrontEntry → Type 0
-GaveNext old new before now result out = (es : List Entry) → Gave old before es → IfOk result (λ more. Gave new now (with_next es more (entry_of old.width out)))
+GaveNext old new before now result out = (es : List Entry) → Gave old before es →
+    IfOk result (λ more. Gave new now (with_next es more (entry_of old.width out)))
 
 -- a fact on entries, where the files are told: the walk's file is their front coding, and they are as many as the walk was told
 abbrev pub WhereFront : Walking → Option Files → (List Entry → Type 0) → Type 0
-WhereFront w files fact = (all : List Entry) → IsSome files → IsFront w.width (bytes_at files w.feed.name) all → length all ≡ w.count → fact all
+WhereFront w files fact = (all : List Entry) → IsSome files → IsFront w.width (bytes_at files w.feed.name) all →
+    length all ≡ w.count → fact all
 
 pub record SameWalk (old new : Walking) : Type 0 where
   pub name : new.feed.name ≡ old.feed.name
@@ -59,7 +61,8 @@ pub record BeginsWith (width i : ℕ) (before bytes : List ℕ) (e : Entry) : Ty
 
 -- what the next call answers: an entry, the end, or where the part is no front coding
 abbrev pub AnswersNext : Result Bool PartErr → Walking → FrontEntry → List ℕ → Type 0
-AnswersNext (Ok true) w out bytes = (w.done < w.count) × BeginsWith w.width w.done w.last (drop w.place bytes) (entry_of w.width out)
+AnswersNext (Ok true) w out bytes = (w.done < w.count) × BeginsWith w.width w.done w.last (drop w.place bytes)
+    (entry_of w.width out)
 AnswersNext (Ok false) w out bytes = (w.done ≡ w.count) × (drop w.place bytes ≡ [])
 AnswersNext (Err Device) w out bytes = Unit {0}
 AnswersNext (Err Memory) w out bytes = ⊥

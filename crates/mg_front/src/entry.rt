@@ -60,8 +60,11 @@ fn read_byte<S: Store>(
     ensures fits { Fits feed.new (S.files store.new) }
     ensures file { SameFile feed.old feed.new }
     ensures looked { Between S.files S.reads S.faults store.old store.new (Looked feed.old.part) }
-    ensures told { IsSome (S.files store.old) → IfOk result (λ byte. byte ≡ slice_get (bytes_at (S.files store.old) feed.old.name) at) }
-    ensures read_on { IfOk result (λ byte. OnSome byte (ReadOn feed.old feed.new (S.reads store.old) (S.reads store.new) at (at + 1))) }
+    ensures told { IsSome (S.files store.old) →
+        IfOk result (λ byte. byte ≡ slice_get (bytes_at (S.files store.old) feed.old.name) at) }
+    ensures read_on { IfOk result (λ byte.
+        OnSome byte (ReadOn feed.old feed.new (S.reads store.old) (S.reads store.new) at
+        (at + 1))) }
     ensures read_to { ReadTo feed.old (S.reads store.old) (S.reads store.new) at (at + 1) }
     ensures cause { HasCause (S.faults store.old) (S.faults store.new) result }
 {
@@ -85,8 +88,11 @@ pub fn read_bytes<S: Store>(
     ensures fits { Fits feed.new (S.files store.new) }
     ensures file { SameFile feed.old feed.new }
     ensures looked { Between S.files S.reads S.faults store.old store.new (Looked feed.old.part) }
-    ensures told { IsSome (S.files store.old) → IfOk result (λ whole. IsPut whole out.old out.new from count at (bytes_at (S.files store.old) feed.old.name)) }
-    ensures read_on { IfOk result (λ whole. whole ≡ true → ReadOn feed.old feed.new (S.reads store.old) (S.reads store.new) at (at + count)) }
+    ensures told { IsSome (S.files store.old) →
+        IfOk result (λ whole. IsPut whole out.old out.new from count at
+        (bytes_at (S.files store.old) feed.old.name)) }
+    ensures read_on { IfOk result (λ whole. whole ≡ true →
+        ReadOn feed.old feed.new (S.reads store.old) (S.reads store.new) at (at + count)) }
     ensures read_to { ReadTo feed.old (S.reads store.old) (S.reads store.new) at (at + count) }
     ensures cause { HasCause (S.faults store.old) (S.faults store.new) result }
 {
@@ -144,9 +150,13 @@ fn read_head<S: Store>(
     ensures fits { Fits feed.new (S.files store.new) }
     ensures file { SameFile feed.old feed.new }
     ensures looked { Between S.files S.reads S.faults store.old store.new (Looked feed.old.part) }
-    ensures told { IsSome (S.files store.old) → IfOk result (λ head. HeadAt head (string_of before.now) at (bytes_at (S.files store.old) feed.old.name)) }
+    ensures told { IsSome (S.files store.old) →
+        IfOk result (λ head. HeadAt head (string_of before.now) at
+        (bytes_at (S.files store.old) feed.old.name)) }
     ensures room { IfOk result (λ head. IfSome head (λ h. HasRoom h (string_of before.now))) }
-    ensures read_on { IfOk result (λ head. OnSome head (ReadOn feed.old feed.new (S.reads store.old) (S.reads store.new) at (at + 2))) }
+    ensures read_on { IfOk result (λ head.
+        OnSome head (ReadOn feed.old feed.new (S.reads store.old) (S.reads store.new) at
+        (at + 2))) }
     ensures read_to { ReadTo feed.old (S.reads store.old) (S.reads store.new) at (at + 2) }
     ensures cause { HasCause (S.faults store.old) (S.faults store.new) result }
 {
@@ -176,10 +186,15 @@ fn read_behind<S: Store>(
     ensures fits { Fits feed.new (S.files store.new) }
     ensures file { SameFile feed.old feed.new }
     ensures looked { Between S.files S.reads S.faults store.old store.new (Looked feed.old.part) }
-    ensures told { IsSome (S.files store.old) → IfOk result (λ whole. IsBehind whole head width out.old.string out.new.string out.new.field at (bytes_at (S.files store.old) feed.old.name)) }
+    ensures told { IsSome (S.files store.old) →
+        IfOk result (λ whole. IsBehind whole head width out.old.string out.new.string out.new.field
+        at (bytes_at (S.files store.old) feed.old.name)) }
     ensures length { IfOk result (λ whole. whole ≡ true → IsAsLong head out.new) }
-    ensures read_on { IfOk result (λ whole. whole ≡ true → ReadOn feed.old feed.new (S.reads store.old) (S.reads store.new) at (at + head.more + width)) }
-    ensures read_to { ReadTo feed.old (S.reads store.old) (S.reads store.new) at (at + head.more + width) }
+    ensures read_on { IfOk result (λ whole. whole ≡ true →
+        ReadOn feed.old feed.new (S.reads store.old) (S.reads store.new) at
+        (at + head.more + width)) }
+    ensures read_to { ReadTo feed.old (S.reads store.old) (S.reads store.new) at
+        (at + head.more + width) }
     ensures cause { HasCause (S.faults store.old) (S.faults store.new) result }
 {
     let from = usize::from(head.shared);
@@ -207,9 +222,12 @@ pub fn read_whole<S: Store>(
     ensures fits { Fits feed.new (S.files store.new) }
     ensures file { SameFile feed.old feed.new }
     ensures looked { Between S.files S.reads S.faults store.old store.new (Looked feed.old.part) }
-    ensures told { FoundFrom feed.old (S.files store.old) at (read_whole width number (string_of before.now)) result (found_of width out.new) }
+    ensures told { FoundFrom feed.old (S.files store.old) at
+        (read_whole width number (string_of before.now)) result (found_of width out.new) }
     ensures size { IfOk result (λ size. IfSome size (λ n. n ≤ 281)) }
-    ensures read_on { IfOk result (λ size. IfSome size (λ n. ReadOn feed.old feed.new (S.reads store.old) (S.reads store.new) at (at + n))) }
+    ensures read_on { IfOk result (λ size.
+        IfSome size (λ n. ReadOn feed.old feed.new (S.reads store.old) (S.reads store.new) at
+        (at + n))) }
     ensures read_to { ReadTo feed.old (S.reads store.old) (S.reads store.new) at (at + 281) }
     ensures cause { HasCause (S.faults store.old) (S.faults store.new) result }
 {
@@ -229,7 +247,8 @@ pub fn read_whole<S: Store>(
 pub fn suffix_rises(before: &FrontEntry, entry: &FrontEntry, from: u8) -> bool
     requires before { from ≤ length (string_of before.now) }
     requires entry { from ≤ length (string_of entry.now) }
-    ensures { result ≡ rises_after_prefix (drop from (string_of before.now)) (drop from (string_of entry.now)) }
+    ensures { result ≡ rises_after_prefix (drop from (string_of before.now))
+        (drop from (string_of entry.now)) }
 {
     rises(
         &before.bytes()[usize::from(from)..],
@@ -252,9 +271,12 @@ pub fn read_cut<S: Store>(
     ensures fits { Fits feed.new (S.files store.new) }
     ensures file { SameFile feed.old feed.new }
     ensures looked { Between S.files S.reads S.faults store.old store.new (Looked feed.old.part) }
-    ensures told { FoundFrom feed.old (S.files store.old) at (read_cut width (string_of before.now)) result (found_of width out.new) }
+    ensures told { FoundFrom feed.old (S.files store.old) at (read_cut width (string_of before.now))
+        result (found_of width out.new) }
     ensures size { IfOk result (λ size. IfSome size (λ n. n ≤ 281)) }
-    ensures read_on { IfOk result (λ size. IfSome size (λ n. ReadOn feed.old feed.new (S.reads store.old) (S.reads store.new) at (at + n))) }
+    ensures read_on { IfOk result (λ size.
+        IfSome size (λ n. ReadOn feed.old feed.new (S.reads store.old) (S.reads store.new) at
+        (at + n))) }
     ensures read_to { ReadTo feed.old (S.reads store.old) (S.reads store.new) at (at + 281) }
     ensures cause { HasCause (S.faults store.old) (S.faults store.new) result }
 {
@@ -288,9 +310,12 @@ pub fn read_entry<S: Store>(
     ensures fits { Fits feed.new (S.files store.new) }
     ensures file { SameFile feed.old feed.new }
     ensures looked { Between S.files S.reads S.faults store.old store.new (Looked feed.old.part) }
-    ensures told { FoundFrom feed.old (S.files store.old) at (read_entry width number (string_of before.now)) result (found_of width out.new) }
+    ensures told { FoundFrom feed.old (S.files store.old) at
+        (read_entry width number (string_of before.now)) result (found_of width out.new) }
     ensures size { IfOk result (λ size. IfSome size (λ n. n ≤ 281)) }
-    ensures read_on { IfOk result (λ size. IfSome size (λ n. ReadOn feed.old feed.new (S.reads store.old) (S.reads store.new) at (at + n))) }
+    ensures read_on { IfOk result (λ size.
+        IfSome size (λ n. ReadOn feed.old feed.new (S.reads store.old) (S.reads store.new) at
+        (at + n))) }
     ensures read_to { ReadTo feed.old (S.reads store.old) (S.reads store.new) at (at + 281) }
     ensures cause { HasCause (S.faults store.old) (S.faults store.new) result }
 {

@@ -35,8 +35,10 @@ pub fn put_whole<S: Store>(
     field: &[u8],
 ) -> Result<(), PutErr>
     requires short { length string.now ≤ 255 }
-    ensures bytes { OnOk result (Wrote strings.old strings.new (S.files store.old) (S.files store.new) (length string.now ∷ (string.now ++ field.now))) }
-    ensures wrote { WroteTo strings.old.name (S.files store.old) (S.files store.new) (S.reads store.old) (S.reads store.new) }
+    ensures bytes { OnOk result (Wrote strings.old strings.new (S.files store.old)
+        (S.files store.new) (length string.now ∷ (string.now ++ field.now))) }
+    ensures wrote { WroteTo strings.old.name (S.files store.old) (S.files store.new)
+        (S.reads store.old) (S.reads store.new) }
     ensures cause { HasPutCause (S.faults store.old) (S.faults store.new) result }
 {
     strings.put(store, string.len() as u8)?;
@@ -55,8 +57,10 @@ pub fn put_cut<S: Store>(
 ) -> Result<(), PutErr>
     requires short { length string.now ≤ 255 }
     requires within { from ≤ length string.now }
-    ensures bytes { OnOk result (Wrote strings.old strings.new (S.files store.old) (S.files store.new) (cut_bytes from string.now field.now)) }
-    ensures wrote { WroteTo strings.old.name (S.files store.old) (S.files store.new) (S.reads store.old) (S.reads store.new) }
+    ensures bytes { OnOk result (Wrote strings.old strings.new (S.files store.old)
+        (S.files store.new) (cut_bytes from string.now field.now)) }
+    ensures wrote { WroteTo strings.old.name (S.files store.old) (S.files store.new)
+        (S.reads store.old) (S.reads store.new) }
     ensures cause { HasPutCause (S.faults store.old) (S.faults store.new) result }
 {
     strings.put(store, from as u8)?;
@@ -78,10 +82,13 @@ pub fn put_entry<S: Store>(
 ) -> Result<u64, PutErr>
     requires short { length string.now ≤ 255 }
     requires field { length field.now ≤ 24 }
-    ensures bytes { OnOk result (Wrote strings.old strings.new (S.files store.old) (S.files store.new) (coded_entry number before.now string.now field.now)) }
-    ensures size { IfOk result (λ size. size ≡ length (coded_entry number before.now string.now field.now)) }
+    ensures bytes { OnOk result (Wrote strings.old strings.new (S.files store.old)
+        (S.files store.new) (coded_entry number before.now string.now field.now)) }
+    ensures size { IfOk result (λ size.
+        size ≡ length (coded_entry number before.now string.now field.now)) }
     ensures most { IfOk result (λ size. size ≤ 281) }
-    ensures wrote { WroteTo strings.old.name (S.files store.old) (S.files store.new) (S.reads store.old) (S.reads store.new) }
+    ensures wrote { WroteTo strings.old.name (S.files store.old) (S.files store.new)
+        (S.reads store.old) (S.reads store.new) }
     ensures cause { HasPutCause (S.faults store.old) (S.faults store.new) result }
 {
     if number % 4 == 0 {
@@ -102,8 +109,10 @@ pub fn put_place<S: Store>(
     place: u64,
 ) -> Result<(), PutErr>
     requires place { place < 2 ^ 32 }
-    ensures bytes { OnOk result (PlaceWrote places.old places.new (S.files store.old) (S.files store.new) (if number % 4 == 0 then four place else [])) }
-    ensures wrote { WroteToPlaces places.old (S.files store.old) (S.files store.new) (S.reads store.old) (S.reads store.new) }
+    ensures bytes { OnOk result (PlaceWrote places.old places.new (S.files store.old)
+        (S.files store.new) (if number % 4 == 0 then four place else [])) }
+    ensures wrote { WroteToPlaces places.old (S.files store.old) (S.files store.new)
+        (S.reads store.old) (S.reads store.new) }
     ensures cause { HasPutCause (S.faults store.old) (S.faults store.new) result }
 {
     if number % 4 == 0 {

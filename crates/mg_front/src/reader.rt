@@ -40,9 +40,11 @@ pub fn place_of<S: Store>(
     ensures fits { Fits places.new (S.files store.new) }
     ensures file { SameFile places.old places.new }
     ensures looked { Between S.files S.reads S.faults store.old store.new (Looked places.old.part) }
-    ensures told { IsSome (S.files store.old) → IfOk result (λ place. HasPlace (bytes_at (S.files store.old) places.old.name) block place) }
+    ensures told { IsSome (S.files store.old) →
+        IfOk result (λ place. HasPlace (bytes_at (S.files store.old) places.old.name) block place) }
     ensures small { IfOk result (λ place. place < 2 ^ 32) }
-    ensures bad { IfErr result (λ refusal. LacksPlace refusal places.old (S.files store.old) block) }
+    ensures bad { IfErr result (λ refusal.
+        LacksPlace refusal places.old (S.files store.old) block) }
     ensures memory { result ≢ Err PartErr.Memory }
     ensures page { S.reads store.new places.old.part ≤ S.reads store.old places.old.part + 1 }
     ensures cause { HasPartCause (S.faults store.old) (S.faults store.new) result }
@@ -79,9 +81,12 @@ pub fn read_block<S: Store>(
     requires last { last < 4 }
     ensures fits { Fits strings.new (S.files store.new) }
     ensures file { SameFile strings.old strings.new }
-    ensures looked { Between S.files S.reads S.faults store.old store.new (Looked strings.old.part) }
-    ensures told { AtBlock strings.old (S.files store.old) width from (GivesEntry result last width out.new) }
-    ensures read_to { ReadTo strings.old (S.reads store.old) (S.reads store.new) from (from + 1124) }
+    ensures looked { Between S.files S.reads S.faults store.old store.new
+        (Looked strings.old.part) }
+    ensures told { AtBlock strings.old (S.files store.old) width from
+        (GivesEntry result last width out.new) }
+    ensures read_to { ReadTo strings.old (S.reads store.old) (S.reads store.new) from
+        (from + 1124) }
     ensures cause { HasCause (S.faults store.old) (S.faults store.new) result }
 {
     let mut place = from;
@@ -125,10 +130,13 @@ fn scan_block<S: Store>(
     requires most { most ≤ 4 }
     ensures fits { Fits strings.new (S.files store.new) }
     ensures file { SameFile strings.old strings.new }
-    ensures looked { Between S.files S.reads S.faults store.old store.new (Looked strings.old.part) }
-    ensures told { AtBlock strings.old (S.files store.old) width from (ScansBlock result most string.now width out.new) }
+    ensures looked { Between S.files S.reads S.faults store.old store.new
+        (Looked strings.old.part) }
+    ensures told { AtBlock strings.old (S.files store.old) width from
+        (ScansBlock result most string.now width out.new) }
     ensures number { IfOk result (λ scan. IsInBlock scan most) }
-    ensures read_to { ReadTo strings.old (S.reads store.old) (S.reads store.new) from (from + 1124) }
+    ensures read_to { ReadTo strings.old (S.reads store.old) (S.reads store.new) from
+        (from + 1124) }
     ensures cause { HasCause (S.faults store.old) (S.faults store.new) result }
 {
     let mut place = from;
@@ -211,9 +219,11 @@ impl<'a, S: Store> FrontReader<'a, S> {
         requires width { width ≤ 24 }
         ensures fits { IfOk result (λ reader. FrontFits reader (S.files store.new)) }
         ensures reader { IfOk result (λ reader. IsReader reader
-            (file_name strings.entry) strings.entry.part (file_name places.entry) places.entry.part width count) }
+            (file_name strings.entry) strings.entry.part (file_name places.entry) places.entry.part
+            width count) }
         ensures answer { AnswersPlacesOf places.entry count (S.files store.old) result }
-        ensures stands { WherePlacesStand places.entry (S.files store.old) count (IfErr result (λ refusal. IsNotBad refusal)) }
+        ensures stands { WherePlacesStand places.entry (S.files store.old) count
+            (IfErr result (λ refusal. IsNotBad refusal)) }
         ensures files { S.files store.new ≡ S.files store.old }
         ensures reads { SameReads (S.reads store.old) (S.reads store.new) }
         ensures cause { HasPartCause (S.faults store.old) (S.faults store.new) result }
@@ -251,9 +261,12 @@ impl<'a, S: Store> FrontReader<'a, S> {
         requires below { i < self.old.count }
         ensures fits { FrontFits self.new (S.files store.new) }
         ensures same { SameParts self.old self.new }
-        ensures looked { Between S.files S.reads S.faults store.old store.new (LookedAt self.old.strings.part self.old.places.part) }
-        ensures entry { (es : List Entry) → FrontStands self.old (S.files store.old) es → AnswersAt result self.old.width i out.new es }
-        ensures bad { IfErr result (λ refusal. IsLost refusal self.old (S.files store.old) (i / 4)) }
+        ensures looked { Between S.files S.reads S.faults store.old store.new
+            (LookedAt self.old.strings.part self.old.places.part) }
+        ensures entry { (es : List Entry) → FrontStands self.old (S.files store.old) es →
+            AnswersAt result self.old.width i out.new es }
+        ensures bad { IfErr result (λ refusal.
+            IsLost refusal self.old (S.files store.old) (i / 4)) }
         ensures memory { result ≢ Err PartErr.Memory }
         ensures reads { ReaderLooks self.old (S.reads store.old) (S.reads store.new) 1 }
         ensures cause { HasPartCause (S.faults store.old) (S.faults store.new) result }
@@ -288,11 +301,14 @@ impl<'a, S: Store> FrontReader<'a, S> {
         requires fits { FrontFits self.old (S.files store.old) }
         ensures fits { FrontFits self.new (S.files store.new) }
         ensures same { SameParts self.old self.new }
-        ensures looked { Between S.files S.reads S.faults store.old store.new (LookedAt self.old.strings.part self.old.places.part) }
-        ensures found { (es : List Entry) → FrontStands self.old (S.files store.old) es → AnswersFind result self.old.width string.now out.new es }
+        ensures looked { Between S.files S.reads S.faults store.old store.new
+            (LookedAt self.old.strings.part self.old.places.part) }
+        ensures found { (es : List Entry) → FrontStands self.old (S.files store.old) es →
+            AnswersFind result self.old.width string.now out.new es }
         ensures bad { IfErr result (λ refusal. IsLostAmong refusal self.old (S.files store.old)) }
         ensures memory { result ≢ Err PartErr.Memory }
-        ensures reads { ReaderLooks self.old (S.reads store.old) (S.reads store.new) (looks self.old.count) }
+        ensures reads { ReaderLooks self.old (S.reads store.old) (S.reads store.new)
+            (looks self.old.count) }
         ensures cause { HasPartCause (S.faults store.old) (S.faults store.new) result }
     {
         let block = match self.block_of(store, string, out) {
@@ -313,12 +329,15 @@ impl<'a, S: Store> FrontReader<'a, S> {
         requires fits { FrontFits self.old (S.files store.old) }
         ensures fits { FrontFits self.new (S.files store.new) }
         ensures same { SameParts self.old self.new }
-        ensures looked { Between S.files S.reads S.faults store.old store.new (LookedAt self.old.strings.part self.old.places.part) }
-        ensures found { (es : List Entry) → FrontStands self.old (S.files store.old) es → AnswersBlock result string.now es }
+        ensures looked { Between S.files S.reads S.faults store.old store.new
+            (LookedAt self.old.strings.part self.old.places.part) }
+        ensures found { (es : List Entry) → FrontStands self.old (S.files store.old) es →
+            AnswersBlock result string.now es }
         ensures below { IfOk result (λ block. IfSome block (λ b. 4 * b < self.old.count)) }
         ensures bad { IfErr result (λ refusal. IsLostAmong refusal self.old (S.files store.old)) }
         ensures memory { result ≢ Err PartErr.Memory }
-        ensures reads { ReaderLooks self.old (S.reads store.old) (S.reads store.new) (halvings (div_ceil self.old.count 4)) }
+        ensures reads { ReaderLooks self.old (S.reads store.old) (S.reads store.new)
+            (halvings (div_ceil self.old.count 4)) }
         ensures cause { HasPartCause (S.faults store.old) (S.faults store.new) result }
     {
         let mut low = 0u32;
@@ -351,8 +370,10 @@ impl<'a, S: Store> FrontReader<'a, S> {
         requires below { 4 * block < self.old.count }
         ensures fits { FrontFits self.new (S.files store.new) }
         ensures same { SameParts self.old self.new }
-        ensures looked { Between S.files S.reads S.faults store.old store.new (LookedAt self.old.strings.part self.old.places.part) }
-        ensures found { (es : List Entry) → FrontStands self.old (S.files store.old) es → AnswersIn result block self.old.width string.now out.new es }
+        ensures looked { Between S.files S.reads S.faults store.old store.new
+            (LookedAt self.old.strings.part self.old.places.part) }
+        ensures found { (es : List Entry) → FrontStands self.old (S.files store.old) es →
+            AnswersIn result block self.old.width string.now out.new es }
         ensures bad { IfErr result (λ refusal. IsLost refusal self.old (S.files store.old) block) }
         ensures memory { result ≢ Err PartErr.Memory }
         ensures reads { ReaderLooks self.old (S.reads store.old) (S.reads store.new) 1 }

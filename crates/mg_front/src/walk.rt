@@ -82,14 +82,18 @@ impl<'a, S: Store> FrontWalk<'a, S> {
     /// calls together read each page at most once, up to the first refusal.
     pub fn next(&mut self, store: &mut S, out: &mut FrontEntry) -> Result<bool, PartErr>
         requires gave { (es : List Entry) × Gave self.old (S.files store.old) es }
-        ensures gave { GaveNext self.old self.new (S.files store.old) (S.files store.new) result out.new }
-        ensures answer { IsSome (S.files store.old) → AnswersNext result self.old out.new (bytes_at (S.files store.old) self.old.feed.name) }
+        ensures gave { GaveNext self.old self.new (S.files store.old) (S.files store.new) result
+            out.new }
+        ensures answer { IsSome (S.files store.old) →
+            AnswersNext result self.old out.new (bytes_at (S.files store.old) self.old.feed.name) }
         ensures step { IfOk result (λ more. AfterNext more self.old self.new) }
         ensures same { SameWalk self.old self.new }
-        ensures looked { Between S.files S.reads S.faults store.old store.new (Looked self.old.feed.part) }
+        ensures looked { Between S.files S.reads S.faults store.old store.new
+            (Looked self.old.feed.part) }
         ensures reads { ReadsNext result self.old self.new (S.reads store.old) (S.reads store.new) }
         ensures cause { HasPartCause (S.faults store.old) (S.faults store.new) result }
-        ensures among { WhereFront self.old (S.files store.old) (AnswersAmong result self.old out.new) }
+        ensures among { WhereFront self.old (S.files store.old)
+            (AnswersAmong result self.old out.new) }
         ensures memory { result ≢ Err PartErr.Memory }
     {
         self.step(store, out)
@@ -98,11 +102,14 @@ impl<'a, S: Store> FrontWalk<'a, S> {
     // The next entry, over any bytes.
     fn step(&mut self, store: &mut S, out: &mut FrontEntry) -> Result<bool, PartErr>
         requires gave { (es : List Entry) × Gave self.old (S.files store.old) es }
-        ensures gave { GaveNext self.old self.new (S.files store.old) (S.files store.new) result out.new }
-        ensures answer { IsSome (S.files store.old) → AnswersNext result self.old out.new (bytes_at (S.files store.old) self.old.feed.name) }
+        ensures gave { GaveNext self.old self.new (S.files store.old) (S.files store.new) result
+            out.new }
+        ensures answer { IsSome (S.files store.old) →
+            AnswersNext result self.old out.new (bytes_at (S.files store.old) self.old.feed.name) }
         ensures step { IfOk result (λ more. AfterNext more self.old self.new) }
         ensures same { SameWalk self.old self.new }
-        ensures looked { Between S.files S.reads S.faults store.old store.new (Looked self.old.feed.part) }
+        ensures looked { Between S.files S.reads S.faults store.old store.new
+            (Looked self.old.feed.part) }
         ensures reads { ReadsNext result self.old self.new (S.reads store.old) (S.reads store.new) }
         ensures cause { HasPartCause (S.faults store.old) (S.faults store.new) result }
         ensures memory { result ≢ Err PartErr.Memory }

@@ -52,9 +52,12 @@ fn start_places<'a, S: Store>(
     places: Option<FileRef<'a>>,
 ) -> Result<Option<PageWriter<'a>>, PutErr>
     ensures started { IfOk result
-        (λ writer. StartedPlaces (option_map file_name places.entry) writer (S.files store.old) (S.files store.new)) }
-    ensures empty { OnOk result (S.files store.new ≡ with_empty (S.files store.old) (option_map file_name places.entry)) }
-    ensures wrote { WroteToAsked (option_map file_name places.entry) (S.files store.old) (S.files store.new)
+        (λ writer. StartedPlaces (option_map file_name places.entry) writer (S.files store.old)
+        (S.files store.new)) }
+    ensures empty { OnOk result (S.files store.new ≡ with_empty (S.files store.old)
+        (option_map file_name places.entry)) }
+    ensures wrote { WroteToAsked (option_map file_name places.entry) (S.files store.old)
+        (S.files store.new)
         (S.reads store.old) (S.reads store.new) }
     ensures cause { HasPutCause (S.faults store.old) (S.faults store.new) result }
 {
@@ -69,9 +72,11 @@ fn start_places<'a, S: Store>(
 
 // Writes the places that are held, where there are any.
 fn finish_places<S: Store>(places: &mut Option<PageWriter<'_>>, store: &mut S) -> Result<(), PutErr>
-    ensures bytes { OnOk result (PlaceWrote places.old places.new (S.files store.old) (S.files store.new) []) }
+    ensures bytes { OnOk result (PlaceWrote places.old places.new (S.files store.old)
+        (S.files store.new) []) }
     ensures nothing { OnOk result (HoldsNothing places.new) }
-    ensures wrote { WroteToPlaces places.old (S.files store.old) (S.files store.new) (S.reads store.old) (S.reads store.new) }
+    ensures wrote { WroteToPlaces places.old (S.files store.old) (S.files store.new)
+        (S.reads store.old) (S.reads store.new) }
     ensures cause { HasPutCause (S.faults store.old) (S.faults store.new) result }
 {
     match places {
@@ -93,7 +98,8 @@ impl<'a> FrontWriter<'a> {
         requires width { width ≤ 24 }
         requires apart { ForSome (option_map file_name places) (λ name. name ≢ file_name strings) }
         ensures took { IfOk result (λ writer. Took writer (S.files store.new) []) }
-        ensures empty { OnOk result (S.files store.new ≡ with_empty (written (S.files store.old) (file_name strings.entry) [])
+        ensures empty { OnOk result (S.files store.new ≡
+            with_empty (written (S.files store.old) (file_name strings.entry) [])
             (option_map file_name places.entry)) }
         ensures name { IfOk result (λ writer. writer.strings.name ≡ file_name strings.entry) }
         ensures places { IfOk result (λ writer. option_map (λ places. places.name) writer.places
@@ -134,14 +140,18 @@ impl<'a> FrontWriter<'a> {
         requires took { (es : List Entry) × Took self.old (S.files store.old) es }
         requires few { self.old.count < 2 ^ 22 }
         requires width { self.old.width ≤ 24 }
-        requires entry { IsEntry self.old.width self.old.count self.old.last (record { string = string.now; field = field.now }) }
-        ensures took { OnOk result (TookAlso self.old self.new (S.files store.old) (S.files store.new) (record { string = string.now; field = field.now })) }
+        requires entry { IsEntry self.old.width self.old.count self.old.last
+            (record { string = string.now; field = field.now }) }
+        ensures took { OnOk result (TookAlso self.old self.new (S.files store.old)
+            (S.files store.new) (record { string = string.now; field = field.now })) }
         ensures count { OnOk result (self.new.count ≡ self.old.count + 1) }
         ensures last { OnOk result (self.new.last ≡ string.now) }
         ensures name { OnOk result (self.new.strings.name ≡ self.old.strings.name) }
-        ensures places { OnOk result (option_map (λ places. places.name) self.new.places ≡ option_map (λ places. places.name) self.old.places) }
+        ensures places { OnOk result (option_map (λ places. places.name) self.new.places
+            ≡ option_map (λ places. places.name) self.old.places) }
         ensures width { self.new.width ≡ self.old.width }
-        ensures others { (n : List ℕ) → IsOther n self.old.strings.name self.old.places → SameAt (S.files store.old) (S.files store.new) n }
+        ensures others { (n : List ℕ) → IsOther n self.old.strings.name self.old.places →
+            SameAt (S.files store.old) (S.files store.new) n }
         ensures told { is_some (S.files store.new) ≡ is_some (S.files store.old) }
         ensures reads { SameReads (S.reads store.old) (S.reads store.new) }
         ensures cause { HasPutCause (S.faults store.old) (S.faults store.new) result }
@@ -166,9 +176,11 @@ impl<'a> FrontWriter<'a> {
     /// whole ones.
     pub fn finish<S: Store>(&mut self, store: &mut S) -> Result<(), PutErr>
         requires took { (es : List Entry) × Took self.old (S.files store.old) es }
-        ensures finished { OnOk result (FinishedAll self.old (S.files store.old) (S.files store.new)) }
+        ensures finished { OnOk result
+            (FinishedAll self.old (S.files store.old) (S.files store.new)) }
         ensures width { self.new.width ≡ self.old.width }
-        ensures others { (n : List ℕ) → IsOther n self.old.strings.name self.old.places → SameAt (S.files store.old) (S.files store.new) n }
+        ensures others { (n : List ℕ) → IsOther n self.old.strings.name self.old.places →
+            SameAt (S.files store.old) (S.files store.new) n }
         ensures told { is_some (S.files store.new) ≡ is_some (S.files store.old) }
         ensures reads { SameReads (S.reads store.old) (S.reads store.new) }
         ensures cause { HasPutCause (S.faults store.old) (S.faults store.new) result }

@@ -92,7 +92,8 @@ fn may_come(number: u32, before: &[u8], string: &[u8]) -> bool
 
 // Whether these are an entry of this number after the string before.
 fn is_entry(width: usize, number: u32, before: &[u8], string: &[u8], field: &[u8]) -> bool
-    ensures { OnTrue result (IsEntry width number before.now (record { string = string.now; field = field.now })) }
+    ensures { OnTrue result (IsEntry width number before.now
+        (record { string = string.now; field = field.now })) }
 {
     if string.len() > 255 {
         return false;

@@ -14,7 +14,8 @@ pub handed_none : (told : Option (List ℕ)) (w : Writer) (each : ℕ → Made) 
 unfolding repeated made_bytes
 handed_none told w each seed none state = record { done = []; out = sym (appended-nil told); bytes = sym none; state = state }
 
-pub handed_more : {old new : Option (List ℕ)} {w later : Writer} {each : ℕ → Made} (n seed : ℕ) → Handed old new w (repeated n each seed) → Grew w later each → Handed old new later (repeated (suc n) each seed)
+pub handed_more : {old new : Option (List ℕ)} {w later : Writer} {each : ℕ → Made} (n seed : ℕ) → Handed old new w (repeated n each seed) → Grew w later each →
+    Handed old new later (repeated (suc n) each seed)
 handed_more {old} {new} {w} {later} {each} n seed handed grew =
     let last = repeated_last n each seed in
     record {
@@ -51,12 +52,14 @@ handed_part {old} {mid} {new} {w} each n docs seed le handed grew =
     (ap (λ l. l ++ rest) (sym handed.bytes) ∙ sym (repeated_front n (docs - n) each seed) ∙ ap (λ k. (repeated k each seed).bytes) e)
     (grew_first old new (handed.done ++ w.text.items) rest so_far)
 
-pub handed_so_far : {old new : Option (List ℕ)} {w later : Writer} (each : ℕ → Made) (n seed : ℕ) → Handed old new w (repeated n each seed) → Grew w later each → Handed old new later (repeated (n + 1) each seed)
+pub handed_so_far : {old new : Option (List ℕ)} {w later : Writer} (each : ℕ → Made) (n seed : ℕ) → Handed old new w (repeated n each seed) →
+    Grew w later each → Handed old new later (repeated (n + 1) each seed)
 handed_so_far {old} {new} {w} {later} each n seed handed grew =
     let e : suc n ≡ n + 1 = omega arith in subst (λ k. Handed old new later (repeated k each seed)) e (handed_more n seed handed grew)
 
 -- the last put
-pub handed_last : {T E : Type 0} {old mid : Option (List ℕ)} {w : Writer} (new : Option (List ℕ)) (each : ℕ → Made) (n docs seed : ℕ) (result : Result T E) → Handed old mid w (repeated n each seed) → n ≡ docs →
+pub handed_last : {T E : Type 0} {old mid : Option (List ℕ)} {w : Writer} (new : Option (List ℕ)) (each : ℕ → Made) (n docs seed : ℕ) (result : Result T E) →
+    Handed old mid w (repeated n each seed) → n ≡ docs →
     AfterPut mid new w.text.items result → AfterPut old new (repeated docs each seed).bytes result
 handed_last {T} {E} {old} {mid} {w} new each n docs seed (Ok x) handed e put = handed_all (subst (λ k. Handed old mid w (repeated k each seed)) e handed) put
 handed_last {T} {E} {old} {mid} {w} new each n docs seed (Err x) handed e grew = handed_part each n docs seed (omega (arith, e)) handed grew

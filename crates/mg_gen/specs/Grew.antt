@@ -17,6 +17,8 @@ pub record Handed (old new : Option (List ℕ)) (writer : Writer) (made : Made) 
   pub state : writer.generator.state ≡ made.state
 
 -- where this much was made, after `Ok` it still is what was handed on and what the writer has; after a refusal a prefix of the writer's text was handed on
-abbrev pub StaysHanded : {Y T E : Type 0} → (Y → Option (List ℕ)) → Y → Y → Writer → Writer → Result T E → Option (List ℕ) → Made → Type 0
+abbrev pub StaysHanded : {Y T E : Type 0} → (Y → Option (List ℕ)) → Y → Y → Writer → Writer → Result T E →
+    Option (List ℕ) → Made → Type 0
 StaysHanded written before now writer writer_now result old made = Handed old (written before) writer made →
-    MatchResult result (λ _. Handed old (written now) writer_now made) (λ _. GrewByPrefix (written before) (written now) writer.text.items)
+    MatchResult result (λ _. Handed old (written now) writer_now made)
+    (λ _. GrewByPrefix (written before) (written now) writer.text.items)

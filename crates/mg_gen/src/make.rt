@@ -12,7 +12,8 @@ use mg_dev::{PutErr, Sink};
 impl Writer {
     /// Hands the text on where there is no room for another document.
     fn make_room<O: Sink>(&mut self, out: &mut O) -> Result<(), PutErr>
-        ensures handed { (old : Option (List ℕ)) (made : Made) → StaysHanded O.written out.old out.new self.old self.new result old made }
+        ensures handed { (old : Option (List ℕ)) (made : Made) →
+            StaysHanded O.written out.old out.new self.old self.new result old made }
         ensures room { OnOk result (length self.new.text.items + 867 ≤ 8192) }
         ensures cause { HasPutCause (O.faults out.old) (O.faults out.new) result }
         ensures lack { HasLack (O.lacks out.old) (O.lacks out.new) result }
@@ -30,7 +31,8 @@ impl Writer {
 ///
 /// After a refusal a prefix of them was written; it comes from the sink alone.
 pub fn make_collection<O: Sink>(seed: u64, docs: u32, out: &mut O) -> Result<(), PutErr>
-    ensures text { AfterPut (O.written out.old) (O.written out.new) (made_collection seed docs) result }
+    ensures text { AfterPut (O.written out.old) (O.written out.new) (made_collection seed docs)
+        result }
     ensures cause { HasPutCause (O.faults out.old) (O.faults out.new) result }
     ensures lack { HasLack (O.lacks out.old) (O.lacks out.new) result }
 {

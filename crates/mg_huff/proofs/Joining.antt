@@ -60,7 +60,8 @@ merge-step m n a b leaves inner s f e =
 module _ (whole total : ℕ) (first second : Bool) (a b last cost : ℕ) (leaves inner : List ℕ)
     (a_leaves : Above a (on_leaves second b leaves)) (a_inner : Above a (on_inner second b inner))
     (b_leaves : Above b leaves) (b_inner : Above b inner) where
-  pub joined : Grove whole total (on_leaves first a (on_leaves second b leaves)) (on_inner first a (on_inner second b inner)) last cost → Grove whole total leaves (inner ++ (a + b) ∷ []) b (cost + (a + b))
+  pub joined : Grove whole total (on_leaves first a (on_leaves second b leaves)) (on_inner first a (on_inner second b inner)) last cost →
+      Grove whole total leaves (inner ++ (a + b) ∷ []) b (cost + (a + b))
   joined g =
       let l1 = length-placed first a (on_leaves second b leaves) (on_inner second b inner) in
       let l2 = length-placed second b leaves inner in
@@ -82,15 +83,32 @@ module _ (whole total : ℕ) (first second : Bool) (a b last cost : ℕ) (leaves
             let len = length-append inner ((a + b) ∷ []) in
             let first_out = sorted-placed first a (on_leaves second b leaves) (on_inner second b inner) a_leaves a_inner in
             let second_out = sorted-placed second b leaves inner b_leaves b_inner in
-            let step = merge-step (length (on_leaves first a (on_leaves second b leaves)) + length (on_inner first a (on_inner second b inner))) (length leaves + length (inner ++ (a + b) ∷ [])) a b leaves inner (sorted (on_leaves first a (on_leaves second b leaves) ++ on_inner first a (on_inner second b inner))) (omega arith) (first_out ∙ ap (λ t. a ∷ t) second_out) in
+            let step = merge-step (length (on_leaves first a (on_leaves second b leaves)) + length (on_inner first a (on_inner second b inner)))
+            (length leaves + length (inner ++ (a + b) ∷ [])) a b leaves inner
+            (sorted (on_leaves first a (on_leaves second b leaves) ++ on_inner first a (on_inner second b inner))) (omega arith)
+            (first_out ∙ ap (λ t. a ∷ t) second_out) in
             let old = g.same_cost in
             omega arith);
         same_weight = let e = sum_by-append (λ x. x) inner ((a + b) ∷ []) in let w = g.same_weight in omega arith;
       }
 
   -- two weights that each were the least lead on by one join
-  pub grown : (counts : List ℕ) (joins : List Join) → Grove whole total (on_leaves first a (on_leaves second b leaves)) (on_inner first a (on_inner second b inner)) last cost → Reached counts joins (on_leaves first a (on_leaves second b leaves)) (on_inner first a (on_inner second b inner)) last cost → Reached counts (record { first = first; second = second } ∷ joins) leaves (inner ++ (a + b) ∷ []) b (cost + (a + b))
-  grown counts joins g r = (a, last, cost, inner, refl, refl, g.starts, placed-above first last a (on_leaves second b leaves) (on_inner second b inner) g.leaves_above g.inner_above, placed-above second a b leaves inner a_leaves a_inner, r)
+  pub grown : (counts : List ℕ) (joins : List Join) → Grove whole total (on_leaves first a (on_leaves second b leaves))
+      (on_inner first a (on_inner second b inner)) last cost →
+      Reached counts joins (on_leaves first a (on_leaves second b leaves)) (on_inner first a (on_inner second b inner)) last cost →
+      Reached counts (record { first = first; second = second } ∷ joins) leaves (inner ++ (a + b) ∷ []) b (cost + (a + b))
+  grown counts joins g r = (
+    a,
+    last,
+    cost,
+    inner,
+    refl,
+    refl,
+    g.starts,
+    placed-above first last a (on_leaves second b leaves) (on_inner second b inner) g.leaves_above g.inner_above,
+    placed-above second a b leaves inner a_leaves a_inner,
+    r,
+  )
 
 module _ (total : ℕ) (counts : List ℕ) (joins : List Join) (first second : Bool) (a b : ℕ) (l0 i0 l1 i1 l2 i2 : List ℕ)
     (g : Grown total counts joins l0 i0)
@@ -121,10 +139,24 @@ module _ (total : ℕ) (counts : List ℕ) (joins : List Join) (first second : B
 
 pub grown_start : (leaves : List ℕ) → Rising leaves → Above 1 leaves → Grown (merge_cost (length leaves) (sorted leaves)) leaves [] leaves []
 grown_start leaves up above =
-    let e : 0 + merge_cost (length leaves + 0) (sorted (leaves ++ [])) ≡ merge_cost (length leaves) (sorted leaves) = rw (append-nil leaves, add-zero, zero-add) in
-    (1, 0, record { starts = omega arith; leaves_rise = up; inner_rise = tt; leaves_above = above; inner_above = tt; inner_below = tt; same_cost = e; same_weight = omega arith }, (refl, refl, refl, refl))
+    let e : 0 + merge_cost (length leaves + 0) (sorted (leaves ++ [])) ≡ merge_cost (length leaves) (sorted leaves) = rw (append-nil leaves, add-zero, zero-add) in (
+      1,
+      0,
+      record {
+        starts = omega arith;
+        leaves_rise = up;
+        inner_rise = tt;
+        leaves_above = above;
+        inner_above = tt;
+        inner_below = tt;
+        same_cost = e;
+        same_weight = omega arith;
+      },
+      (refl, refl, refl, refl),
+    )
 
-pub grown_whole : (leaves : List ℕ) (joins : List Join) (l i : List ℕ) → Grown (merge_cost (length leaves) (sorted leaves)) leaves (reverse joins) l i → length l ≡ 0 → length i ≡ 1 → IsWhole leaves joins
+pub grown_whole : (leaves : List ℕ) (joins : List Join) (l i : List ℕ) → Grown (merge_cost (length leaves) (sorted leaves)) leaves (reverse joins) l i →
+    length l ≡ 0 → length i ≡ 1 → IsWhole leaves joins
 grown_whole leaves joins (x ∷ l) i g p q = absurd (omega arith)
 grown_whole leaves joins [] [] g p q = absurd (omega arith)
 grown_whole leaves joins [] (w ∷ v ∷ i) g p q = absurd (omega arith)
@@ -135,7 +167,9 @@ grown_whole leaves joins [] (w ∷ []) g p q =
     let f : g.1 ≡ merge_cost (length leaves) (sorted leaves) = omega arith in
     (g.0, subst (λ c. Reached leaves (reverse joins) [] (sum leaves ∷ []) g.0 c) f (subst (λ v. Reached leaves (reverse joins) [] (v ∷ []) g.0 g.1) e g.3))
 
-pub grown_pushed : (total : ℕ) (counts : List ℕ) (joins more : List Join) (join : Join) (made made_more : List ℕ) (w n : ℕ) (leaves : List ℕ) → Grown total counts (join ∷ reverse joins) leaves (drop n made ++ w ∷ []) → more ≡ joins ++ join ∷ [] → made_more ≡ made ++ w ∷ [] → n ≤ length made → Grown total counts (reverse more) leaves (drop n made_more)
+pub grown_pushed : (total : ℕ) (counts : List ℕ) (joins more : List Join) (join : Join) (made made_more : List ℕ) (w n : ℕ) (leaves : List ℕ) →
+    Grown total counts (join ∷ reverse joins) leaves (drop n made ++ w ∷ []) → more ≡ joins ++ join ∷ [] → made_more ≡ made ++ w ∷ [] → n ≤ length made →
+    Grown total counts (reverse more) leaves (drop n made_more)
 grown_pushed total counts joins more join made made_more w n leaves g e f h =
     let p : reverse more ≡ join ∷ reverse joins = ap reverse e ∙ reverse-append joins (join ∷ []) in
     let q : drop n made_more ≡ drop n made ++ w ∷ [] = ap (λ m. drop n m) f ∙ drop-append-le n made (w ∷ []) h in

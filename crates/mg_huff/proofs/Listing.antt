@@ -24,7 +24,8 @@ none_more k order p e h = let t = times-push k order p in grind (arith, nat_test
 once_more : (k : ℕ) (order : List Counted) (p : Counted) (at : ℕ) → times_at k order ≤ 1 → (at ≤ k → times_at k order ≡ 0) → p.place ≡ at → times_at k (order ++ p ∷ []) ≤ 1
 once_more k order p at h none e = let t = times-push k order p in grind (arith, nat_tests)
 
-pub listing_more : (counts : List ℕ) (order : List Counted) (at : ℕ) (p : Counted) → IsListing counts order at → at < length counts → p.place ≡ at → p.count ≡ get_or counts at 0 → IsListing counts (order ++ p ∷ []) (at + 1)
+pub listing_more : (counts : List ℕ) (order : List Counted) (at : ℕ) (p : Counted) → IsListing counts order at → at < length counts → p.place ≡ at →
+    p.count ≡ get_or counts at 0 → IsListing counts (order ++ p ∷ []) (at + 1)
 listing_more counts order at p l h e f =
     let pushed = λ (k : ℕ). sum_by-append (λ (q : Counted). cond (q.place == k) 1 0) order (p ∷ []) in
     record {

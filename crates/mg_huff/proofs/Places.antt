@@ -129,7 +129,8 @@ module _ (counts : List ℕ) (order : List Counted) (found out : List ℕ) (at :
     same_length = length-set out p.place (get_or found at 0) ∙ u.same_length;
   }
 
-pub placed_all : (counts : List ℕ) (order : List Counted) (found out : List ℕ) (at : ℕ) → Placed counts order found at out → at ≡ length counts → length (counts_of order) ≡ length counts → length found ≡ length counts → AreInPlace counts order found out
+pub placed_all : (counts : List ℕ) (order : List Counted) (found out : List ℕ) (at : ℕ) → Placed counts order found at out → at ≡ length counts →
+    length (counts_of order) ≡ length counts → length found ≡ length counts → AreInPlace counts order found out
 placed_all counts order found out at u e f g =
     let no_counts : drop at (counts_of order) ≡ [] = ap (λ n. drop n (counts_of order)) (e ∙ sym f) ∙ drop-length (counts_of order) in
     let no_found : drop at found ≡ [] = ap (λ n. drop n found) (e ∙ sym g) ∙ drop-length found in

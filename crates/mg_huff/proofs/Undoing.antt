@@ -25,7 +25,8 @@ module _ (whole total : ℕ) (counts : List ℕ) (join : Join) (joins : List Joi
       let one = r.6 in let two = r.7 in let three = r.8 in
       depth_bound whole last (r.0 + last) d p.1 (omega arith) (omega arith) small
 
-  pub undo-spread : Spread whole total (on_leaves join.first r.0 (on_leaves join.second last leaves)) (on_inner join.first r.0 (on_inner join.second last r.3)) (on_leaves join.first (suc d) (on_leaves join.second (suc d) dl)) (on_inner join.first (suc d) (on_inner join.second (suc d) di)) r.1 r.2
+  pub undo-spread : Spread whole total (on_leaves join.first r.0 (on_leaves join.second last leaves)) (on_inner join.first r.0 (on_inner join.second last r.3))
+      (on_leaves join.first (suc d) (on_leaves join.second (suc d) dl)) (on_inner join.first (suc d) (on_inner join.second (suc d) di)) r.1 r.2
   undo-spread = unjoin whole total join.first join.second r.0 last r.1 r.2 leaves r.3 dl di d r.7 r.8 undo-deep placed
 
 pub undone_start : (counts : List ℕ) (joins : List Join) → IsWhole counts joins → Undone counts joins 0 [] (0 ∷ [])
@@ -60,7 +61,8 @@ next_join joins join at h e =
     let f : get_or (reverse joins) at join ≡ join = cc in
     m ∙ ap (λ j. j ∷ drop (at + 1) (reverse joins)) f
 
-module _ (counts : List ℕ) (joins : List Join) (join : Join) (at : ℕ) (ld id : List ℕ) (u : Undone counts joins at ld id) (h : at < length joins) (e : join ≡ get_or joins (length joins - 1 - at) join) where
+module _ (counts : List ℕ) (joins : List Join) (join : Join) (at : ℕ) (ld id : List ℕ) (u : Undone counts joins at ld id) (h : at < length joins)
+    (e : join ≡ get_or joins (length joins - 1 - at) join) where
   reached_next : Reached counts (join ∷ drop (at + 1) (reverse joins)) u.leaves u.inner u.last u.cost
   reached_next = subst (λ j. Reached counts j u.leaves u.inner u.last u.cost) (next_join joins join at h e) u.reached
 
@@ -81,21 +83,27 @@ module _ (counts : List ℕ) (joins : List Join) (join : Join) (at : ℕ) (ld id
 
   module _ (small : sum counts < 2 ^ 32) where
     pub undone_deep : get_or id at 0 ≤ 45
-    undone_deep = undo-deep (sum counts) (merge_cost (length counts) (sorted counts)) counts join (drop (at + 1) (reverse joins)) u.leaves u.inner (reverse ld) (reverse (drop (at + 1) id)) (get_or id at 0) u.last u.cost reached_next spread_next small
+    undone_deep = undo-deep (sum counts) (merge_cost (length counts) (sorted counts)) counts join (drop (at + 1) (reverse joins)) u.leaves u.inner (reverse ld)
+        (reverse (drop (at + 1) id)) (get_or id at 0) u.last u.cost reached_next spread_next small
 
-    pub undone_more : (depth : ℕ) → depth ≡ suc (get_or id at 0) → Undone counts joins (at + 1) (push_leaf join.first depth (push_leaf join.second depth ld)) (push_inner join.first depth (push_inner join.second depth id))
+    pub undone_more : (depth : ℕ) → depth ≡ suc (get_or id at 0) →
+        Undone counts joins (at + 1) (push_leaf join.first depth (push_leaf join.second depth ld))
+        (push_inner join.first depth (push_inner join.second depth id))
     undone_more depth f =
         let r = reached_next in
-        let s = undo-spread (sum counts) (merge_cost (length counts) (sorted counts)) counts join (drop (at + 1) (reverse joins)) u.leaves u.inner (reverse ld) (reverse (drop (at + 1) id)) (get_or id at 0) u.last u.cost r spread_next small in
+        let s = undo-spread (sum counts) (merge_cost (length counts) (sorted counts)) counts join (drop (at + 1) (reverse joins)) u.leaves u.inner (reverse ld)
+        (reverse (drop (at + 1) id)) (get_or id at 0) u.last u.cost r spread_next small in
         let left = undone_left in
         let in_range : at + 1 ≤ length id = omega arith in
         let dl = reverse-push_leaf join.first depth (push_leaf join.second depth ld) ∙ ap (λ t. on_leaves join.first depth t) (reverse-push_leaf join.second depth ld) in
-        let di = reverse-push_inner join.first depth (at + 1) (push_inner join.second depth id) (push_inner-longer join.second depth (at + 1) id in_range) ∙ ap (λ t. on_inner join.first depth t) (reverse-push_inner join.second depth (at + 1) id in_range) in
+        let di = reverse-push_inner join.first depth (at + 1) (push_inner join.second depth id) (push_inner-longer join.second depth (at + 1) id in_range)
+        ∙ ap (λ t. on_inner join.first depth t) (reverse-push_inner join.second depth (at + 1) id in_range) in
         let whole : ℕ = sum counts in
         let total : ℕ = merge_cost (length counts) (sorted counts) in
         let new_leaves : List ℕ = on_leaves join.first r.0 (on_leaves join.second u.last u.leaves) in
         let new_inner : List ℕ = on_inner join.first r.0 (on_inner join.second u.last r.3) in
-        let at_depth = subst (λ k. Spread whole total new_leaves new_inner (on_leaves join.first k (on_leaves join.second k (reverse ld))) (on_inner join.first k (on_inner join.second k (reverse (drop (at + 1) id)))) r.1 r.2) (sym f) s in
+        let at_depth = subst (λ k. Spread whole total new_leaves new_inner (on_leaves join.first k (on_leaves join.second k (reverse ld)))
+        (on_inner join.first k (on_inner join.second k (reverse (drop (at + 1) id)))) r.1 r.2) (sym f) s in
         let at_leaves = subst (λ t. Spread whole total new_leaves new_inner t (on_inner join.first depth (on_inner join.second depth (reverse (drop (at + 1) id)))) r.1 r.2) (sym dl) at_depth in
         record {
           leaves = new_leaves;
@@ -120,14 +128,16 @@ found : (whole total : ℕ) (counts inner dl di : List ℕ) (last cost : ℕ) �
 found whole total counts inner dl di last cost s e f g =
     subst (λ i. Spread whole total counts i dl di 1 0) e (subst (λ l. Spread whole total counts inner dl di l 0) f (subst (λ c. Spread whole total counts inner dl di last c) g s))
 
-pub undone_all : (counts : List ℕ) (joins : List Join) (at : ℕ) (ld id : List ℕ) → Undone counts joins at ld id → at ≡ length joins → Above 1 counts → sum counts < 2 ^ 32 → AreDepths counts (reverse ld)
+pub undone_all : (counts : List ℕ) (joins : List Join) (at : ℕ) (ld id : List ℕ) → Undone counts joins at ld id → at ≡ length joins → Above 1 counts →
+    sum counts < 2 ^ 32 → AreDepths counts (reverse ld)
 undone_all counts joins at ld id u e one small =
     let whole : ℕ = sum counts in
     let total : ℕ = merge_cost (length counts) (sorted counts) in
     let m : at ≡ length (reverse joins) = simp length-reverse e in
     let none : drop at (reverse joins) ≡ [] = ap (λ n. drop n (reverse joins)) m ∙ drop-length (reverse joins) in
     let r = subst (λ j. Reached counts j u.leaves u.inner u.last u.cost) none u.reached in
-    let s = found whole total counts u.inner (reverse ld) (reverse (drop at id)) u.last u.cost (subst (λ l. Spread whole total l u.inner (reverse ld) (reverse (drop at id)) u.last u.cost) r.0 u.spread) r.1 r.2 r.3 in
+    let s = found whole total counts u.inner (reverse ld) (reverse (drop at id)) u.last u.cost
+    (subst (λ l. Spread whole total l u.inner (reverse ld) (reverse (drop at id)) u.last u.cost) r.0 u.spread) r.1 r.2 r.3 in
     let n = ap kraft (no_inner (IsWithin whole 1) (reverse (drop at id)) s.inner_within) in
     let k = s.full in
     let cost = s.same_cost in

@@ -44,7 +44,8 @@ second_within whole a last before d h k within =
 half : (d : ℕ) → d ≤ 45 → 2 ^ (48 - d) ≡ 2 ^ (48 - suc d) + 2 ^ (48 - suc d)
 half d h = let e : 48 - d ≡ suc (48 - suc d) = omega arith in rw e (omega arith)
 
-cost_of-placed : (is_leaf : Bool) (w d : ℕ) (leaves inner dl di : List ℕ) → cost_of (on_leaves is_leaf w leaves) (on_leaves is_leaf d dl) + cost_of (on_inner is_leaf w inner) (on_inner is_leaf d di) ≡ w * d + (cost_of leaves dl + cost_of inner di)
+cost_of-placed : (is_leaf : Bool) (w d : ℕ) (leaves inner dl di : List ℕ) → cost_of (on_leaves is_leaf w leaves) (on_leaves is_leaf d dl)
+    + cost_of (on_inner is_leaf w inner) (on_inner is_leaf d di) ≡ w * d + (cost_of leaves dl + cost_of inner di)
 cost_of-placed true w d leaves inner dl di = omega arith
 cost_of-placed false w d leaves inner dl di = omega arith
 
@@ -73,7 +74,8 @@ module _ (whole total : ℕ) (first second : Bool) (a last before older : ℕ) (
   abbrev pub new_di : List ℕ
   new_di = on_inner first (suc d) (on_inner second (suc d) di)
 
-  unjoin-cost : AllZip (IsWithin whole last) (rest ++ (a + last) ∷ []) (di ++ d ∷ []) → cost_of leaves dl + cost_of (rest ++ (a + last) ∷ []) (di ++ d ∷ []) + (older + (a + last)) ≡ total → cost_of new_leaves new_dl + cost_of new_inner new_di + older ≡ total
+  unjoin-cost : AllZip (IsWithin whole last) (rest ++ (a + last) ∷ []) (di ++ d ∷ []) → cost_of leaves dl + cost_of (rest ++ (a + last) ∷ []) (di ++ d ∷ [])
+      + (older + (a + last)) ≡ total → cost_of new_leaves new_dl + cost_of new_inner new_di + older ≡ total
   unjoin-cost all e =
       let p = cost_of-placed first a (suc d) (on_leaves second last leaves) (on_inner second last rest) (on_leaves second (suc d) dl) (on_inner second (suc d) di) in
       let q = cost_of-placed second last (suc d) leaves rest dl di in

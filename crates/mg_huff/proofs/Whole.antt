@@ -26,7 +26,8 @@ good_many [] h full all = absurd (omega arith)
 good_many (a ∷ []) h full all = absurd (omega arith)
 good_many (a ∷ b ∷ out) h full all = good a b out full all
 
-module _ (counts : List ℕ) (order : List Counted) (found out : List ℕ) (l : IsListed counts order) (d : AreDepths (counts_of order) found) (p : AreInPlace counts order found out) (many : 2 ≤ length counts) where
+module _ (counts : List ℕ) (order : List Counted) (found out : List ℕ) (l : IsListed counts order) (d : AreDepths (counts_of order) found)
+    (p : AreInPlace counts order found out) (many : 2 ≤ length counts) where
   pub whole_good : AreGood out
   whole_good = good_many out (let e = p.same_length in omega arith) (p.full ∙ d.full) (recursion_from_All (λ d. d ≤ 45) out p.within)
 

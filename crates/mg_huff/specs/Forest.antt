@@ -24,7 +24,8 @@ Reached counts (join ∷ joins) leaves inner last cost =
     × (1 ≤ before)
     × (before ≤ a)
     × (a ≤ last)
-    × Reached counts joins (on_leaves join.first a (on_leaves join.second last leaves)) (on_inner join.first a (on_inner join.second last rest)) before older
+    × Reached counts joins (on_leaves join.first a (on_leaves join.second last leaves))
+    (on_inner join.first a (on_inner join.second last rest)) before older
 
 abbrev pub fib_from : ℕ → ℕ → ℕ → ℕ
 fib_from zero a b = a
@@ -59,11 +60,13 @@ pub record Grove (whole total : ℕ) (leaves inner : List ℕ) (last cost : ℕ)
 -- the joins lead from these counts to these roots, by the two least each time
 abbrev pub Grown : ℕ → List ℕ → List Join → List ℕ → List ℕ → Type 0
 Grown total counts joins leaves inner =
-    (last : ℕ) × (cost : ℕ) × Grove (sum counts) total leaves inner last cost × Reached counts joins leaves inner last cost
+    (last : ℕ) × (cost : ℕ) × Grove (sum counts) total leaves inner last cost
+    × Reached counts joins leaves inner last cost
 
 -- the joins, in the order in which they were made, join these counts to one tree, at Huffman's cost
 abbrev pub IsWhole : List ℕ → List Join → Type 0
-IsWhole counts joins = (last : ℕ) × Reached counts (reverse joins) [] (sum counts ∷ []) last (merge_cost (length counts) (sorted counts))
+IsWhole counts joins = (last : ℕ) × Reached counts (reverse joins) [] (sum counts ∷ []) last
+    (merge_cost (length counts) (sorted counts))
 
 -- what a value at the end of the leaves' depths, or of the inner nodes', leaves there
 abbrev pub push_leaf : {X : Type 0} → Bool → X → List X → List X
@@ -79,7 +82,8 @@ pub record Undone (counts : List ℕ) (joins : List Join) (at : ℕ) (leaf_depth
   pub last : ℕ
   pub cost : ℕ
   pub reached : Reached counts (drop at (reverse joins)) leaves inner last cost
-  pub spread : Spread (sum counts) (merge_cost (length counts) (sorted counts)) leaves inner (reverse leaf_depths) (reverse (drop at inner_depths)) last cost
+  pub spread : Spread (sum counts) (merge_cost (length counts) (sorted counts)) leaves inner (reverse leaf_depths)
+      (reverse (drop at inner_depths)) last cost
 
 -- the depths of the leaves of Huffman's tree
 pub record AreDepths (counts depths : List ℕ) : Type 0 where

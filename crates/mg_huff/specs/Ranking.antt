@@ -24,7 +24,8 @@ pub record IsListed (counts : List ℕ) (order : List Counted) : Type 0 where
 
 -- so many lengths stand in their places, and 0 in the other places
 pub record Placed (counts : List ℕ) (order : List Counted) (found : List ℕ) (at : ℕ) (out : List ℕ) : Type 0 where
-  pub same_cost : cost_of counts out + cost_of (drop at (counts_of order)) (drop at found) ≡ cost_of (counts_of order) found
+  pub same_cost : cost_of counts out + cost_of (drop at (counts_of order)) (drop at found)
+      ≡ cost_of (counts_of order) found
   pub full : kraft out + kraft (drop at found) + at * 2 ^ 48 ≡ length counts * 2 ^ 48 + kraft found
   pub within : All (λ d. d ≤ 45) out
   pub free : (k : ℕ) → 1 ≤ times_at k (drop at order) → slice_index out k ≡ 0

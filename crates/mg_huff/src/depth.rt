@@ -18,7 +18,8 @@ fn place(
     leaves: &mut Vec<u8>,
     inner: &mut Vec<u8>,
 ) -> Result<(), AllocError>
-    ensures leaves { IfOk result (λ _. leaves.new.items ≡ push_leaf is_leaf depth leaves.old.items) }
+    ensures leaves { IfOk result (λ _. leaves.new.items ≡
+        push_leaf is_leaf depth leaves.old.items) }
     ensures inner { IfOk result (λ _. inner.new.items ≡ push_inner is_leaf depth inner.old.items) }
 {
     if is_leaf {

@@ -40,9 +40,11 @@ fn is_leaf_next(front: &Front, leaves: &[u64], inner: &[u64]) -> bool
     requires leaves_rise { Rising (drop front.now.leaf leaves.now) }
     requires inner_rise { Rising (drop front.now.inner inner.now) }
     ensures leaf_there { OnTrue result (front.now.leaf < length leaves.now) }
-    ensures leaf_least { OnTrue result (Above (slice_index leaves.now front.now.leaf) (drop front.now.inner inner.now)) }
+    ensures leaf_least { OnTrue result
+        (Above (slice_index leaves.now front.now.leaf) (drop front.now.inner inner.now)) }
     ensures inner_there { OnFalse result (front.now.inner < length inner.now) }
-    ensures inner_least { OnFalse result (Above (slice_index inner.now front.now.inner) (drop front.now.leaf leaves.now)) }
+    ensures inner_least { OnFalse result
+        (Above (slice_index inner.now front.now.inner) (drop front.now.leaf leaves.now)) }
 {
     if front.inner >= inner.len() {
         return true;
@@ -60,8 +62,10 @@ fn take_lightest(front: &mut Front, leaves: &[u64], inner: &[u64]) -> Lightest
     requires inner_range { front.old.inner ≤ length inner.now }
     requires leaves_rise { Rising (drop front.old.leaf leaves.now) }
     requires inner_rise { Rising (drop front.old.inner inner.now) }
-    ensures leaves { drop front.old.leaf leaves.now ≡ on_leaves result.is_leaf result.weight (drop front.new.leaf leaves.now) }
-    ensures inner { drop front.old.inner inner.now ≡ on_inner result.is_leaf result.weight (drop front.new.inner inner.now) }
+    ensures leaves { drop front.old.leaf leaves.now ≡ on_leaves result.is_leaf result.weight
+        (drop front.new.leaf leaves.now) }
+    ensures inner { drop front.old.inner inner.now ≡ on_inner result.is_leaf result.weight
+        (drop front.new.inner inner.now) }
     ensures leaves_above { Above result.weight (drop front.new.leaf leaves.now) }
     ensures inner_above { Above result.weight (drop front.new.inner inner.now) }
     ensures leaf_range { front.new.leaf ≤ length leaves.now }

@@ -35,7 +35,8 @@ asks = refl
 
 -- one page for y, and that of the first block of x; of all four blocks where nothing leads
 bounds : (boolean_bound many (both y (without x)) ≡ 2) × (boolean_bound many (without x) ≡ 4) × (ranked_bound many (codes "x" ∷ codes "z" ∷ []) ≡ 4)
-unfolding golomb unary ones short shorter ceil_log2 gamma parse digits posting_bits bits_after filled last_doc doc_before bits_before block_pages lists_bits numbers met_pages whole_pages pages_for list_pages asked_of boolean_bound ranked_bound
+unfolding golomb unary ones short shorter ceil_log2 gamma parse digits posting_bits bits_after filled last_doc doc_before bits_before block_pages lists_bits
+    numbers met_pages whole_pages pages_for list_pages asked_of boolean_bound ranked_bound
 bounds = (refl, refl, refl)
 
 -- ---- pages of Text
@@ -53,5 +54,6 @@ bits = record {
 
 -- a page for each document that a line shows, and none for a line that counts or is refused
 texts : session_text_bound bits three (codes "x\n.set mode text\nx\nx & y\n.set maxdocs 1\nx\n(x\n") ≡ 4
-unfolding as_bytes golomb unary ones short shorter ceil_log2 gamma parse digits filled command words dot_of set_query set_mode set_most set_of value is_most boolean ranked query_of after_line asked ends heard_questions questions found answer_of line_text_bound session_text_bound sign_of
+unfolding as_bytes golomb unary ones short shorter ceil_log2 gamma parse digits filled command words dot_of set_query set_mode set_most set_of value is_most
+    boolean ranked query_of after_line asked ends heard_questions questions found answer_of line_text_bound session_text_bound sign_of
 texts = refl

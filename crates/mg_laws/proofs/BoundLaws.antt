@@ -86,7 +86,8 @@ whole_rises b at m (suc n) ps le =
 -- ---- which blocks are met
 
 pub range_true : (k : ℕ) (ps : List Posting) (doc : ℕ) → InRange k ps doc → in_range k ps doc ≡ true
-range_true k ps doc in_it = and_from (nat_lt (doc_before (64 * k) ps) doc) (nat_le doc (doc_before (64 * (k + 1)) ps)) (lt-ltb (doc_before (64 * k) ps) doc in_it.after) (le-leb doc (doc_before (64 * (k + 1)) ps) in_it.within)
+range_true k ps doc in_it = and_from (nat_lt (doc_before (64 * k) ps) doc) (nat_le doc (doc_before (64 * (k + 1)) ps))
+    (lt-ltb (doc_before (64 * k) ps) doc in_it.after) (le-leb doc (doc_before (64 * (k + 1)) ps) in_it.within)
 
 -- ---- how many pages a list has at most
 
@@ -101,7 +102,9 @@ unfolding bits_before
 bits_next b n ps =
     let e : 64 * (n + 1) ≡ 64 * n + 64 = omega arith in
     let two : take (64 * (n + 1)) ps ≡ take (64 * n) ps ++ take 64 (drop (64 * n) ps) = ap (λ m. take m ps) e ∙ take-add (64 * n) 64 ps in
-    let long : bits_after b 0 (take (64 * (n + 1)) ps) ≡ bits_after b 0 (take (64 * n) ps) ++ bits_after b (last_doc 0 (take (64 * n) ps)) (take 64 (drop (64 * n) ps)) = ap (bits_after b 0) two ∙ bits_append b 0 (take (64 * n) ps) (take 64 (drop (64 * n) ps)) in
+    let long : bits_after b 0 (take (64 * (n + 1)) ps) ≡ bits_after b 0 (take (64 * n) ps)
+    ++ bits_after b (last_doc 0 (take (64 * n) ps)) (take 64 (drop (64 * n) ps)) = ap (bits_after b 0) two
+    ∙ bits_append b 0 (take (64 * n) ps) (take 64 (drop (64 * n) ps)) in
     omega (arith, ap length long, length-append (bits_after b 0 (take (64 * n) ps)) (bits_after b (last_doc 0 (take (64 * n) ps)) (take 64 (drop (64 * n) ps))))
 
 block_few : (b at n : ℕ) (ps : List Posting) → 32768 * block_pages b at n ps ≤ (at + bits_before b (64 * (n + 1)) ps) - (at + bits_before b (64 * n) ps) + 65536
@@ -117,7 +120,8 @@ whole_few b at (suc n) ps =
 pub bits_within : (b n : ℕ) (ps : List Posting) → bits_before b n ps ≤ length (bits_after b 0 ps)
 unfolding bits_before
 bits_within b n ps =
-    let whole : bits_after b 0 ps ≡ bits_after b 0 (take n ps) ++ bits_after b (last_doc 0 (take n ps)) (drop n ps) = ap (bits_after b 0) (sym (take-append-drop n ps)) ∙ bits_append b 0 (take n ps) (drop n ps) in
+    let whole : bits_after b 0 ps ≡ bits_after b 0 (take n ps) ++ bits_after b (last_doc 0 (take n ps)) (drop n ps) =
+    ap (bits_after b 0) (sym (take-append-drop n ps)) ∙ bits_append b 0 (take n ps) (drop n ps) in
     omega (arith, ap length whole, length-append (bits_after b 0 (take n ps)) (bits_after b (last_doc 0 (take n ps)) (drop n ps)))
 
 -- a list that fits in its file never brings a count to its end

@@ -33,7 +33,8 @@ block_rises : (all k : ℕ) (ps : List Posting) → Rises all 0 ps → Rises all
 unfolding block_of doc_before
 block_rises all k ps h =
     let rest : Rises all (last_doc 0 (take (64 * k) ps)) (drop (64 * k) ps) = rises_right all 0 (take (64 * k) ps) (drop (64 * k) ps) (subst (Rises all 0) (sym (take-append-drop (64 * k) ps)) h) in
-    rises_left all (last_doc 0 (take (64 * k) ps)) (take 64 (drop (64 * k) ps)) (drop 64 (drop (64 * k) ps)) (subst (Rises all (last_doc 0 (take (64 * k) ps))) (sym (take-append-drop 64 (drop (64 * k) ps))) rest)
+    rises_left all (last_doc 0 (take (64 * k) ps)) (take 64 (drop (64 * k) ps)) (drop 64 (drop (64 * k) ps))
+    (subst (Rises all (last_doc 0 (take (64 * k) ps))) (sym (take-append-drop 64 (drop (64 * k) ps))) rest)
 
 block_some : (k : ℕ) (ps : List Posting) → k < block_count (length ps) → 0 < length (block_of k ps)
 unfolding block_of
@@ -68,18 +69,21 @@ any_block collection k ps rises lt =
     let all = length (documents collection) in
     let doc = doc_before (64 * (k + 1)) ps in
     let in_it : InRange k ps (doc_before (64 * (k + 1)) ps) = last_in (length (documents collection)) k ps rises lt in
-    number_there (in_range k ps) 1 (doc_before (64 * (k + 1)) ps) (documents collection) (omega (arith, in_it.after)) (omega (arith, before_within (length (documents collection)) (64 * (k + 1)) ps rises)) (range_true k ps (doc_before (64 * (k + 1)) ps) in_it)
+    number_there (in_range k ps) 1 (doc_before (64 * (k + 1)) ps) (documents collection) (omega (arith, in_it.after))
+    (omega (arith, before_within (length (documents collection)) (64 * (k + 1)) ps rises)) (range_true k ps (doc_before (64 * (k + 1)) ps) in_it)
 
 pub own_pages : (collection t : List ℕ) → length collection < 2 ^ 32 → list_pages collection t ≡ pages_for collection (numbers_in (postings collection t)) t
 unfolding list_pages pages_for
 own_pages collection t short =
     let ps = postings collection t in
-    sym (met_is_whole (numbers_in (postings collection t)) (parameter_of collection t) (list_bit collection t) (block_count (length (postings collection t))) (postings collection t) (λ k lt. own_block (length (documents collection)) k (postings collection t) (list_rises collection t short) lt))
+    sym (met_is_whole (numbers_in (postings collection t)) (parameter_of collection t) (list_bit collection t) (block_count (length (postings collection t)))
+    (postings collection t) (λ k lt. own_block (length (documents collection)) k (postings collection t) (list_rises collection t short) lt))
 
 pub any_pages : (collection t : List ℕ) → length collection < 2 ^ 32 → list_pages collection t ≡ pages_for collection (all_numbers collection) t
 unfolding list_pages pages_for
 any_pages collection t short =
-    sym (met_is_whole (all_numbers collection) (parameter_of collection t) (list_bit collection t) (block_count (length (postings collection t))) (postings collection t) (λ k lt. any_block collection k (postings collection t) (list_rises collection t short) lt))
+    sym (met_is_whole (all_numbers collection) (parameter_of collection t) (list_bit collection t) (block_count (length (postings collection t)))
+    (postings collection t) (λ k lt. any_block collection k (postings collection t) (list_rises collection t short) lt))
 
 -- ---- queries
 
@@ -96,7 +100,8 @@ word_bound collection t short = one_sum (pages_for collection (numbers_in (posti
 not_le : (a b : ℕ) → b < a → nat_le a b ≡ false
 not_le a b lt = grind arith
 
-pub first_bound : (collection s t : List ℕ) → length collection < 2 ^ 32 → docs collection s ≤ docs collection t → boolean_bound collection (both (term s) (term t)) ≡ list_pages collection s + pages_for collection (numbers_in (postings collection s)) t
+pub first_bound : (collection s t : List ℕ) → length collection < 2 ^ 32 → docs collection s ≤ docs collection t →
+    boolean_bound collection (both (term s) (term t)) ≡ list_pages collection s + pages_for collection (numbers_in (postings collection s)) t
 unfolding boolean_bound asked_of
 first_bound collection s t short le =
     let first : nat_le (docs collection s) (docs collection t) ≡ true = le-leb (docs collection s) (docs collection t) le in
@@ -104,7 +109,8 @@ first_bound collection s t short le =
     ap (λ l. sum_by (pages_for collection (asked_by_leader collection l)) (s ∷ t ∷ [])) lead ∙ two_sum (pages_for collection (numbers_in (postings collection s))) s t
     ∙ ap (λ n. n + pages_for collection (numbers_in (postings collection s)) t) (sym (own_pages collection s short))
 
-pub second_bound : (collection s t : List ℕ) → length collection < 2 ^ 32 → docs collection t < docs collection s → boolean_bound collection (both (term s) (term t)) ≡ pages_for collection (numbers_in (postings collection t)) s + list_pages collection t
+pub second_bound : (collection s t : List ℕ) → length collection < 2 ^ 32 → docs collection t < docs collection s →
+    boolean_bound collection (both (term s) (term t)) ≡ pages_for collection (numbers_in (postings collection t)) s + list_pages collection t
 unfolding boolean_bound asked_of
 second_bound collection s t short lt =
     let second : nat_le (docs collection s) (docs collection t) ≡ false = not_le (docs collection s) (docs collection t) lt in

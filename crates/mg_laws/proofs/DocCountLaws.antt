@@ -37,11 +37,13 @@ count_both term xs ys = sum_by-append (λ x. cond (is_of term x) 1 0) xs ys
 
 count_same : (k : ℕ) (ps : List Posting) → count_by (is_of k) (term_list k ps) ≡ length ps
 count_same k [] = refl
-count_same k (p ∷ ps) = count-cons (is_of k) (record { term = k; doc = p.doc; count = p.freq }) (term_list k ps) ∙ ap (λ b. cond b 1 0 + count_by (is_of k) (term_list k ps)) (eq-eqb k k refl) ∙ omega (arith, count_same k ps)
+count_same k (p ∷ ps) = count-cons (is_of k) (record { term = k; doc = p.doc; count = p.freq }) (term_list k ps)
+    ∙ ap (λ b. cond b 1 0 + count_by (is_of k) (term_list k ps)) (eq-eqb k k refl) ∙ omega (arith, count_same k ps)
 
 count_other : (k m : ℕ) (ps : List Posting) → (m ≡ k → ⊥) → count_by (is_of k) (term_list m ps) ≡ 0
 count_other k m [] ne = refl
-count_other k m (p ∷ ps) ne = count-cons (is_of k) (record { term = m; doc = p.doc; count = p.freq }) (term_list m ps) ∙ ap (λ b. cond b 1 0 + count_by (is_of k) (term_list m ps)) (ne_eqb m k ne) ∙ omega (arith, count_other k m ps ne)
+count_other k m (p ∷ ps) ne = count-cons (is_of k) (record { term = m; doc = p.doc; count = p.freq }) (term_list m ps)
+    ∙ ap (λ b. cond b 1 0 + count_by (is_of k) (term_list m ps)) (ne_eqb m k ne) ∙ omega (arith, count_other k m ps ne)
 
 count_below : (k m : ℕ) (lists : List (List Posting)) → k < m → count_by (is_of k) (by_terms m lists) ≡ 0
 count_below k m [] lt = refl
@@ -117,7 +119,8 @@ count_added term e (x ∷ xs) rising some =
     ∙ omega (arith, count-cons (is_of term) x xs, old_one (e.term == term) (runs.times e.term e.doc (x ∷ xs)) (omega (arith, here, some.0))))
 
 -- where documents never fall, the term was in the document exactly where its last document is that one
-last_tells : (term before acc doc : ℕ) (fed : List (ℕ × ℕ)) → acc ≤ before → NeverFall before fed doc → (acc == doc || nat_lt 0 (runs.times term doc (map runs.once fed))) ≡ (last_with term acc fed == doc)
+last_tells : (term before acc doc : ℕ) (fed : List (ℕ × ℕ)) → acc ≤ before → NeverFall before fed doc →
+    (acc == doc || nat_lt 0 (runs.times term doc (map runs.once fed))) ≡ (last_with term acc fed == doc)
 last_tells term before acc doc [] le h = none (acc == doc)
   where
     none : (b : Bool) → (b || false) ≡ b
@@ -205,7 +208,8 @@ terms_range : (strings : List (List ℕ)) (all n : ℕ) (ts : List (List ℕ)) �
 terms_range strings all n [] some le have = tt
 terms_range strings all n (t ∷ ts) some le have = (((number-found strings t have.0).0, some, le), terms_range strings all n ts some le have.1)
 
-met_range : (strings : List (List ℕ)) (all n : ℕ) (ds : List (List ℕ)) → 1 ≤ n → n + length ds ≤ all + 1 → AllByRecursion (λ (doc : List ℕ). Have strings (terms doc)) ds → AllByRecursion (InRange (length strings) all) (met_from (number_of strings) n ds)
+met_range : (strings : List (List ℕ)) (all n : ℕ) (ds : List (List ℕ)) → 1 ≤ n → n + length ds ≤ all + 1 →
+    AllByRecursion (λ (doc : List ℕ). Have strings (terms doc)) ds → AllByRecursion (InRange (length strings) all) (met_from (number_of strings) n ds)
 met_range strings all n [] some le have = tt
 met_range strings all n (doc ∷ ds) some le have =
     all_both (InRange (length strings) all) (map (λ t. (number_of strings t, n)) (terms doc)) (met_from (number_of strings) (n + 1) ds)

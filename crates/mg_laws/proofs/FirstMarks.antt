@@ -86,7 +86,8 @@ decide most met =
       ]
     ]
 
-first_from : (most : Limits) (collection : List ℕ) (before rest : List Mark) → marks collection ≡ before ++ rest → AreWithinLimits most before → (AreWithinLimits most (before ++ rest) → ⊥) → (mark : Mark) × PassesFirst most collection mark
+first_from : (most : Limits) (collection : List ℕ) (before rest : List Mark) → marks collection ≡ before ++ rest → AreWithinLimits most before →
+    (AreWithinLimits most (before ++ rest) → ⊥) → (mark : Mark) × PassesFirst most collection mark
 first_from most collection before [] whole within beyond = absurd (beyond (subst (AreWithinLimits most) (sym (append-nil before)) within))
 first_from most collection before (m ∷ rest) whole within beyond =
     elim (decide most (before ++ m ∷ [])) [
@@ -101,11 +102,22 @@ some_first most collection beyond = first_from most collection [] (marks collect
 
 -- ---- which limit it passes
 
-kept : (most : Limits) (before : List Mark) (mark : Mark) → AreWithinLimits most before → starts (before ++ mark ∷ []) ≤ most.documents → pieces_among Words (mark ∷ []) ≡ [] → pieces_among Others (mark ∷ []) ≡ [] → AreWithinLimits most (before ++ mark ∷ [])
+kept : (most : Limits) (before : List Mark) (mark : Mark) → AreWithinLimits most before → starts (before ++ mark ∷ []) ≤ most.documents →
+    pieces_among Words (mark ∷ []) ≡ [] → pieces_among Others (mark ∷ []) ≡ [] → AreWithinLimits most (before ++ mark ∷ [])
 kept most before mark within docs words others = record {
   documents = docs;
-  words = omega (arith, within.words, ap (λ l. length (sorted_distinct l)) (pieces_append Words before (mark ∷ []) ∙ ap (λ l. pieces_among Words before ++ l) words ∙ append-nil (pieces_among Words before)));
-  others = omega (arith, within.others, ap (λ l. length (sorted_distinct l)) (pieces_append Others before (mark ∷ []) ∙ ap (λ l. pieces_among Others before ++ l) others ∙ append-nil (pieces_among Others before)));
+  words = omega (
+    arith,
+    within.words,
+    ap (λ l. length (sorted_distinct l)) (pieces_append Words before (mark ∷ [])
+        ∙ ap (λ l. pieces_among Words before ++ l) words ∙ append-nil (pieces_among Words before)),
+  );
+  others = omega (
+    arith,
+    within.others,
+    ap (λ l. length (sorted_distinct l)) (pieces_append Others before (mark ∷ [])
+        ∙ ap (λ l. pieces_among Others before ++ l) others ∙ append-nil (pieces_among Others before)),
+  );
 }
 
 -- the end of a document passes none
@@ -116,7 +128,8 @@ whole_starts : (collection : List ℕ) (a b : List Mark) (x : Mark) → marks co
 whole_starts collection a b x e =
     omega (arith, marks_have_documents collection, ap starts (e ∙ sym (append_assoc a (x ∷ []) b)), starts_append (a ++ x ∷ []) b)
 
-whole_pieces : (kind : Stream) (collection : List ℕ) (a b : List Mark) (x : Mark) → marks collection ≡ a ++ x ∷ b → length (sorted_distinct (pieces_among kind (a ++ x ∷ []))) ≤ length (sorted_pieces kind collection)
+whole_pieces : (kind : Stream) (collection : List ℕ) (a b : List Mark) (x : Mark) → marks collection ≡ a ++ x ∷ b →
+    length (sorted_distinct (pieces_among kind (a ++ x ∷ []))) ≤ length (sorted_pieces kind collection)
 whole_pieces kind collection a b x e =
     omega (
       arith,
@@ -136,7 +149,8 @@ start_passes most collection p =
 same_starts : (most : Limits) (before : List Mark) (kind : Stream) (x : List ℕ) → AreWithinLimits most before → starts (before ++ piece kind x ∷ []) ≤ most.documents
 same_starts most before kind x h = omega (arith, starts_append before (piece kind x ∷ []), h.documents)
 
-same_pieces : (a b : Stream) (before : List Mark) (x : List ℕ) → pieces_among a (piece b x ∷ []) ≡ [] → length (sorted_distinct (pieces_among a (before ++ piece b x ∷ []))) ≡ length (sorted_distinct (pieces_among a before))
+same_pieces : (a b : Stream) (before : List Mark) (x : List ℕ) → pieces_among a (piece b x ∷ []) ≡ [] →
+    length (sorted_distinct (pieces_among a (before ++ piece b x ∷ []))) ≡ length (sorted_distinct (pieces_among a before))
 same_pieces a b before x none = ap (λ l. length (sorted_distinct l)) (pieces_append a before (piece b x ∷ []) ∙ ap (λ l. pieces_among a before ++ l) none ∙ append-nil (pieces_among a before))
 
 -- a piece passes the limit of its stream

@@ -47,7 +47,8 @@ some_freq doc t = any (terms doc)
     any [] = refl
     any (u ∷ ts) =
         elim (cases_Bool (same_term t u)) [
-          | inl same ↦ lt-ltb 0 (count_by (same_term t) (u ∷ ts)) (omega (arith, count-cons (same_term t) u ts, ap {B = ℕ} (λ b. cond b 1 0) same)) ∙ sym (or_left (same_term t u) (list_any (same_term t) ts) same)
+          | inl same ↦ lt-ltb 0 (count_by (same_term t) (u ∷ ts)) (omega (arith, count-cons (same_term t) u ts, ap {B = ℕ} (λ b. cond b 1 0) same))
+              ∙ sym (or_left (same_term t u) (list_any (same_term t) ts) same)
           | inr other ↦ ap (nat_lt 0) (count-cons (same_term t) u ts ∙ ap (λ b. cond b 1 0 + count_by (same_term t) ts) other ∙ zero-add (count_by (same_term t) ts)) ∙ any ts ∙ sym (rw other refl)
         ]
 
@@ -105,7 +106,8 @@ after_same : (x : TermPosting) (k n : ℕ) (ps : List Posting) → x.term ≡ k 
 after_same x k n [] e lt h = tt
 after_same x k n (p ∷ ps) e lt h = (record { term = omega (arith, e); doc = λ same. omega (arith, lt, h.0) }, after_same x k (p.doc + 1) ps e (omega (arith, lt, h.0)) h.2)
 
-rising_onto : (k n : ℕ) (ps : List Posting) (rest : List TermPosting) → Above n ps → runs.RisingByTerm rest → ((x : TermPosting) → x.term ≡ k → runs.AllAfter x rest) → runs.RisingByTerm (term_list k ps ++ rest)
+rising_onto : (k n : ℕ) (ps : List Posting) (rest : List TermPosting) → Above n ps → runs.RisingByTerm rest →
+    ((x : TermPosting) → x.term ≡ k → runs.AllAfter x rest) → runs.RisingByTerm (term_list k ps ++ rest)
 rising_onto k n [] rest h rises after = rises
 rising_onto k n (p ∷ ps) rest h rises after =
     let x : TermPosting = record { term = k; doc = p.doc; count = p.freq } in
@@ -186,7 +188,8 @@ times_placed k d number n [] = none (n == d)
     none true = refl
     none false = refl
 times_placed k d number n (t ∷ ts) =
-    by_test (number t == k) (n == d) (runs.times k d (map runs.once (placed number n ts))) (counted number k ts) (counted number k (t ∷ ts)) (count-cons (λ u. number u == k) t ts) (times_placed k d number n ts)
+    by_test (number t == k) (n == d) (runs.times k d (map runs.once (placed number n ts))) (counted number k ts) (counted number k (t ∷ ts))
+    (count-cons (λ u. number u == k) t ts) (times_placed k d number n ts)
   where
     by_test : (b c : Bool) (x y z : ℕ) → z ≡ cond b 1 0 + y → x ≡ cond c y 0 → cond b (cond c 1 0) 0 + x ≡ cond c z 0
     by_test true true x y z e f = omega (arith, e, f)
@@ -211,7 +214,9 @@ abbrev pub Have : List (List ℕ) → List (List ℕ) → Type 0
 Have strings ts = AllByRecursion (λ (u : List ℕ). has strings u ≡ true) ts
 
 -- the strings that have a number are those that are the string of its place
-counted_at : (strings : List (List ℕ)) (k : ℕ) (ts : List (List ℕ)) → ((u : List ℕ) → has strings u ≡ true → (number_of strings u == k) ≡ same_term (get_or strings k []) u) → Have strings ts → count_by (same_term (get_or strings k [])) ts ≡ counted (number_of strings) k ts
+counted_at : (strings : List (List ℕ)) (k : ℕ) (ts : List (List ℕ)) →
+    ((u : List ℕ) → has strings u ≡ true → (number_of strings u == k) ≡ same_term (get_or strings k []) u) → Have strings ts →
+    count_by (same_term (get_or strings k [])) ts ≡ counted (number_of strings) k ts
 counted_at strings k [] tell have = refl
 counted_at strings k (u ∷ ts) tell have =
     count-cons (same_term (get_or strings k [])) u ts ∙ ap (λ b. cond b 1 0 + count_by (same_term (get_or strings k [])) ts) (sym (tell u have.0))
@@ -246,7 +251,8 @@ pub got : (strings : List (List ℕ)) (u : List ℕ) → has strings u ≡ true 
 got strings u there k e lt = any_default strings k [] u lt ∙ ap (λ n. get_or strings n u) (sym e) ∙ (number-found strings u there).1
 
 -- which strings have a number
-number_tells : (collection : List ℕ) (k : ℕ) (u : List ℕ) → k < length (dictionary collection) → has (dictionary collection) u ≡ true → (number_of (dictionary collection) u == k) ≡ same_term (get_or (dictionary collection) k []) u
+number_tells : (collection : List ℕ) (k : ℕ) (u : List ℕ) → k < length (dictionary collection) → has (dictionary collection) u ≡ true →
+    (number_of (dictionary collection) u == k) ≡ same_term (get_or (dictionary collection) k []) u
 number_tells collection k u lt there =
     let strings = dictionary collection in
     let back : number_of strings (get_or strings k []) ≡ k = number-at strings k [] (sorted-rising (all_terms collection)) lt in

@@ -148,7 +148,8 @@ first_document a b d l m = ap (λ docs. get_or docs (d - 1) []) (documents_joine
 pub second_document : (a b : List ℕ) (d : ℕ) → 1 ≤ d → document (join a b) (length (documents a) + d) ≡ document b d
 second_document a b d l =
     let same : length (documents a) + d - 1 - length (documents a) ≡ d - 1 = omega (arith, l) in
-    ap (λ docs. get_or docs (length (documents a) + d - 1) []) (documents_joined a b) ∙ (get_or-append_right (documents a) (documents b) (length (documents a)) (length (documents a) + d - 1) [] refl (omega (arith, l)) ∙ rw same refl)
+    ap (λ docs. get_or docs (length (documents a) + d - 1) []) (documents_joined a b)
+    ∙ (get_or-append_right (documents a) (documents b) (length (documents a)) (length (documents a) + d - 1) [] refl (omega (arith, l)) ∙ rw same refl)
 
 -- ---- occurrences
 
@@ -158,14 +159,17 @@ in_doc number d = map (λ t. (number t, d.0)) (terms d.1)
 abbrev occs : (List ℕ → ℕ) → ℕ → List (List ℕ) → List (ℕ × ℕ)
 occs number n ds = flat_map (in_doc number) (enumerate_from n ds)
 
-words_carried : (number other : List ℕ → ℕ) (f : ℕ → ℕ) (before n : ℕ) (ts : List (List ℕ)) → ((t : List ℕ) → Contains ts t → other t ≡ f (number t)) → map {B = ℕ × ℕ} (λ t. (other t, before + n)) ts ≡ map {B = ℕ × ℕ} (λ (o : ℕ × ℕ). (f o.0, before + o.1)) (map {B = ℕ × ℕ} (λ t. (number t, n)) ts)
+words_carried : (number other : List ℕ → ℕ) (f : ℕ → ℕ) (before n : ℕ) (ts : List (List ℕ)) → ((t : List ℕ) → Contains ts t → other t ≡ f (number t)) →
+    map {B = ℕ × ℕ} (λ t. (other t, before + n)) ts ≡ map {B = ℕ × ℕ} (λ (o : ℕ × ℕ). (f o.0, before + o.1)) (map {B = ℕ × ℕ} (λ t. (number t, n)) ts)
 words_carried number other f before n [] h = refl
 words_carried number other f before n (t ∷ ts) h =
     let first = h t (0, omega arith, refl) in
     let rest = words_carried number other f before n ts (λ u c. h u (suc c.0, omega (arith, c.1), c.2)) in
     λ i. (first i, before + n) ∷ rest i
 
-occs_carried : (number other : List ℕ → ℕ) (f : ℕ → ℕ) (before n : ℕ) (ds : List (List ℕ)) → ((t : List ℕ) → Contains (flat_map terms ds) t → other t ≡ f (number t)) → occs other (before + n) ds ≡ map {B = ℕ × ℕ} (λ (o : ℕ × ℕ). (f o.0, before + o.1)) (occs number n ds)
+occs_carried : (number other : List ℕ → ℕ) (f : ℕ → ℕ) (before n : ℕ) (ds : List (List ℕ)) →
+    ((t : List ℕ) → Contains (flat_map terms ds) t → other t ≡ f (number t)) → occs other (before + n) ds
+    ≡ map {B = ℕ × ℕ} (λ (o : ℕ × ℕ). (f o.0, before + o.1)) (occs number n ds)
 occs_carried number other f before n [] h = refl
 occs_carried number other f before n (d ∷ ds) h =
     let carry : ℕ × ℕ → ℕ × ℕ = λ o. (f o.0, before + o.1) in

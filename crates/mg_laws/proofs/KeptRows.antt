@@ -21,7 +21,9 @@ abbrev pub OneOrder : Type 0
 OneOrder = (collection : List ℕ) (query : List (List ℕ)) (order : List Hit) → AreSorted order → IsPermutation (hits collection query) order → order ≡ by_score (hits collection query)
 
 -- where the kept rows are sorted, each of them is before each that is gone, and either none is gone or as many are kept as are asked for, they are the first of the answer
-pub kept_are_first : (collection : List ℕ) (query : List (List ℕ)) (kept gone : List Hit) (most : ℕ) → OneOrder → AreSorted kept → AreSorted gone → AllBefore kept gone → IsPermutation (hits collection query) (kept ++ gone) → (length kept ≡ most) ⊎ ((gone ≡ []) × (length kept ≤ most)) → kept ≡ take most (by_score (hits collection query))
+pub kept_are_first : (collection : List ℕ) (query : List (List ℕ)) (kept gone : List Hit) (most : ℕ) → OneOrder → AreSorted kept → AreSorted gone →
+    AllBefore kept gone → IsPermutation (hits collection query) (kept ++ gone) → (length kept ≡ most) ⊎ ((gone ≡ []) × (length kept ≤ most)) →
+    kept ≡ take most (by_score (hits collection query))
 kept_are_first collection query kept gone most law a b c same full =
     let whole : kept ++ gone ≡ by_score (hits collection query) = law collection query (kept ++ gone) (sorted_both kept gone a b c) same in
     let first : take most (kept ++ gone) ≡ kept = first_part full in

@@ -145,11 +145,13 @@ pub length_front : (ds : List (List ℕ)) (d : ℕ) → d ≤ length ds → leng
 length_front ds d le = omega (arith, length-take d ds)
 
 -- a list has a posting of the document exactly where the document has the term
-pub posting_is : (collection t : List ℕ) (doc : ℕ) → 1 ≤ doc → doc ≤ length (documents collection) → is_number (first_of (from_doc doc (postings collection t))) doc ≡ has_term (get_or (documents collection) (doc - 1) []) t
+pub posting_is : (collection t : List ℕ) (doc : ℕ) → 1 ≤ doc → doc ≤ length (documents collection) →
+    is_number (first_of (from_doc doc (postings collection t))) doc ≡ has_term (get_or (documents collection) (doc - 1) []) t
 posting_is collection t doc some le =
     let ds = documents collection in
     let d = doc - 1 in
     let split : ds ≡ take d ds ++ get_or ds d [] ∷ drop (d + 1) ds = docs_from ds d (omega (arith, some, le)) in
     let at : doc ≡ 1 + length (take d ds) = omega (arith, length_front ds d (omega (arith, le)), some) in
-    let from : from_doc doc (list_from t 1 ds) ≡ list_from t doc (get_or ds d [] ∷ drop (d + 1) ds) = ap (λ l. from_doc doc (list_from t 1 l)) split ∙ from_front t 1 doc (take d ds) (get_or ds d [] ∷ drop (d + 1) ds) at in
+    let from : from_doc doc (list_from t 1 ds) ≡ list_from t doc (get_or ds d [] ∷ drop (d + 1) ds) = ap (λ l. from_doc doc (list_from t 1 l)) split
+    ∙ from_front t 1 doc (take d ds) (get_or ds d [] ∷ drop (d + 1) ds) at in
     ap (λ l. is_number (first_of l) doc) from ∙ first_is t doc (get_or ds d []) (drop (d + 1) ds)

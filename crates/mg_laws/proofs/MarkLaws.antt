@@ -109,7 +109,8 @@ open_append code pairs bits (start ∷ a) b =
 open_append code pairs bits (piece kind x ∷ a) b = open_append code pairs (bits ++ piece_bits code kind x) a b
 open_append code pairs bits (stop ∷ a) b = open_append code pairs [] a b
 
-pub coded_append : (code : TextCode) (pairs : List ℕ) (bits : Bits) (a b : List Mark) → coded_from code pairs bits (a ++ b) ≡ coded_from code pairs bits a ++ coded_from code (drop (starts a) pairs) (open_from code pairs bits a) b
+pub coded_append : (code : TextCode) (pairs : List ℕ) (bits : Bits) (a b : List Mark) → coded_from code pairs bits (a ++ b) ≡ coded_from code pairs bits a
+    ++ coded_from code (drop (starts a) pairs) (open_from code pairs bits a) b
 coded_append code pairs bits [] b = refl
 coded_append code pairs bits (start ∷ a) b =
     let first : Bits = gamma (get_or pairs 0 0 + 1) in
@@ -159,7 +160,8 @@ marks_are_closed collection = closed_of_documents (documents collection)
 
 -- ---- text
 
-coded_of_pairs : (code : TextCode) (pairs : List ℕ) (bits : Bits) (ps : List Pair) (rest : List Mark) → coded_from code pairs bits ((marks_of_pairs ps ++ stop ∷ []) ++ rest) ≡ (bits ++ flat_map (coded_pair code) ps) ∷ coded_from code pairs [] rest
+coded_of_pairs : (code : TextCode) (pairs : List ℕ) (bits : Bits) (ps : List Pair) (rest : List Mark) →
+    coded_from code pairs bits ((marks_of_pairs ps ++ stop ∷ []) ++ rest) ≡ (bits ++ flat_map (coded_pair code) ps) ∷ coded_from code pairs [] rest
 coded_of_pairs code pairs bits [] rest = ap (λ b. b ∷ coded_from code pairs [] rest) (sym (append-nil bits))
 coded_of_pairs code pairs bits (p ∷ ps) rest =
     let word : Bits = codeword_of code.words p.word in
@@ -177,13 +179,15 @@ coded_of_documents code (doc ∷ docs) =
 pub marks_have_text : (code : TextCode) (collection : List ℕ) → coded_from code (pair_counts collection) [] (marks collection) ≡ map (coded_doc code) (documents collection)
 marks_have_text code collection = coded_of_documents code (documents collection)
 
-nothing_of_pairs : (code : TextCode) (pairs : List ℕ) (bits : Bits) (ps : List Pair) (rest : List Mark) → open_from code pairs bits ((marks_of_pairs ps ++ stop ∷ []) ++ rest) ≡ open_from code pairs [] rest
+nothing_of_pairs : (code : TextCode) (pairs : List ℕ) (bits : Bits) (ps : List Pair) (rest : List Mark) →
+    open_from code pairs bits ((marks_of_pairs ps ++ stop ∷ []) ++ rest) ≡ open_from code pairs [] rest
 nothing_of_pairs code pairs bits [] rest = refl
 nothing_of_pairs code pairs bits (p ∷ ps) rest = nothing_of_pairs code pairs ((bits ++ codeword_of code.words p.word) ++ codeword_of code.others p.other) ps rest
 
 nothing_of_documents : (code : TextCode) (pairs : List ℕ) (docs : List (List ℕ)) → open_from code pairs [] (flat_map marks_of_document docs) ≡ []
 nothing_of_documents code pairs [] = refl
-nothing_of_documents code pairs (doc ∷ docs) = nothing_of_pairs code (drop 1 pairs) (gamma (get_or pairs 0 0 + 1)) (parse doc) (flat_map marks_of_document docs) ∙ nothing_of_documents code (drop 1 pairs) docs
+nothing_of_documents code pairs (doc ∷ docs) = nothing_of_pairs code (drop 1 pairs) (gamma (get_or pairs 0 0 + 1)) (parse doc) (flat_map marks_of_document docs)
+    ∙ nothing_of_documents code (drop 1 pairs) docs
 
 pub nothing_is_open : (code : TextCode) (pairs collection : List ℕ) → open_from code pairs [] (marks collection) ≡ []
 nothing_is_open code pairs collection = nothing_of_documents code pairs (documents collection)
@@ -193,7 +197,9 @@ nothing_is_open code pairs collection = nothing_of_documents code pairs (documen
 abbrev placed : List (List ℕ) → ℕ → List (List ℕ) → List (ℕ × ℕ)
 placed strings doc ts = map (λ t. (number_of strings t, doc)) ts
 
-terms_of_pairs : (strings : List (List ℕ)) (doc : ℕ) (ps : List Pair) (rest : List Mark) → terms_from strings doc ((marks_of_pairs ps ++ stop ∷ []) ++ rest) ≡ placed strings doc (terms_of_words (map (λ (p : Pair). p.word) ps)) ++ terms_from strings doc rest
+terms_of_pairs : (strings : List (List ℕ)) (doc : ℕ) (ps : List Pair) (rest : List Mark) →
+    terms_from strings doc ((marks_of_pairs ps ++ stop ∷ []) ++ rest) ≡ placed strings doc (terms_of_words (map (λ (p : Pair). p.word) ps))
+    ++ terms_from strings doc rest
 terms_of_pairs strings doc [] rest = refl
 terms_of_pairs strings doc (p ∷ ps) rest =
     ap (λ r. with_doc doc (term_in strings p.word) ++ r) (terms_of_pairs strings doc ps rest) ∙ by_test (is_empty p.word)

@@ -129,7 +129,8 @@ asked_as line Quit a s = absurd (false≢true (sym s))
 asked_as line Wrong a s = refl
 asked_as line (Set changed) a s = refl
 
-asked_of_line : (line : List ℕ) → stops (command line first_settings) ≡ false → cond (says_nothing line) [] (line ∷ []) ≡ map line_of (asked_by first_settings line (as_question (command line first_settings)))
+asked_of_line : (line : List ℕ) → stops (command line first_settings) ≡ false → cond (says_nothing line) [] (line ∷ [])
+    ≡ map line_of (asked_by first_settings line (as_question (command line first_settings)))
 unfolding command
 asked_of_line line goes =
     elim (cases_Bool (begins_with_stop line)) [

@@ -178,7 +178,8 @@ bits_small b before all (p ∷ ps) h =
     plus : (n : ℕ) → suc n ≡ 1 + n
     plus n = omega arith
 
-lists_small : (all : ℕ) (lists : List (List Posting)) → AllByRecursion (UpTo all) lists → length (flat_map (λ ps. filled (bits_of_list all ps)) lists) ≤ sum_by (λ (ps : List Posting). length ps) lists * (all + 192) + 7 * length lists
+lists_small : (all : ℕ) (lists : List (List Posting)) → AllByRecursion (UpTo all) lists →
+    length (flat_map (λ ps. filled (bits_of_list all ps)) lists) ≤ sum_by (λ (ps : List Posting). length ps) lists * (all + 192) + 7 * length lists
 lists_small all [] h = omega arith
 lists_small all (ps ∷ lists) h =
     let n = sum_by (λ (qs : List Posting). length qs) lists in
@@ -246,7 +247,8 @@ pairs_small code (p ∷ ps) words others =
       pairs_small code ps words others,
     )
 
-docs_small : (code : TextCode) (ds : List (List ℕ)) → AreGood code.words.lengths → AreGood code.others.lengths → 8 * length (flat_map (λ doc. as_bytes (coded_doc code doc)) ds) ≤ 96 * sum_by (λ (d : List ℕ). length d) ds + 134 * length ds
+docs_small : (code : TextCode) (ds : List (List ℕ)) → AreGood code.words.lengths → AreGood code.others.lengths →
+    8 * length (flat_map (λ doc. as_bytes (coded_doc code doc)) ds) ≤ 96 * sum_by (λ (d : List ℕ). length d) ds + 134 * length ds
 docs_small code [] words others = omega arith
 docs_small code (doc ∷ ds) words others =
     omega (
@@ -296,7 +298,8 @@ pub record Sizes (version : ℕ) (collection : List ℕ) : Type 0 where
 pub sizes_of : (version : ℕ) (collection : List ℕ) → IsWithinLimits version collection → Sizes version collection
 sizes_of version collection is = by_version (version == 1) refl is.bytes is.documents
   where
-    by_version : (b : Bool) → (version == 1) ≡ b → length collection ≤ (cond b (limits 1) (limits 2)).collection → length (documents collection) ≤ (cond b (limits 1) (limits 2)).documents → Sizes version collection
+    by_version : (b : Bool) → (version == 1) ≡ b → length collection ≤ (cond b (limits 1) (limits 2)).collection →
+        length (documents collection) ≤ (cond b (limits 1) (limits 2)).documents → Sizes version collection
     by_version true e bytes docs = record { bytes = omega (arith, bytes); few = omega (arith, docs); narrow = λ _. (bytes, docs) }
     by_version false e bytes docs = record { bytes = bytes; few = docs; narrow = λ one. absurd (false≢true (sym e ∙ ap (λ v. v == 1) one)) }
 
@@ -309,7 +312,8 @@ few_bits n docs bits small few most =
 pub post_places_fit : (version : ℕ) (collection : List ℕ) → IsWithinLimits version collection → length (post_bits collection) < 2 ^ 57
 post_places_fit version collection is =
     let sizes = sizes_of version collection is in
-    few_bits (length (occurrences collection)) (length (documents collection)) (length (post_bits collection)) (omega (arith, few_occurrences collection, sizes.bytes)) sizes.few (few_post_bits collection)
+    few_bits (length (occurrences collection)) (length (documents collection)) (length (post_bits collection))
+    (omega (arith, few_occurrences collection, sizes.bytes)) sizes.few (few_post_bits collection)
 
 pub text_places_fit : (version : ℕ) (code : TextCode) (collection : List ℕ) → IsWithinLimits version collection → IsTextCode collection code → 8 * length (text_part code collection) < 2 ^ 39
 text_places_fit version code collection is coded =

@@ -88,7 +88,8 @@ to_filter : (f : List ℕ → Bool) (ts : List (List ℕ)) (u : List ℕ) → ha
 to_filter f [] u h k = h
 to_filter f (t ∷ ts) u h k =
     elim (or_cases (bytes_eq u t) (has ts u) h) [
-      | inl here ↦ (let kept : f t ≡ true = ap f (sym (same-is u t here)) ∙ k in subst (λ b. has (cond b (t ∷ filter f ts) (filter f ts)) u ≡ true) (sym kept) (or_left (bytes_eq u t) (has (filter f ts) u) here))
+      | inl here ↦ (let kept : f t ≡ true = ap f (sym (same-is u t here)) ∙ k in
+          subst (λ b. has (cond b (t ∷ filter f ts) (filter f ts)) u ≡ true) (sym kept) (or_left (bytes_eq u t) (has (filter f ts) u) here))
       | inr there ↦ (
           let more = to_filter f ts u there k in
           cond_both (f t) (t ∷ filter f ts) (filter f ts) (λ l. has l u ≡ true) (λ _. or_right (bytes_eq u t) (has (filter f ts) u) more) (λ _. more))
@@ -135,7 +136,8 @@ pub squares_are : (collection : List ℕ) (d : ℕ) → squares d (inverted coll
 squares_are collection d =
     squares_lists d (documents collection) (dictionary collection)
     ∙ same_in_doc d 1 (sum_in (dictionary collection)) sum_of (documents collection)
-    (all_map (λ doc. Have (dictionary collection) (terms doc)) (λ doc. sum_in (dictionary collection) doc ≡ sum_of doc) (documents collection) (λ doc have. sum_is collection doc have) (terms_there collection))
+    (all_map (λ doc. Have (dictionary collection) (terms doc)) (λ doc. sum_in (dictionary collection) doc ≡ sum_of doc) (documents collection)
+    (λ doc have. sum_is collection doc have) (terms_there collection))
 
 -- ---- of each document
 
@@ -185,7 +187,13 @@ sum_fits doc n small short = omega (arith, sum_small doc (sorted_distinct (terms
 
 pub squares_fit : (collection : List ℕ) (d : ℕ) → length collection < 2 ^ 32 → squares d (inverted collection) ≤ 2 ^ 61
 squares_fit collection d small =
-    omega (arith, squares_are collection d, small_in_doc d 1 (2 ^ 61) sum_of (documents collection) (all_map (λ (doc : List ℕ). length doc ≤ length collection) (λ doc. sum_of doc ≤ 2 ^ 61) (documents collection) (λ doc short. sum_fits doc (length collection) small short) (documents_short collection)))
+    omega (
+      arith,
+      squares_are collection d,
+      small_in_doc d 1 (2 ^ 61) sum_of (documents collection)
+          (all_map (λ (doc : List ℕ). length doc ≤ length collection) (λ doc. sum_of doc ≤ 2 ^ 61) (documents collection)
+          (λ doc short. sum_fits doc (length collection) small short) (documents_short collection)),
+    )
 
 pub squares_append : (d : ℕ) (a b : List (List Posting)) → squares d (a ++ b) ≡ squares d a + squares d b
 squares_append d a b = sum_by-append (λ ps. sum_by (square_at d) ps) a b

@@ -94,7 +94,8 @@ IsDocumentOf collection doc = list_any (same_term doc) (documents collection) �
 
 -- what a line prints where commands are heard as questions
 abbrev pub question_text : (List ℕ → List ℕ) → List ℕ → List ℕ
-question_text reply line = command_text (λ now. reply) bad_command first_settings (without_return line) (as_question (read first_settings line))
+question_text reply line = command_text (λ now. reply) bad_command first_settings (without_return line)
+    (as_question (read first_settings line))
 
 -- ---- marks
 
@@ -104,7 +105,8 @@ coded_marks code collection = coded_from code (pair_counts collection) [] (marks
 
 -- what some marks are coded as, and then others
 abbrev pub coded_both : TextCode → List ℕ → Bits → List Mark → List Mark → List Bits
-coded_both code pairs bits a b = coded_from code pairs bits a ++ coded_from code (drop (starts a) pairs) (open_from code pairs bits a) b
+coded_both code pairs bits a b = coded_from code pairs bits a ++ coded_from code (drop (starts a) pairs)
+    (open_from code pairs bits a) b
 
 -- the bits that some marks leave open, and then others
 abbrev pub open_both : TextCode → List ℕ → Bits → List Mark → List Mark → Bits

@@ -9,9 +9,12 @@ ghost use Rattle.mg_laws.specs.Words.{ForTwoTerms, IsAsRare, IsRarer, IsSmall, b
 /// the rarer counts its list, the first where they are as rare, and the other the blocks whose range
 /// holds a document of that; and a query that no word leads counts a list for each place of a term.
 pub fn bounds_in_words()
-    ensures own { (collection t : List ℕ) → IsSmall collection → list_pages collection t ≡ pages_shared collection t t }
-    ensures any { (collection t : List ℕ) → IsSmall collection → list_pages collection t ≡ pages_for collection (all_numbers collection) t }
-    ensures word { (collection t : List ℕ) → IsSmall collection → boolean_bound collection (term t) ≡ list_pages collection t }
+    ensures own { (collection t : List ℕ) → IsSmall collection →
+        list_pages collection t ≡ pages_shared collection t t }
+    ensures any { (collection t : List ℕ) → IsSmall collection →
+        list_pages collection t ≡ pages_for collection (all_numbers collection) t }
+    ensures word { (collection t : List ℕ) → IsSmall collection →
+        boolean_bound collection (term t) ≡ list_pages collection t }
     ensures first { ForTwoTerms (λ collection s t. IsAsRare collection s t →
         bound_of_both collection s t ≡ list_pages collection s + pages_shared collection s t) }
     ensures second { ForTwoTerms (λ collection s t. IsRarer collection t s →

@@ -17,10 +17,12 @@ pub fn documents_are_counted()
     ensures all { (collection : List ℕ) (term : ℕ) →
         docs_with term (occurrences collection) ≡ length (get_or (inverted collection) term []) }
     ensures more { (term : ℕ) (fed : List (ℕ × ℕ)) (o : ℕ × ℕ) →
-        WhereNext fed o (docs_with term (fed ++ o ∷ []) ≡ docs_with term fed + docs_added term fed o) }
+        WhereNext fed o (docs_with term (fed ++ o ∷ []) ≡ docs_with term fed
+        + docs_added term fed o) }
     ensures last { (term doc : ℕ) (fed : List (ℕ × ℕ)) (o : ℕ × ℕ) →
         last_with term doc (fed ++ o ∷ []) ≡ (if o.0 == term then o.1 else last_with term doc fed) }
-    ensures low { (term doc : ℕ) (fed : List (ℕ × ℕ)) → NeverFall 0 fed doc → last_with term 0 fed ≤ doc }
+    ensures low { (term doc : ℕ) (fed : List (ℕ × ℕ)) → NeverFall 0 fed doc →
+        last_with term 0 fed ≤ doc }
     ensures order { (terms : List (List ℕ)) (doc : ℕ) (met : List Mark) →
         NeverFall doc (terms_from terms doc met) (doc + starts met) }
 {}
@@ -34,9 +36,12 @@ pub fn occurrences_in_range()
 /// Terms have at most 255 bytes and are no more than the distinct words; a list is no longer than there
 /// are documents, and all together are no longer than there are occurrences.
 pub fn lists_are_short()
-    ensures terms { (collection : List ℕ) → All (λ (t : List ℕ). length t ≤ 255) (dictionary collection) }
-    ensures words { (collection : List ℕ) → length (dictionary collection) ≤ length (sorted_pieces Words collection) }
+    ensures terms { (collection : List ℕ) →
+        All (λ (t : List ℕ). length t ≤ 255) (dictionary collection) }
+    ensures words { (collection : List ℕ) → length (dictionary collection)
+        ≤ length (sorted_pieces Words collection) }
     ensures each { (collection : List ℕ) →
         All (λ (n : ℕ). n ≤ length (documents collection)) (map length (inverted collection)) }
-    ensures all { (collection : List ℕ) → sum (map length (inverted collection)) ≤ length (occurrences collection) }
+    ensures all { (collection : List ℕ) → sum (map length (inverted collection))
+        ≤ length (occurrences collection) }
 {}

@@ -10,8 +10,11 @@ ghost use Rattle.mg_laws.specs.Words.{question_text};
 /// In a session without commands a line prints what it prints where commands are heard as questions,
 /// and so does the session; it answers the same questions.
 pub fn plain_is_heard()
-    ensures line { (reply : List ℕ → List ℕ) (line : List ℕ) → length line ≤ 1024 → is_quit line ≡ false →
+    ensures line { (reply : List ℕ → List ℕ) (line : List ℕ) → length line ≤ 1024 →
+        is_quit line ≡ false →
         plain_text reply line ≡ question_text reply line }
-    ensures session { (reply : List ℕ → List ℕ) (input : List ℕ) → plain_session reply input ≡ heard_session Questions (λ now. reply) input }
-    ensures questions { (input : List ℕ) → plain_questions (lines input) ≡ map (λ (q : Question). q.line) (heard_questions Questions input) }
+    ensures session { (reply : List ℕ → List ℕ) (input : List ℕ) →
+        plain_session reply input ≡ heard_session Questions (λ now. reply) input }
+    ensures questions { (input : List ℕ) → plain_questions (lines input)
+        ≡ map (λ (q : Question). q.line) (heard_questions Questions input) }
 {}

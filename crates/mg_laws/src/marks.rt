@@ -15,16 +15,19 @@ ghost use Rattle.mg_laws.specs.Words.{HasFewBytes, HasFewMarks, HasTooMany, Wher
 /// The marks of a collection have its documents, its pieces, the pairs of each document, its text and
 /// its occurrences; and no document is left open.
 pub fn marks_have_all()
-    ensures documents { (collection : List ℕ) → starts (marks collection) ≡ length (documents collection) }
+    ensures documents { (collection : List ℕ) → starts (marks collection)
+        ≡ length (documents collection) }
     ensures pieces { (kind : Stream) (collection : List ℕ) →
         pieces_among kind (marks collection) ≡ all_pieces kind collection }
-    ensures pairs { (collection : List ℕ) → pairs_from 0 (marks collection) ≡ pair_counts collection }
+    ensures pairs { (collection : List ℕ) → pairs_from 0 (marks collection)
+        ≡ pair_counts collection }
     ensures text { (code : TextCode) (collection : List ℕ) →
         coded_marks code collection ≡ map (coded_doc code) (documents collection) }
     ensures occurrences { (collection : List ℕ) →
         terms_from (dictionary collection) 0 (marks collection) ≡ occurrences collection }
     ensures closed { (collection : List ℕ) → is_open_after (marks collection) ≡ false }
-    ensures nothing { (code : TextCode) (pairs collection : List ℕ) → open_from code pairs [] (marks collection) ≡ [] }
+    ensures nothing { (code : TextCode) (pairs collection : List ℕ) →
+        open_from code pairs [] (marks collection) ≡ [] }
 {}
 
 /// What more marks add.
@@ -34,8 +37,10 @@ pub fn marks_add_up()
         pieces_among kind (a ++ b) ≡ pieces_among kind a ++ pieces_among kind b }
     ensures pairs { (n : ℕ) (a b : List Mark) →
         pairs_from n (a ++ b) ≡ pairs_from n a ++ pairs_from (piece_count_from n a) b }
-    ensures last { (n : ℕ) (a b : List Mark) → piece_count_from n (a ++ b) ≡ piece_count_from (piece_count_from n a) b }
-    ensures is_open { (now : Bool) (a b : List Mark) → open_at now (a ++ b) ≡ open_at (open_at now a) b }
+    ensures last { (n : ℕ) (a b : List Mark) → piece_count_from n (a ++ b)
+        ≡ piece_count_from (piece_count_from n a) b }
+    ensures is_open { (now : Bool) (a b : List Mark) → open_at now (a ++ b)
+        ≡ open_at (open_at now a) b }
     ensures text { (code : TextCode) (pairs : List ℕ) (bits : Bits) (a b : List Mark) →
         coded_from code pairs bits (a ++ b) ≡ coded_both code pairs bits a b }
     ensures bits { (code : TextCode) (pairs : List ℕ) (bits : Bits) (a b : List Mark) →
@@ -47,12 +52,14 @@ pub fn marks_add_up()
 /// The first mark with which a limit is passed is one, and stands exactly where the whole goes beyond a
 /// limit: the start of a document where there are too many, or a piece where its stream has too many.
 pub fn one_first_mark()
-    ensures front { (most : Limits) (a b : List Mark) → AreWithinLimits most (a ++ b) → AreWithinLimits most a }
+    ensures front { (most : Limits) (a b : List Mark) → AreWithinLimits most (a ++ b) →
+        AreWithinLimits most a }
     ensures only { (most : Limits) (collection : List ℕ) (x y : Mark) →
         PassesFirst most collection x → PassesFirst most collection y → x ≡ y }
     ensures beyond { (most : Limits) (collection : List ℕ) (x : Mark) →
         PassesFirst most collection x → AreWithinLimits most (marks collection) → ⊥ }
-    ensures some { (most : Limits) (collection : List ℕ) → (AreWithinLimits most (marks collection) → ⊥) →
+    ensures some { (most : Limits) (collection : List ℕ) →
+        (AreWithinLimits most (marks collection) → ⊥) →
         (mark : Mark) × PassesFirst most collection mark }
     ensures never { (most : Limits) (collection : List ℕ) → PassesFirst most collection stop → ⊥ }
     ensures documents { (most : Limits) (collection : List ℕ) →

@@ -17,13 +17,18 @@ ghost use Rattle.mg_laws.specs.Words.{HasShortText, WhereCodedWithin, text_room}
 /// There are no more occurrences than bytes, and no more terms, postings or skip entries than
 /// occurrences; no more pairs than bytes.
 pub fn few_of_each()
-    ensures occurrences { (collection : List ℕ) → length (occurrences collection) ≤ length collection }
-    ensures all { (collection : List ℕ) → length (occurrences collection) ≡ length (all_terms collection) }
-    ensures terms { (collection : List ℕ) → length (dictionary collection) ≤ length (occurrences collection) }
+    ensures occurrences { (collection : List ℕ) → length (occurrences collection)
+        ≤ length collection }
+    ensures all { (collection : List ℕ) → length (occurrences collection)
+        ≡ length (all_terms collection) }
+    ensures terms { (collection : List ℕ) → length (dictionary collection)
+        ≤ length (occurrences collection) }
     ensures postings { (collection : List ℕ) →
-        sum_by (λ (ps : List Posting). length ps) (inverted collection) ≤ length (occurrences collection) }
+        sum_by (λ (ps : List Posting). length ps) (inverted collection)
+        ≤ length (occurrences collection) }
     ensures entries { (collection : List ℕ) →
-        length (lists_entries (length (documents collection)) (inverted collection)) ≤ length (occurrences collection) }
+        length (lists_entries (length (documents collection)) (inverted collection))
+        ≤ length (occurrences collection) }
     ensures pairs { (collection : List ℕ) → sum (pair_counts collection) ≤ length collection }
 {}
 
@@ -31,7 +36,8 @@ pub fn few_of_each()
 /// byte and each document.
 pub fn parts_are_small()
     ensures post { (collection : List ℕ) →
-        length (post_bits collection) ≤ length (occurrences collection) * (length (documents collection) + 199) }
+        length (post_bits collection) ≤ length (occurrences collection)
+        * (length (documents collection) + 199) }
     ensures text { (code : TextCode) (collection : List ℕ) → IsTextCode collection code →
         length (text_part code collection) ≤ text_room collection }
     ensures post_places { (version : ℕ) (collection : List ℕ) → IsWithinLimits version collection →
@@ -47,6 +53,7 @@ pub fn weights_fit()
 
 /// Rounded up by either form, a quotient is the same; and there are so many runs.
 pub fn runs_in_one_form()
-    ensures count { (cap : ℕ) (s : List (ℕ × ℕ)) → 1 ≤ cap → length (runs_of cap s) ≡ run_count (length s) cap }
+    ensures count { (cap : ℕ) (s : List (ℕ × ℕ)) → 1 ≤ cap →
+        length (runs_of cap s) ≡ run_count (length s) cap }
     ensures form { (n cap : ℕ) → 1 ≤ cap → (n + cap - 1) / cap ≡ div_ceil n cap }
 {}

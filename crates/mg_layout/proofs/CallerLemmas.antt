@@ -46,7 +46,8 @@ stands_stay before now base collection same is = record {
   stand = subst (λ (p : Parts). Stand p collection) (sym (same_parts before now base same)) is.stand;
 }
 
-pub in_stays : (version cap : ℕ) (before now : Option Files) (base collection : List ℕ) → SameSet base before now → StandsIn version cap before base collection → StandsIn version cap now base collection
+pub in_stays : (version cap : ℕ) (before now : Option Files) (base collection : List ℕ) → SameSet base before now →
+    StandsIn version cap before base collection → StandsIn version cap now base collection
 in_stays version cap before now base collection same is = record {
   told = told_too before now base same is.told;
   code = is.code;
@@ -61,12 +62,14 @@ none_stays before now base same none = λ collection is. none collection (stands
 
 -- ---- the head
 
-pub told_set : (files : Option Files) (base collection : List ℕ) (head : Head) (code : TextCode) → Stands files base collection → Tell (parts_at files base) (fields_of head) code → StandsBy head code files base collection
+pub told_set : (files : Option Files) (base collection : List ℕ) (head : Head) (code : TextCode) → Stands files base collection →
+    Tell (parts_at files base) (fields_of head) code → StandsBy head code files base collection
 told_set files base collection head code is tell =
     let stands = told-stands (parts_at files base) (fields_of head) code collection tell is.stand in
     record { told = is.told; head_is = stands.0; are = stands.1 }
 
-pub loaded_set : (files : Option Files) (base collection : List ℕ) (head : Head) → Stands files base collection → IsHead 1 2 (parts_at files base).head (fields_of head) → (code : TextCode) × StandsBy head code files base collection
+pub loaded_set : (files : Option Files) (base collection : List ℕ) (head : Head) → Stands files base collection →
+    IsHead 1 2 (parts_at files base).head (fields_of head) → (code : TextCode) × StandsBy head code files base collection
 loaded_set files base collection head is loaded =
     let own : defs.Head = head_of is.stand.version is.stand.cap is.stand.code collection in
     let tell : Tell (parts_at files base) own is.stand.code = stand-tells is.stand.version is.stand.cap is.stand.code (parts_at files base) collection is.stand.are in
@@ -82,7 +85,8 @@ no_empty_head bytes h is empty = some_is_not (sym (no_damage 1 2 bytes h is) ∙
     some_is_not e = cc
 
 -- a set that stands has a head
-pub own_head : (files : Option Files) (base collection : List ℕ) → (stands : Stands files base collection) → IsHead 1 2 (bytes_at files (full_name base part.Head)) (head_of stands.stand.version stands.stand.cap stands.stand.code collection)
+pub own_head : (files : Option Files) (base collection : List ℕ) → (stands : Stands files base collection) →
+    IsHead 1 2 (bytes_at files (full_name base part.Head)) (head_of stands.stand.version stands.stand.cap stands.stand.code collection)
 own_head files base collection stands = (stand-tells stands.stand.version stands.stand.cap stands.stand.code (parts_at files base) collection stands.stand.are).head
 
 pub head_there : (files : Option Files) (base collection : List ℕ) → Stands files base collection → bytes_at files (full_name base part.Head) ≢ []

@@ -35,12 +35,15 @@ some_bytes bytes n e some none = absurd (omega (arith, ap length none, e))
 
 pub tells_short : (low high n : ℕ) (bytes : List ℕ) → length bytes ≡ n → n < 64 → first_damage low high bytes ≡ Some (record { at = 0; low = 64; high = 64; found = n })
 unfolding first_damage
-tells_short low high n bytes e short = ap (λ b. cond b (Some (exactly 0 64 (length bytes))) (find is_wrong (magic_checks low high bytes ++ rest_checks bytes))) (yes (length bytes) (omega arith)) ∙ ap (λ m. Some (exactly 0 64 m)) e
+tells_short low high n bytes e short = ap (λ b. cond b (Some (exactly 0 64 (length bytes))) (find is_wrong (magic_checks low high bytes ++ rest_checks bytes)))
+    (yes (length bytes) (omega arith)) ∙ ap (λ m. Some (exactly 0 64 m)) e
   where
     yes : (m : ℕ) → m < 64 → nat_lt m 64 ≡ true
     yes m h = grind (arith, nat_tests)
 
-pub read_agrees : (now files : Option Files) (name buf : List ℕ) (n size : ℕ) → now ≡ files → (IsSome now → take n buf ≡ take (length buf) (drop 0 (bytes_at now name))) → IsSome files → n ≤ length buf → length buf ≡ 80 → length (bytes_at files name) ≡ size →
+pub read_agrees : (now files : Option Files) (name buf : List ℕ) (n size : ℕ) → now ≡ files →
+    (IsSome now → take n buf ≡ take (length buf) (drop 0 (bytes_at now name))) → IsSome files → n ≤ length buf → length buf ≡ 80 →
+    length (bytes_at files name) ≡ size →
     take (min 80 size) buf ≡ take 80 (bytes_at files name)
 read_agrees now files name buf n size same is told within long whole =
     let count : n ≡ min (length buf) (length (bytes_at files name) - 0) = read_count now files name buf 0 n same is told within in

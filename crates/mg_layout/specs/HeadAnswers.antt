@@ -46,7 +46,8 @@ checks_of_wide bytes = defs.first_checks (limits 2) bytes ++ defs.wide_checks by
 -- the answer where these checks find nothing wrong, else what they find first
 abbrev pub AnswersChecks : {T : Type 0} → List defs.Check → Result T dev.Bad → (T → Type 0) → Type 0
 AnswersChecks checks result holds =
-    MatchResult result (λ value. (find defs.is_wrong checks ≡ None) × holds value) (λ bad. TellsOf bad (find defs.is_wrong checks))
+    MatchResult result (λ value. (find defs.is_wrong checks ≡ None) × holds value)
+    (λ bad. TellsOf bad (find defs.is_wrong checks))
 
 -- what is answered for a part of these bytes, where heads of a version from low to high are read
 abbrev pub AnswersHead : ℕ → ℕ → List ℕ → Result (Option Head) PartErr → Type 0

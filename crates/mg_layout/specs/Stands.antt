@@ -56,7 +56,8 @@ IsSetBy head files base = (code : TextCode) × (collection : List ℕ) × Stands
 
 -- This is so of each collection for which they do so, and of its codes.
 abbrev pub ForSetBy : Head → Option Files → List ℕ → (TextCode → List ℕ → Type 0) → Type 0
-ForSetBy head files base holds = (code : TextCode) (collection : List ℕ) → StandsBy head code files base collection → holds code collection
+ForSetBy head files base holds = (code : TextCode) (collection : List ℕ) → StandsBy head code files base collection →
+    holds code collection
 
 -- They do so with this head, under some codes.
 abbrev pub StandsUnder : Head → Option Files → List ℕ → List ℕ → Type 0
@@ -72,11 +73,13 @@ TellCode files base head code = Tell (parts_at files base) (fields_of head) code
 
 -- Where the parts stand and the head's part has this head, they stand with it, under some codes.
 abbrev pub HeadTellsSet : Head → Option Files → List ℕ → List ℕ → Type 0
-HeadTellsSet head files base collection = Stands files base collection → HasHead files base head → StandsUnder head files base collection
+HeadTellsSet head files base collection = Stands files base collection → HasHead files base head →
+    StandsUnder head files base collection
 
 -- Where the parts stand and tell these codes with this head, they stand with both.
 abbrev pub CodesTellSet : Head → TextCode → Option Files → List ℕ → List ℕ → Type 0
-CodesTellSet head code files base collection = Stands files base collection → TellCode files base head code → StandsBy head code files base collection
+CodesTellSet head code files base collection = Stands files base collection → TellCode files base head code →
+    StandsBy head code files base collection
 
 -- The parts of this base stand for no collection.
 abbrev pub StandsForNone : Option Files → List ℕ → Type 0
@@ -89,4 +92,5 @@ pub record SameSet (base : List ℕ) (before now : Option Files) : Type 0 where
 
 -- The parts stand now in this version, with so many occurrences to a run, if they did so before and none of those files changed.
 abbrev pub StaysIn : ℕ → ℕ → Option Files → Option Files → List ℕ → List ℕ → Type 0
-StaysIn version cap before now base collection = SameSet base before now → StandsIn version cap before base collection → StandsIn version cap now base collection
+StaysIn version cap before now base collection = SameSet base before now → StandsIn version cap before base collection →
+    StandsIn version cap now base collection

@@ -61,7 +61,8 @@ impl Check {
 
 /// Refuses the first number that is outside its range.
 pub(crate) fn pass_all(checks: &[Check]) -> Result<(), Bad>
-    ensures { MatchResult result (λ _. find is_wrong (map check_of checks.now) ≡ None) (λ bad. TellsOf bad (find is_wrong (map check_of checks.now))) }
+    ensures { MatchResult result (λ _. find is_wrong (map check_of checks.now) ≡ None)
+        (λ bad. TellsOf bad (find is_wrong (map check_of checks.now))) }
 {
     for check in checks {
         if check.is_wrong() {

@@ -40,7 +40,8 @@ impl Head {
     /// Appends the head's bytes, 64 in version 1 and 80 in version 2, in one append.
     pub fn write<S: Store>(&self, store: &mut S, base: &str) -> Result<(), PutErr>
         requires within { defs.IsWithin (fields_of self.now) }
-        ensures content { AfterAppend (S.files store.old) (S.files store.new) (full_name base.now part.Head) (defs.head_bytes (fields_of self.now)) result }
+        ensures content { AfterAppend (S.files store.old) (S.files store.new)
+            (full_name base.now part.Head) (defs.head_bytes (fields_of self.now)) result }
         ensures reads { SameReads (S.reads store.old) (S.reads store.new) }
         ensures cause { HasPutCause (S.faults store.old) (S.faults store.new) result }
     {
@@ -114,12 +115,15 @@ impl Head {
     /// Loads a head of version 1 or 2: None exactly where the part is missing or empty, and the
     /// first damage where its bytes are no such head.
     pub fn load<S: Store>(store: &mut S, base: &str) -> Result<Option<Head>, PartErr>
-        ensures answer { IsSome (S.files store.old) → AnswersHead 1 2 (part_bytes base.now part.Head (S.files store.old)) result }
+        ensures answer { IsSome (S.files store.old) →
+            AnswersHead 1 2 (part_bytes base.now part.Head (S.files store.old)) result }
         ensures back { IsSome (S.files store.old) → (h : defs.Head) →
-            defs.IsHead 1 2 (part_bytes base.now part.Head (S.files store.old)) h → AnswersBack h result }
+            defs.IsHead 1 2 (part_bytes base.now part.Head (S.files store.old)) h →
+            AnswersBack h result }
         ensures within { AnswersWithin result }
         ensures files { S.files store.new ≡ S.files store.old }
-        ensures reads { SameReads (S.reads store.old) (S.reads store.new) ⊎ OneRead (S.reads store.old) (S.reads store.new) part.Head }
+        ensures reads { SameReads (S.reads store.old) (S.reads store.new)
+            ⊎ OneRead (S.reads store.old) (S.reads store.new) part.Head }
         ensures cause { HasPartCause (S.faults store.old) (S.faults store.new) result }
     {
         load_from(store, base, FIRST, LAST)
@@ -150,10 +154,12 @@ fn load_from<S: Store>(
     requires first { 1 ≤ low }
     requires low { low ≤ high }
     requires high { high ≤ 2 }
-    ensures answer { IsSome (S.files store.old) → AnswersHead low high (part_bytes base.now part.Head (S.files store.old)) result }
+    ensures answer { IsSome (S.files store.old) →
+        AnswersHead low high (part_bytes base.now part.Head (S.files store.old)) result }
     ensures within { AnswersWithin result }
     ensures files { S.files store.new ≡ S.files store.old }
-    ensures reads { SameReads (S.reads store.old) (S.reads store.new) ⊎ OneRead (S.reads store.old) (S.reads store.new) part.Head }
+    ensures reads { SameReads (S.reads store.old) (S.reads store.new)
+        ⊎ OneRead (S.reads store.old) (S.reads store.new) part.Head }
     ensures cause { HasPartCause (S.faults store.old) (S.faults store.new) result }
 {
     let file = FileRef {

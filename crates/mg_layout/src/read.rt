@@ -20,7 +20,8 @@ pub(crate) fn parse(bytes: &[u8; 80], size: u64, low: u8, high: u8) -> Result<He
     requires first { 1 ≤ low }
     requires low { low ≤ high }
     requires high { high ≤ 2 }
-    ensures told { (all : List ℕ) → length all ≡ size → take (min 80 size) bytes.now ≡ take 80 all → AnswersParse low high all result }
+    ensures told { (all : List ℕ) → length all ≡ size → take (min 80 size) bytes.now ≡ take 80 all →
+        AnswersParse low high all result }
     ensures within { IfOk result (λ head. defs.IsWithin (fields_of head)) }
 {
     let version = match version_of(bytes, low, high) {
@@ -45,7 +46,8 @@ fn version_of(bytes: &[u8], low: u8, high: u8) -> Result<u8, Bad>
     requires long { 8 ≤ length bytes.now }
     requires low { low ≤ high }
     requires high { high ≤ 2 }
-    ensures { AnswersChecks (defs.magic_checks low high bytes.now) result (λ version. 48 + version ≡ slice_index bytes.now 6) }
+    ensures { AnswersChecks (defs.magic_checks low high bytes.now) result
+        (λ version. 48 + version ≡ slice_index bytes.now 6) }
 {
     match pass_all(&magic_checks(bytes, low, high)) {
         Ok(()) => Ok(bytes[6] - b'0'),
@@ -85,7 +87,8 @@ fn byte_check(bytes: &[u8], at: usize, low: u8, high: u8) -> Check
 
 fn read_narrow(bytes: &[u8]) -> Result<Head, Bad>
     requires { length bytes.now ≡ 64 }
-    ensures { AnswersChecks (checks_of_narrow bytes.now) result (λ head. fields_of head ≡ defs.narrow_head bytes.now) }
+    ensures { AnswersChecks (checks_of_narrow bytes.now) result
+        (λ head. fields_of head ≡ defs.narrow_head bytes.now) }
 {
     match pass_all(&first_checks(bytes, 1 << 20, 1 << 20)) {
         Ok(()) => {}
@@ -115,7 +118,8 @@ fn read_narrow(bytes: &[u8]) -> Result<Head, Bad>
 fn read_wide(bytes: &[u8], version: u8) -> Result<Head, Bad>
     requires long { length bytes.now ≡ 80 }
     requires version { 48 + version ≡ slice_index bytes.now 6 }
-    ensures { AnswersChecks (checks_of_wide bytes.now) result (λ head. fields_of head ≡ defs.wide_head bytes.now) }
+    ensures { AnswersChecks (checks_of_wide bytes.now) result
+        (λ head. fields_of head ≡ defs.wide_head bytes.now) }
 {
     match pass_all(&first_checks(bytes, 1 << 24, 1 << 22)) {
         Ok(()) => {}
@@ -145,7 +149,8 @@ fn read_wide(bytes: &[u8], version: u8) -> Result<Head, Bad>
 // The fields that stand at one place in every version, with the most documents and pieces.
 fn first_checks(bytes: &[u8], documents: u64, pieces: u64) -> [Check; 6]
     requires { 32 ≤ length bytes.now }
-    ensures { map check_of result ≡ defs.first_checks (record { documents = documents; pieces = pieces; collection = 0 }) bytes.now }
+    ensures { map check_of result ≡ defs.first_checks
+        (record { documents = documents; pieces = pieces; collection = 0 }) bytes.now }
 {
     let words = u64::from(four_at(bytes, 12));
     [

@@ -8,7 +8,8 @@ use mg_dev::{Bad, FileRef, PartErr, Store};
 
 /// Refuses a part of another size than wanted. A missing part has no bytes.
 pub fn expect_size<S: Store>(store: &mut S, file: FileRef<'_>, wanted: u64) -> Result<(), PartErr>
-    ensures answer { IsSome (S.files store.old) → AnswersSize file.entry.part wanted (file_bytes file.entry (S.files store.old)) result }
+    ensures answer { IsSome (S.files store.old) →
+        AnswersSize file.entry.part wanted (file_bytes file.entry (S.files store.old)) result }
     ensures memory { result ≢ Err PartErr.Memory }
     ensures files { S.files store.new ≡ S.files store.old }
     ensures reads { SameReads (S.reads store.old) (S.reads store.new) }

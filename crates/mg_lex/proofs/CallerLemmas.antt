@@ -9,9 +9,14 @@ use Rattle.mg_lex.specs.Terms.{Term, terms_of}
 
 pub terms_long : (collection : List ℕ) → length (terms_of collection) ≡ length (dictionary collection)
 unfolding terms_of
-terms_long collection = length-map (enumerate_from 0 (dictionary collection)) (λ (t : ℕ × List ℕ). record { string = t.1; info = info_of collection t.0 t.1 }) ∙ length-enumerate_from 0 (dictionary collection)
+terms_long collection = length-map (enumerate_from 0 (dictionary collection)) (λ (t : ℕ × List ℕ). record { string = t.1; info = info_of collection t.0 t.1 })
+    ∙ length-enumerate_from 0 (dictionary collection)
 
-term_at : (collection : List ℕ) (n : ℕ) (d : Term) → n < length (dictionary collection) → get_or (terms_of collection) n d ≡ record { string = get_or (dictionary collection) n []; info = info_of collection n (get_or (dictionary collection) n []) }
+term_at : (collection : List ℕ) (n : ℕ) (d : Term) → n < length (dictionary collection) →
+    get_or (terms_of collection) n d ≡ record {
+      string = get_or (dictionary collection) n [];
+      info = info_of collection n (get_or (dictionary collection) n []);
+    }
 unfolding terms_of
 term_at collection n d lt =
     let f : ℕ × List ℕ → Term = λ t. record { string = t.1; info = info_of collection t.0 t.1 } in

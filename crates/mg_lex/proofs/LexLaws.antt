@@ -68,7 +68,9 @@ same_info a b fits also same =
 
 -- ---- terms
 
-entries_from : (collection : List ℕ) (ts : List (ℕ × List ℕ)) → entries_of (map (λ (t : ℕ × List ℕ). record { string = t.1; info = info_of collection t.0 t.1 }) ts) ≡ map (λ (t : ℕ × List ℕ). record { string = t.1; field = info_bytes (info_of collection t.0 t.1) }) ts
+entries_from : (collection : List ℕ) (ts : List (ℕ × List ℕ)) →
+    entries_of (map (λ (t : ℕ × List ℕ). record { string = t.1; info = info_of collection t.0 t.1 }) ts)
+    ≡ map (λ (t : ℕ × List ℕ). record { string = t.1; field = info_bytes (info_of collection t.0 t.1) }) ts
 entries_from collection [] = refl
 entries_from collection (t ∷ ts) = ap (λ (es : List Entry). record { string = t.1; field = info_bytes (info_of collection t.0 t.1) } ∷ es) (entries_from collection ts)
 
@@ -79,7 +81,8 @@ entries_of_terms collection = entries_from collection (enumerate_from 0 (diction
 -- ---- a reader over its parts
 
 pub lex_stays : (lex now : Fronted) (files files_now : Option Files) (collection : List ℕ) → SameParts lex now → is_some files_now ≡ is_some files →
-    file_at files_now lex.strings.name ≡ file_at files lex.strings.name → file_at files_now lex.places.name ≡ file_at files lex.places.name → LexStands lex files collection → LexStands now files_now collection
+    file_at files_now lex.strings.name ≡ file_at files lex.strings.name → file_at files_now lex.places.name ≡ file_at files lex.places.name →
+    LexStands lex files collection → LexStands now files_now collection
 lex_stays lex now files files_now collection same told strings places stands = record {
   told = told ∙ stands.told;
   lex = ap (bytes_at files_now) same.strings ∙ ap (λ bytes. unwrap_or bytes []) strings ∙ stands.lex;
@@ -109,7 +112,9 @@ front_stands lex files collection width stands = record {
 }
 
 -- a reader of the parts of a base
-pub lex_loaded : (r : Fronted) (base : List ℕ) (files files_now : Option Files) (terms : ℕ) (collection : List ℕ) → IsReader r (full_name base Lex) Lex (full_name base LexAt) LexAt 16 terms → files_now ≡ files → IsLexicon base files terms collection → LexStands r files_now collection
+pub lex_loaded : (r : Fronted) (base : List ℕ) (files files_now : Option Files) (terms : ℕ) (collection : List ℕ) →
+    IsReader r (full_name base Lex) Lex (full_name base LexAt) LexAt 16 terms → files_now ≡ files → IsLexicon base files terms collection →
+    LexStands r files_now collection
 lex_loaded r base files files_now terms collection reader e is = record {
   told = subst IsSome (sym e) is.told;
   lex = ap (bytes_at files_now) reader.strings_is ∙ ap (λ f. bytes_at f (full_name base Lex)) e ∙ is.lex_is;
@@ -119,7 +124,8 @@ lex_loaded r base files files_now terms collection reader e is = record {
 }
 
 -- what was written of the terms of a collection is its lexicon
-pub written_is : (base : List ℕ) (files : Option Files) (collection : List ℕ) → IsSome files → TermsStand base files (terms_of collection) → length (dictionary collection) ≤ 2 ^ 22 → IsLexicon base files (length (dictionary collection)) collection
+pub written_is : (base : List ℕ) (files : Option Files) (collection : List ℕ) → IsSome files → TermsStand base files (terms_of collection) →
+    length (dictionary collection) ≤ 2 ^ 22 → IsLexicon base files (length (dictionary collection)) collection
 written_is base files collection told stand few = record {
   told = told;
   lex_is = stand.lex ∙ ap front (entries_of_terms collection);
@@ -129,7 +135,9 @@ written_is base files collection told stand few = record {
 }
 
 -- an entry that was found tells of its term
-pub term_found : (width number : ℕ) (collection t : List ℕ) (entry : FrontEntry) (info : declared.TermInfo) → width ≡ 16 → info.number ≡ number → info_bytes (told_of info) ≡ take 16 entry.field → (slice_get (lexicon collection) number ≡ Some (entry_of width entry)) × (take entry.length entry.string ≡ t) → IsInfo info collection t
+pub term_found : (width number : ℕ) (collection t : List ℕ) (entry : FrontEntry) (info : declared.TermInfo) → width ≡ 16 → info.number ≡ number →
+    info_bytes (told_of info) ≡ take 16 entry.field → (slice_get (lexicon collection) number ≡ Some (entry_of width entry))
+    × (take entry.length entry.string ≡ t) → IsInfo info collection t
 term_found width number collection t entry info wide is field found =
     let known = lexicon_of collection number (entry_of width entry) found.0 in
     record {
@@ -146,8 +154,10 @@ refused Memory width collection t entry told = absurd told
 refused (Bad bad) width collection t entry told = absurd told
 
 -- reads of the two parts that it names
-pub parts_read : (r : Fronted) (before now : Reads) (n : ℕ) → r.strings.part ≡ Lex → r.places.part ≡ LexAt → (same_part r.strings.part r.places.part ≡ false → ReadLooks r.strings.part r.places.part before now n) → ReadLooks Lex LexAt before now n
-parts_read r before now n lex lex_at read = subst (λ p. ReadLooks Lex p before now n) lex_at (subst (λ p. ReadLooks p r.places.part before now n) lex (read (ap (λ p. same_part p r.places.part) lex ∙ ap (same_part Lex) lex_at)))
+pub parts_read : (r : Fronted) (before now : Reads) (n : ℕ) → r.strings.part ≡ Lex → r.places.part ≡ LexAt →
+    (same_part r.strings.part r.places.part ≡ false → ReadLooks r.strings.part r.places.part before now n) → ReadLooks Lex LexAt before now n
+parts_read r before now n lex lex_at read = subst (λ p. ReadLooks Lex p before now n) lex_at
+    (subst (λ p. ReadLooks p r.places.part before now n) lex (read (ap (λ p. same_part p r.places.part) lex ∙ ap (same_part Lex) lex_at)))
 
 -- ---- a writer
 
@@ -157,10 +167,14 @@ names_apart base name is same =
     let parts : LexAt ≡ Lex = same_part_of_name base LexAt Lex one in
     cc
 
-pub entry_is : (w : LexWriting) (files : Option Files) (ts : List Term) (term field : List ℕ) → TookTerms w files ts → length term ≤ 255 → (w.front.count == 0 || is_below w.front.last term) ≡ true → length field ≡ 16 → IsEntry w.front.width w.front.count w.front.last (record { string = term; field = field })
+pub entry_is : (w : LexWriting) (files : Option Files) (ts : List Term) (term field : List ℕ) → TookTerms w files ts → length term ≤ 255 →
+    (w.front.count == 0 || is_below w.front.last term) ≡ true → length field ≡ 16 →
+    IsEntry w.front.width w.front.count w.front.last (record { string = term; field = field })
 entry_is w files ts term field took short above long = record { short = short; field = long ∙ sym took.width; above = above }
 
-pub took_more : (w next : LexWriting) (f g : Option Files) (ts : List Term) (t : Term) → TookTerms w f ts → (Took w.front f (entries_of ts) → Took next.front g (entries_of ts ++ entry_of_term t ∷ [])) → next.base ≡ w.base → next.front.width ≡ w.front.width → next.front.strings.name ≡ w.front.strings.name → places_name next.front ≡ places_name w.front → TookTerms next g (ts ++ t ∷ [])
+pub took_more : (w next : LexWriting) (f g : Option Files) (ts : List Term) (t : Term) → TookTerms w f ts →
+    (Took w.front f (entries_of ts) → Took next.front g (entries_of ts ++ entry_of_term t ∷ [])) → next.base ≡ w.base → next.front.width ≡ w.front.width →
+    next.front.strings.name ≡ w.front.strings.name → places_name next.front ≡ places_name w.front → TookTerms next g (ts ++ t ∷ [])
 took_more w next f g ts t took more base width strings places = record {
   took = subst (Took next.front g) (sym (map-append entry_of_term ts (t ∷ []))) (more took.took);
   width = width ∙ took.width;
@@ -168,7 +182,8 @@ took_more w next f g ts t took more base width strings places = record {
   places = places ∙ took.places ∙ ap (λ b. Some (full_name b LexAt)) (sym base);
 }
 
-pub other_name : (w : LexWriting) (files : Option Files) (ts : List Term) (n : List ℕ) → TookTerms w files ts → n ≢ full_name w.base Lex → n ≢ full_name w.base LexAt → IsOther n w.front.strings.name w.front.places
+pub other_name : (w : LexWriting) (files : Option Files) (ts : List Term) (n : List ℕ) → TookTerms w files ts → n ≢ full_name w.base Lex →
+    n ≢ full_name w.base LexAt → IsOther n w.front.strings.name w.front.places
 other_name w files ts n took lex lex_at = by_places w.front.places took.places
   where
     by_places : (p : Option Writing) → option_map (λ (q : Writing). q.name) p ≡ Some (full_name w.base LexAt) → IsOther n w.front.strings.name p
@@ -181,14 +196,18 @@ finished_terms w f g ts took done = record {
   lex_at = by_places w.front.places took.places done.places;
 }
   where
-    by_places : (p : Option Writing) → option_map (λ (q : Writing). q.name) p ≡ Some (full_name w.base LexAt) → PlacesHold p g (entries_of ts) → bytes_at g (full_name w.base LexAt) ≡ whole_at (entries_of ts)
+    by_places : (p : Option Writing) → option_map (λ (q : Writing). q.name) p ≡ Some (full_name w.base LexAt) → PlacesHold p g (entries_of ts) →
+        bytes_at g (full_name w.base LexAt) ≡ whole_at (entries_of ts)
     by_places None is holds = absurd cc
     by_places (Some p) is holds = ap (bytes_at g) (sym (same_Some p.name (full_name w.base LexAt) is)) ∙ holds
 
 -- what a writer took stays where its parts stay
-pub terms_are_kept : (w : LexWriting) (f g : Option Files) (ts : List Term) → is_some g ≡ is_some f → file_at g (full_name w.base Lex) ≡ file_at f (full_name w.base Lex) → file_at g (full_name w.base LexAt) ≡ file_at f (full_name w.base LexAt) → TookTerms w f ts → TookTerms w g ts
+pub terms_are_kept : (w : LexWriting) (f g : Option Files) (ts : List Term) → is_some g ≡ is_some f →
+    file_at g (full_name w.base Lex) ≡ file_at f (full_name w.base Lex) → file_at g (full_name w.base LexAt) ≡ file_at f (full_name w.base LexAt) →
+    TookTerms w f ts → TookTerms w g ts
 terms_are_kept w f g ts told lex lex_at is = record {
-  took = took_stays w.front f g (entries_of ts) told (ap (λ n. file_at g n) is.strings ∙ lex ∙ ap (λ n. file_at f n) (sym is.strings)) (λ places there. by_name places (sym (ap (option_map (λ (p : Writing). p.name)) there) ∙ is.places)) is.took;
+  took = took_stays w.front f g (entries_of ts) told (ap (λ n. file_at g n) is.strings ∙ lex ∙ ap (λ n. file_at f n) (sym is.strings))
+      (λ places there. by_name places (sym (ap (option_map (λ (p : Writing). p.name)) there) ∙ is.places)) is.took;
   width = is.width;
   strings = is.strings;
   places = is.places;

@@ -42,7 +42,8 @@ IsLexiconReader base terms r = IsReader r (full_name base Lex) Lex (full_name ba
 
 -- what comparing the size of the places with so many terms answers
 abbrev pub AnswersTermCount : {T : Type 0} → List ℕ → ℕ → Option Files → Result T PartErr → Type 0
-AnswersTermCount base terms files result = AnswersPlaces LexAt (places_size terms) (bytes_at files (full_name base LexAt)) result
+AnswersTermCount base terms files result = AnswersPlaces LexAt (places_size terms)
+    (bytes_at files (full_name base LexAt)) result
 
 -- the parts of a reader are the lexicon of this collection
 pub record LexStands (r : Fronted) (files : Option Files) (collection : List ℕ) : Type 0 where
@@ -54,7 +55,8 @@ pub record LexStands (r : Fronted) (files : Option Files) (collection : List ℕ
 
 -- this holds between two moments of a store at which the two parts of a reader are the same
 abbrev pub WherePartsStay : Fronted → (Option Files → Option Files → Type 0) → Type 0
-WherePartsStay r holds = (files files_now : Option Files) → WhereBothStay r.strings.name r.places.name files files_now (holds files files_now)
+WherePartsStay r holds = (files files_now : Option Files) →
+    WhereBothStay r.strings.name r.places.name files files_now (holds files files_now)
 
 -- if the parts of a reader were the lexicon of this collection, those of another reader are it now
 abbrev pub StandsStill : Fronted → Fronted → List ℕ → Option Files → Option Files → Type 0

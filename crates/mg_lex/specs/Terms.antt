@@ -18,7 +18,8 @@ entries_of ts = map entry_of_term ts
 
 -- the terms of a collection, in the order of their bytes
 unfoldable pub terms_of : List ℕ → List Term
-terms_of collection = map (λ (t : ℕ × List ℕ). record { string = t.1; info = info_of collection t.0 t.1 }) (enumerate_from 0 (dictionary collection))
+terms_of collection = map (λ (t : ℕ × List ℕ). record { string = t.1; info = info_of collection t.0 t.1 })
+    (enumerate_from 0 (dictionary collection))
 
 -- each number fits in its bytes of a field
 pub record FitsField (info : TermInfo) : Type 0 where
@@ -28,4 +29,5 @@ pub record FitsField (info : TermInfo) : Type 0 where
 
 -- what stands of a term that has this number in a collection fits in its field
 abbrev pub TermFits : List ℕ → ℕ → List ℕ → Type 0
-TermFits collection number term = slice_get (dictionary collection) number ≡ Some term → FitsField (info_of collection number term)
+TermFits collection number term = slice_get (dictionary collection) number ≡ Some term →
+    FitsField (info_of collection number term)

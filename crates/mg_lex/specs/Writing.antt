@@ -42,11 +42,13 @@ told_term string info = record { string = string; info = info_of info }
 
 -- whatever terms it stood for, it stands for them and for this one
 abbrev pub TookTermMore : LexWriting → LexWriting → Option Files → Option Files → Term → Type 0
-TookTermMore old new files files_now term = (ts : List Term) → TookTerms old files ts → TookTerms new files_now (ts ++ term ∷ [])
+TookTermMore old new files files_now term = (ts : List Term) → TookTerms old files ts →
+    TookTerms new files_now (ts ++ term ∷ [])
 
 -- where the store tells its files, the parts are the lexicon of the terms that the writer stood for
 abbrev pub TookTermsStand : LexWriting → Option Files → Option Files → Type 0
-TookTermsStand w files files_now = (ts : List Term) → TookTerms w files ts → IsSome files → TermsStand w.base files_now ts
+TookTermsStand w files files_now = (ts : List Term) → TookTerms w files ts → IsSome files →
+    TermsStand w.base files_now ts
 
 -- the store tells the parts of a base: those of the terms of this collection, which are few enough
 pub record IsWritten (base : List ℕ) (files : Option Files) (collection : List ℕ) : Type 0 where
@@ -56,12 +58,15 @@ pub record IsWritten (base : List ℕ) (files : Option Files) (collection : List
 
 -- no file changes but the two parts of a lexicon
 abbrev pub OnlyLexiconChanges : List ℕ → Option Files → Option Files → Type 0
-OnlyLexiconChanges base files files_now = (n : List ℕ) → n ≢ full_name base Lex → n ≢ full_name base LexAt → file_at files_now n ≡ file_at files n
+OnlyLexiconChanges base files files_now = (n : List ℕ) → n ≢ full_name base Lex → n ≢ full_name base LexAt →
+    file_at files_now n ≡ file_at files n
 
 -- this holds where the store tells its files as before, and these two files are as before
 abbrev pub WhereBothStay : List ℕ → List ℕ → Option Files → Option Files → Type 0 → Type 0
-WhereBothStay one other files files_now holds = is_some files_now ≡ is_some files → file_at files_now one ≡ file_at files one → file_at files_now other ≡ file_at files other → holds
+WhereBothStay one other files files_now holds = is_some files_now ≡ is_some files →
+    file_at files_now one ≡ file_at files one → file_at files_now other ≡ file_at files other → holds
 
 -- this holds where the two parts of a lexicon are as before
 abbrev pub WhereLexiconStays : List ℕ → Option Files → Option Files → Type 0 → Type 0
-WhereLexiconStays base files files_now holds = WhereBothStay (full_name base Lex) (full_name base LexAt) files files_now holds
+WhereLexiconStays base files files_now holds = WhereBothStay (full_name base Lex) (full_name base LexAt) files files_now
+    holds

@@ -48,10 +48,12 @@ impl<'a, S: Store> Lex<'a, S> {
     pub fn load(alloc: Global, store: &mut S, base: &'a str, head: &Head) -> Result<Self, PartErr>
         ensures fits { IfOk result (λ lex. FrontFits lex (S.files store.new)) }
         ensures lex { IfOk result (λ lex. IsLexiconReader base.entry.now head.now.terms lex) }
-        ensures answer { IsSome (S.files store.old) → AnswersTermCount base.entry.now head.now.terms (S.files store.old) result }
+        ensures answer { IsSome (S.files store.old) →
+            AnswersTermCount base.entry.now head.now.terms (S.files store.old) result }
         ensures stands { WhereLexicon base.entry.now (S.files store.old) head.now.terms
             (λ collection. IfOk result (λ r. LexStands r (S.files store.new) collection)) }
-        ensures never_bad { WhereLexicon base.entry.now (S.files store.old) head.now.terms (λ collection. IfErr result (λ refusal. IsNotBad refusal)) }
+        ensures never_bad { WhereLexicon base.entry.now (S.files store.old) head.now.terms
+            (λ collection. IfErr result (λ refusal. IsNotBad refusal)) }
         ensures files { S.files store.new ≡ S.files store.old }
         ensures reads { SameReads (S.reads store.old) (S.reads store.new) }
         ensures cause { HasPartCause (S.faults store.old) (S.faults store.new) result }
@@ -84,10 +86,15 @@ impl<'a, S: Store> Lex<'a, S> {
         requires fits { FrontFits self.old (S.files store.old) }
         ensures fits { FrontFits self.new (S.files store.new) }
         ensures same { SameParts self.old self.new }
-        ensures looked { Between S.files S.reads S.faults store.old store.new (LookedAt part.Lex part.LexAt) }
-        ensures found { (collection : List ℕ) → LexStands self.old (S.files store.old) collection → AnswersTerm result collection term.now }
-        ensures info { ForEachWithinLimits (λ collection. LexStands self.old (S.files store.old) collection → AnswersInfo result collection term.now) }
-        ensures reads { ReadLooks part.Lex part.LexAt (S.reads store.old) (S.reads store.new) (looks self.old.count) }
+        ensures looked { Between S.files S.reads S.faults store.old store.new
+            (LookedAt part.Lex part.LexAt) }
+        ensures found { (collection : List ℕ) → LexStands self.old (S.files store.old) collection →
+            AnswersTerm result collection term.now }
+        ensures info { ForEachWithinLimits (λ collection.
+            LexStands self.old (S.files store.old) collection →
+            AnswersInfo result collection term.now) }
+        ensures reads { ReadLooks part.Lex part.LexAt (S.reads store.old) (S.reads store.new)
+            (looks self.old.count) }
         ensures memory { result ≢ Err PartErr.Memory }
         ensures cause { HasPartCause (S.faults store.old) (S.faults store.new) result }
     {

@@ -40,7 +40,8 @@ impl<'a> LexWriter<'a> {
     /// `Failed` where the store failed; `Memory` where the store or a page that is held back wants it.
     pub fn start<S: Store>(alloc: Global, store: &mut S, base: &'a str) -> Result<Self, PutErr>
         ensures took { IfOk result (λ writer. TookTerms writer (S.files store.new) []) }
-        ensures empty { OnOk result (S.files store.new ≡ with_empty_lexicon (S.files store.old) base.entry.now) }
+        ensures empty { OnOk result (S.files store.new ≡
+            with_empty_lexicon (S.files store.old) base.entry.now) }
         ensures base { IfOk result (λ writer. writer.base ≡ base.entry.now) }
         ensures others { OnlyLexiconChanges base.entry.now (S.files store.old) (S.files store.new) }
         ensures told { is_some (S.files store.new) ≡ is_some (S.files store.old) }
@@ -74,8 +75,10 @@ impl<'a> LexWriter<'a> {
         requires took { (ts : List Term) × TookTerms self.old (S.files store.old) ts }
         requires few { self.old.front.count < 2 ^ 22 }
         requires short { length term.now ≤ 255 }
-        requires above { (self.old.front.count == 0 || is_below self.old.front.last term.now) ≡ true }
-        ensures took { OnOk result (TookTermMore self.old self.new (S.files store.old) (S.files store.new) (told_term term.now info.now)) }
+        requires above { (self.old.front.count == 0 || is_below self.old.front.last term.now)
+            ≡ true }
+        ensures took { OnOk result (TookTermMore self.old self.new (S.files store.old)
+            (S.files store.new) (told_term term.now info.now)) }
         ensures count { OnOk result (self.new.front.count ≡ self.old.front.count + 1) }
         ensures last { OnOk result (self.new.front.last ≡ term.now) }
         ensures base { self.new.base ≡ self.old.base }
@@ -95,7 +98,8 @@ impl<'a> LexWriter<'a> {
     /// The store's: `Failed` where it failed, `Memory` where it wants memory.
     pub fn finish<S: Store>(&mut self, store: &mut S) -> Result<(), PutErr>
         requires took { (ts : List Term) × TookTerms self.old (S.files store.old) ts }
-        ensures finished { OnOk result (TookTermsStand self.old (S.files store.old) (S.files store.new)) }
+        ensures finished { OnOk result
+            (TookTermsStand self.old (S.files store.old) (S.files store.new)) }
         ensures others { OnlyLexiconChanges self.old.base (S.files store.old) (S.files store.new) }
         ensures told { is_some (S.files store.new) ≡ is_some (S.files store.old) }
         ensures reads { SameReads (S.reads store.old) (S.reads store.new) }

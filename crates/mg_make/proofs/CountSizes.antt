@@ -47,7 +47,8 @@ under_none (x ∷ xs) = omega (arith, sum_by-cons (λ y. cond (is_under 0 y) 1 0
     none : (term : ℕ) → cond (nat_lt term 0) 1 0 ≡ zero
     none term = grind (arith, nat_tests)
 
-sum_first : (docs : List ℕ) (fed : List (ℕ × ℕ)) (n : ℕ) → n ≤ length docs → ((k : ℕ) → k < length docs → get_or docs k 0 ≡ docs_with k fed) → sum (take n docs) ≡ count_by (is_under n) (term_postings fed)
+sum_first : (docs : List ℕ) (fed : List (ℕ × ℕ)) (n : ℕ) → n ≤ length docs → ((k : ℕ) → k < length docs → get_or docs k 0 ≡ docs_with k fed) →
+    sum (take n docs) ≡ count_by (is_under n) (term_postings fed)
 sum_first docs fed zero le each = sym (under_none (term_postings fed))
 sum_first docs fed (suc n) le each =
     omega (

@@ -71,9 +71,12 @@ stop-counted laws c met h =
 
 -- ---- a piece
 
-entries-more : (laws : AddUp) (kind : Stream) (old new : List (List ℕ × ℕ)) (met : List Mark) (bytes : List ℕ) → pieces_among kind (piece kind bytes ∷ []) ≡ bytes ∷ [] → new ≡ counted bytes old → old ≡ vocabulary (pieces_among kind met) → new ≡ vocabulary (pieces_among kind (met ++ piece kind bytes ∷ []))
+entries-more : (laws : AddUp) (kind : Stream) (old new : List (List ℕ × ℕ)) (met : List Mark) (bytes : List ℕ) →
+    pieces_among kind (piece kind bytes ∷ []) ≡ bytes ∷ [] → new ≡ counted bytes old → old ≡ vocabulary (pieces_among kind met) →
+    new ≡ vocabulary (pieces_among kind (met ++ piece kind bytes ∷ []))
 entries-more laws kind old new met bytes one is h =
-    is ∙ ap (counted bytes) h ∙ sym (vocabulary-push (pieces_among kind met) bytes) ∙ ap vocabulary (sym (laws.pieces kind met (piece kind bytes ∷ []) ∙ ap (λ (p : List (List ℕ)). pieces_among kind met ++ p) one))
+    is ∙ ap (counted bytes) h ∙ sym (vocabulary-push (pieces_among kind met) bytes) ∙ ap vocabulary
+    (sym (laws.pieces kind met (piece kind bytes ∷ []) ∙ ap (λ (p : List (List ℕ)). pieces_among kind met ++ p) one))
 
 few-entries : (new : List (List ℕ × ℕ)) (pieces : List (List ℕ)) → new ≡ vocabulary pieces → length new ≤ 2 ^ 22 → length (sorted_distinct pieces) ≤ version_2.pieces
 few-entries new pieces is few = omega (arith, few, ap length is, length-of_vocabulary pieces)
@@ -134,13 +137,16 @@ one-new bytes (e ∷ entries) none =
     let more = one-new bytes entries parts.1 in
     ap (λ b. length (cond b ((e.0, e.1 + 1) ∷ entries) (e ∷ counted bytes entries))) parts.0 ∙ omega (arith, more)
 
-past-entries : (laws : AddUp) (kind : Stream) (entries : List (List ℕ × ℕ)) (met : List Mark) (bytes : List ℕ) → pieces_among kind (piece kind bytes ∷ []) ≡ bytes ∷ [] → has_piece entries bytes ≡ false → length entries ≡ 2 ^ 22 → entries ≡ vocabulary (pieces_among kind met)
+past-entries : (laws : AddUp) (kind : Stream) (entries : List (List ℕ × ℕ)) (met : List Mark) (bytes : List ℕ) →
+    pieces_among kind (piece kind bytes ∷ []) ≡ bytes ∷ [] → has_piece entries bytes ≡ false → length entries ≡ 2 ^ 22 →
+    entries ≡ vocabulary (pieces_among kind met)
     → length (sorted_distinct (pieces_among kind (met ++ piece kind bytes ∷ []))) ≡ 2 ^ 22 + 1
 past-entries laws kind entries met bytes one new full h =
     let all = entries-more laws kind entries (counted bytes entries) met bytes one refl h in
     omega (arith, full, one-new bytes entries new, ap length all, length-of_vocabulary (pieces_among kind (met ++ piece kind bytes ∷ [])))
 
-pub word-passes : (laws : AddUp) (c : Counting) (met : List Mark) (bytes : List ℕ) → has_piece c.words bytes ≡ false → length c.words ≡ 2 ^ 22 → IsCounted c met → PassesAfter met (piece Words bytes ∷ []) (piece Words bytes)
+pub word-passes : (laws : AddUp) (c : Counting) (met : List Mark) (bytes : List ℕ) → has_piece c.words bytes ≡ false → length c.words ≡ 2 ^ 22 →
+    IsCounted c met → PassesAfter met (piece Words bytes ∷ []) (piece Words bytes)
 word-passes laws c met bytes new full h = record {
   before = [];
   after = [];
@@ -149,7 +155,8 @@ word-passes laws c met bytes new full h = record {
   beyond = λ w. omega (arith, past-entries laws Words c.words met bytes refl new full h.words, w.words);
 }
 
-pub other-passes : (laws : AddUp) (c : Counting) (met : List Mark) (bytes : List ℕ) → has_piece c.others bytes ≡ false → length c.others ≡ 2 ^ 22 → IsCounted c met → PassesAfter met (piece Others bytes ∷ []) (piece Others bytes)
+pub other-passes : (laws : AddUp) (c : Counting) (met : List Mark) (bytes : List ℕ) → has_piece c.others bytes ≡ false → length c.others ≡ 2 ^ 22 →
+    IsCounted c met → PassesAfter met (piece Others bytes ∷ []) (piece Others bytes)
 other-passes laws c met bytes new full h = record {
   before = [];
   after = [];
@@ -176,9 +183,17 @@ few-front laws a b h = record {
 pub few-now : (c : Counting) (met : List Mark) → IsCounted c met → AreFew met → c.pieces < 2 ^ 33
 few-now c met h few = omega (arith, h.pieces, few-pieces 0 met, few.words, few.others)
 
-one-piece : (laws : AddUp) (kind : Stream) (entries : List (List ℕ × ℕ)) (met : List Mark) (bytes : List ℕ) → pieces_among kind (piece kind bytes ∷ []) ≡ bytes ∷ [] → entries ≡ vocabulary (pieces_among kind met) → length (pieces_among kind (met ++ piece kind bytes ∷ [])) ≡ total entries + 1
+one-piece : (laws : AddUp) (kind : Stream) (entries : List (List ℕ × ℕ)) (met : List Mark) (bytes : List ℕ) →
+    pieces_among kind (piece kind bytes ∷ []) ≡ bytes ∷ [] → entries ≡ vocabulary (pieces_among kind met) →
+    length (pieces_among kind (met ++ piece kind bytes ∷ [])) ≡ total entries + 1
 one-piece laws kind entries met bytes one h =
-    omega (arith, ap length (laws.pieces kind met (piece kind bytes ∷ []) ∙ ap (λ (p : List (List ℕ)). pieces_among kind met ++ p) one), length-append (pieces_among kind met) (bytes ∷ []), ap total h, total-of_vocabulary (pieces_among kind met))
+    omega (
+      arith,
+      ap length (laws.pieces kind met (piece kind bytes ∷ []) ∙ ap (λ (p : List (List ℕ)). pieces_among kind met ++ p) one),
+      length-append (pieces_among kind met) (bytes ∷ []),
+      ap total h,
+      total-of_vocabulary (pieces_among kind met),
+    )
 
 pub word-fits : (laws : AddUp) (c : Counting) (met : List Mark) (bytes : List ℕ) → IsCounted c met → AreFew (met ++ piece Words bytes ∷ []) → total c.words + 1 < 2 ^ 32
 word-fits laws c met bytes h few = omega (arith, few.words, one-piece laws Words c.words met bytes refl h.words)
@@ -241,8 +256,10 @@ word-stops laws c met bytes (TooManyPieces stream) counted h = (bytes, subst (λ
 word-stops laws c met bytes Memory counted h = tt
 word-stops laws c met bytes fault counted h = absurd h
 
-pub other-stops : (laws : AddUp) (c : Counting) (met : List Mark) (bytes : List ℕ) (fault : Fault) → IsCounted c met → PieceStops Others c.others bytes fault → StopsAt met (piece Others bytes ∷ []) fault
-other-stops laws c met bytes (TooManyPieces stream) counted h = (bytes, subst (λ k. PassesAfter met (piece Others bytes ∷ []) (piece k bytes)) (sym h.0) (other-passes laws c met bytes h.1 h.2 counted))
+pub other-stops : (laws : AddUp) (c : Counting) (met : List Mark) (bytes : List ℕ) (fault : Fault) → IsCounted c met → PieceStops Others c.others bytes fault →
+    StopsAt met (piece Others bytes ∷ []) fault
+other-stops laws c met bytes (TooManyPieces stream) counted h =
+    (bytes, subst (λ k. PassesAfter met (piece Others bytes ∷ []) (piece k bytes)) (sym h.0) (other-passes laws c met bytes h.1 h.2 counted))
 other-stops laws c met bytes Memory counted h = tt
 other-stops laws c met bytes fault counted h = absurd h
 

@@ -92,7 +92,8 @@ last-there term acc (o ∷ fed) = by (o.0 == term) refl (λ n. last-there term n
     one : (b c : Bool) → b ≡ true → c ≡ true → 1 ≤ cond b (cond c 1 0) 0
     one b c p q = subst (λ x. 1 ≤ cond x (cond c 1 0) 0) (sym p) (subst (λ x. 1 ≤ cond x 1 0) (sym q) (omega arith))
 
-    by : (b : Bool) → (o.0 == term) ≡ b → ((n : ℕ) → (last_with term n fed ≡ n) ⊎ (1 ≤ times term (last_with term n fed) (map once fed))) → (last_with term (cond b o.1 acc) fed ≡ acc) ⊎ (1 ≤ times term (last_with term (cond b o.1 acc) fed) (map once (o ∷ fed)))
+    by : (b : Bool) → (o.0 == term) ≡ b → ((n : ℕ) → (last_with term n fed ≡ n) ⊎ (1 ≤ times term (last_with term n fed) (map once fed))) →
+        (last_with term (cond b o.1 acc) fed ≡ acc) ⊎ (1 ≤ times term (last_with term (cond b o.1 acc) fed) (map once (o ∷ fed)))
     by true is rest = elim (rest o.1) [
       | inl e ↦ inr (omega (arith, one (o.0 == term) (o.1 == last_with term o.1 fed) is (eq-eqb o.1 (last_with term o.1 fed) (sym e))))
       | inr more ↦ inr (omega (arith, more))
@@ -147,7 +148,8 @@ order-more last_more c terms term doc fed h low t d some = by (term == t) (doc =
         omega (arith, last ∙ ap (λ x. cond x doc (last_with t 0 fed)) p, h.order t d there)
 
 -- in a document that the term was in
-pub doc-known : (last_more : LastMore) (c : DocCounting) (terms term doc : ℕ) (fed : List (ℕ × ℕ)) → 1 ≤ doc → AreDocCounts c terms fed → last_with term 0 fed ≡ doc → AreDocCounts c terms (fed ++ (term, doc) ∷ [])
+pub doc-known : (last_more : LastMore) (c : DocCounting) (terms term doc : ℕ) (fed : List (ℕ × ℕ)) → 1 ≤ doc → AreDocCounts c terms fed →
+    last_with term 0 fed ≡ doc → AreDocCounts c terms (fed ++ (term, doc) ∷ [])
 doc-known last_more c terms term doc fed some h is = record {
   doc_size = h.doc_size;
   last_size = h.last_size;
@@ -186,10 +188,13 @@ doc-fresh last_more c terms term doc fed within h later = record {
     docs : (t : ℕ) → t < terms → (b : Bool) → (term == t) ≡ b → get_or (set c.docs term (get_or c.docs term 0 + 1)) t 0 ≡ docs_with t (fed ++ (term, doc) ∷ [])
     docs t lt true e =
         let same : term ≡ t = eqb-true term t e in
-        let more : docs_with t (fed ++ (term, doc) ∷ []) ≡ docs_with t fed + 1 = docs-more t fed (term, doc) ∙ ap (λ b. docs_with t fed + fresh b (nat_lt 0 (times term doc (map once fed)))) e ∙ ap (λ k. docs_with t fed + cond k 0 1) (unknown c terms term doc fed h later) in
+        let more : docs_with t (fed ++ (term, doc) ∷ []) ≡ docs_with t fed + 1 = docs-more t fed (term, doc)
+        ∙ ap (λ b. docs_with t fed + fresh b (nat_lt 0 (times term doc (map once fed)))) e
+        ∙ ap (λ k. docs_with t fed + cond k 0 1) (unknown c terms term doc fed h later) in
         subst (λ x. get_or (set c.docs term (get_or c.docs term 0 + 1)) x 0 ≡ docs_with x fed + 1) same (docs-here ∙ ap (λ n. n + 1) (h.docs term within)) ∙ sym more
     docs t lt false e =
-        let more : docs_with t (fed ++ (term, doc) ∷ []) ≡ docs_with t fed = docs-more t fed (term, doc) ∙ ap (λ b. docs_with t fed + fresh b (nat_lt 0 (times term doc (map once fed)))) e ∙ omega arith in
+        let more : docs_with t (fed ++ (term, doc) ∷ []) ≡ docs_with t fed = docs-more t fed (term, doc)
+        ∙ ap (λ b. docs_with t fed + fresh b (nat_lt 0 (times term doc (map once fed)))) e ∙ omega arith in
         get_or-set_other c.docs term t (get_or c.docs term 0 + 1) 0 (other-term term t e) ∙ h.docs t lt ∙ sym more
 
     last : (t : ℕ) → t < terms → (b : Bool) → (term == t) ≡ b → get_or (set c.last term doc) t 0 ≡ last_with t 0 (fed ++ (term, doc) ∷ [])

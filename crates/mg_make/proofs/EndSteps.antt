@@ -25,7 +25,8 @@ last_front fed met next whole few = record { after = []; whole = whole ∙ sym (
 pub last_marks : (s : Inversion) (f : Option Files) (fed : List ℕ) (met next : List Mark) → HasWritten s f met → marks fed ≡ met ++ next → length fed < 2 ^ 32 → IsNext s f next
 last_marks s f fed met next written whole few = record { met = met; collection = fed; written = written; front = last_front fed met next whole few }
 
-pub all_written : (old new : Inversion) (f g : Option Files) (fed : List ℕ) (met next : List Mark) → WroteMarks old new f g next → HasWritten old f met → marks fed ≡ met ++ next → HasWritten new g (marks fed)
+pub all_written : (old new : Inversion) (f g : Option Files) (fed : List ℕ) (met next : List Mark) → WroteMarks old new f g next → HasWritten old f met →
+    marks fed ≡ met ++ next → HasWritten new g (marks fed)
 all_written old new f g fed met next wrote written whole = subst (λ all. HasWritten new g all) (sym whole) (wrote.behind met written)
 
 pub is_whole : (s : Inversion) (f : Option Files) (fed : List ℕ) → HasWritten s f (marks fed) → IsWhole s f
@@ -68,7 +69,8 @@ stops_second rose told same cause.InputTooLong stop = absurd stop
 stops_second rose told same cause.SameName stop = absurd stop
 stops_second rose told same (cause.TooManyRotations count) stop = absurd stop
 
-pub stops_before : (s : Inversion) (f : Option Files) (fed : List ℕ) (met next : List Mark) (rose : Type 0) (fault : Fault) → HasWritten s f met → marks fed ≡ met ++ next → length fed < 2 ^ 32 → StopsBefore s f next rose fault → ListStops rose (IsSome f × IsPlanOf s.plan fed) fault
+pub stops_before : (s : Inversion) (f : Option Files) (fed : List ℕ) (met next : List Mark) (rose : Type 0) (fault : Fault) → HasWritten s f met →
+    marks fed ≡ met ++ next → length fed < 2 ^ 32 → StopsBefore s f next rose fault → ListStops rose (IsSome f × IsPlanOf s.plan fed) fault
 stops_before s f fed met next rose fault written whole few stops = stops_second rose (IsSome f) (IsPlanOf s.plan fed) fault (stops.cause met fed written (last_front fed met next whole few))
 
 stops_finish : (rose now same told less before : Type 0) (fault : Fault) → (rose → now) → (less → same) → (before → told) → FinishStops rose same told fault → ListStops now (before × less) fault
@@ -93,7 +95,8 @@ pub rose_behind : (a b c : ℕ) → a ≤ b → Rose b c → Rose a c
 rose_behind a b c up rose = omega (arith, up, rose)
 
 -- why the end is refused, by what was put
-pub end_refused : {T : Type 0} (r : Result T Fault) (scanning : Scanning) (old new : Inversion) (f g : Option Files) (next : List Mark) (rose now : Type 0) → (rose → now) → SamePass old new → is_some g ≡ is_some f → WroteMarks old new f g next
+pub end_refused : {T : Type 0} (r : Result T Fault) (scanning : Scanning) (old new : Inversion) (f g : Option Files) (next : List Mark) (rose now : Type 0) →
+    (rose → now) → SamePass old new → is_some g ≡ is_some f → WroteMarks old new f g next
     → ((fed : List ℕ) (met : List Mark) → HasMet scanning fed met → marks fed ≡ met ++ next)
     → IfErr r (λ fault. (collection : List ℕ) → HasWritten new g (marks collection) → FinishStops rose (IsPlanOf new.plan collection) (IsSome g) fault)
     → IfErr r (λ fault. (fed : List ℕ) (met : List Mark) → HasMet scanning fed met → HasWritten old f met → length fed < 2 ^ 32 → ListStops now (IsSome f × IsPlanOf old.plan fed) fault)

@@ -53,7 +53,9 @@ pub record Finished (s : Inversion) (f g h : Option Files) (size : ℕ) (merge :
   pub wrote : WroteParts OfRuns index.runs.base g h
   pub merged : (fed : List (ℕ × ℕ)) → IsFed index.runs g fed → IsMergeOf index.runs g h merge fed
 
-ends_by : (s : Inversion) (met : List Mark) (f g h : Option Files) (size : ℕ) (merge : Merging) → s.text.is_open ≡ false → length s.plan.pairs ≤ s.doc → RunsStay → Finished s f g h size merge s.index → HasWritten s f met → EndsWith s met f h (record { text_bytes = size; merge = merge; counts = s.index.counts; occurrences = s.index.occurrences })
+ends_by : (s : Inversion) (met : List Mark) (f g h : Option Files) (size : ℕ) (merge : Merging) → s.text.is_open ≡ false → length s.plan.pairs ≤ s.doc →
+    RunsStay → Finished s f g h size merge s.index → HasWritten s f met →
+    EndsWith s met f h (record { text_bytes = size; merge = merge; counts = s.index.counts; occurrences = s.index.occurrences })
 ends_by s met f g h size merge closed all stay done is =
     let on : IsOnText s.text f (coded_by s.plan met) [] = none_open s f met closed is in
     let fed : List (ℕ × ℕ) = occurring_by s.plan met in
@@ -61,7 +63,8 @@ ends_by s met f g h size merge closed all stay done is =
     let it = done.merged fed taken.runs in
     record {
       documents = omega (arith, is.doc, is.within);
-      text = λ t. documents_kept s.base s.index.runs.base g h (coded_by s.plan met) is.runs_base done.wrote (subst (λ (b : List ℕ). DocumentsStand b g (coded_by s.plan met)) is.text_base (done.stands (coded_by s.plan met) on t));
+      text = λ t. documents_kept s.base s.index.runs.base g h (coded_by s.plan met) is.runs_base done.wrote
+          (subst (λ (b : List ℕ). DocumentsStand b g (coded_by s.plan met)) is.text_base (done.stands (coded_by s.plan met) on t));
       size = done.answer (coded_by s.plan met) on;
       run = λ t. ap (λ b. bytes_at h (full_name b Run)) (sym is.runs_base) ∙ it.run (done.told ∙ t);
       merge = it.left;
@@ -72,7 +75,8 @@ ends_by s met f g h size merge closed all stay done is =
       occurrences = is.index.occurrences;
     }
 
-pub ends_with : (s : Inversion) (met : List Mark) (f g h : Option Files) (size : ℕ) (merge : Merging) (index : Indexing) → index ≡ s.index → s.text.is_open ≡ false → length s.plan.pairs ≤ s.doc → RunsStay → Finished s f g h size merge index → HasWritten s f met
+pub ends_with : (s : Inversion) (met : List Mark) (f g h : Option Files) (size : ℕ) (merge : Merging) (index : Indexing) → index ≡ s.index →
+    s.text.is_open ≡ false → length s.plan.pairs ≤ s.doc → RunsStay → Finished s f g h size merge index → HasWritten s f met
     → EndsWith s met f h (record { text_bytes = size; merge = merge; counts = index.counts; occurrences = index.occurrences })
 ends_with s met f g h size merge index same closed all stay done is =
     subst (λ (i : Indexing). Finished s f g h size merge i → EndsWith s met f h (record { text_bytes = size; merge = merge; counts = i.counts; occurrences = i.occurrences })) (sym same)

@@ -53,7 +53,8 @@ runs_wrote base own f g same wrote = record {
 pub run_alone : (base : List ℕ) (f g : Option Files) → is_some g ≡ is_some f → ((n : List ℕ) → n ≢ full_name base Run → file_at g n ≡ file_at f n) → WroteParts OfRuns base f g
 run_alone base f g told others = record { told = told; others = λ name away. others name (away Run tt) }
 
-pub runs_alone : (base : List ℕ) (f g : Option Files) → is_some g ≡ is_some f → ((n : List ℕ) → n ≢ full_name base Run → n ≢ full_name base MergeA → n ≢ full_name base MergeB → file_at g n ≡ file_at f n) → WroteParts OfRuns base f g
+pub runs_alone : (base : List ℕ) (f g : Option Files) → is_some g ≡ is_some f →
+    ((n : List ℕ) → n ≢ full_name base Run → n ≢ full_name base MergeA → n ≢ full_name base MergeB → file_at g n ≡ file_at f n) → WroteParts OfRuns base f g
 runs_alone base f g told others = record { told = told; others = λ name away. others name (away Run tt) (away MergeA tt) (away MergeB tt) }
 
 -- ---- what stays
@@ -84,7 +85,8 @@ text_kept w own f g docs bits same wrote is =
 
 -- runs stay where their part does
 abbrev pub RunsStay : Type 0
-RunsStay = (runs : Inverting) (f g : Option Files) (fed : List (ℕ × ℕ)) → is_some g ≡ is_some f → file_at g (full_name runs.base Run) ≡ file_at f (full_name runs.base Run) → IsFed runs f fed → IsFed runs g fed
+RunsStay = (runs : Inverting) (f g : Option Files) (fed : List (ℕ × ℕ)) → is_some g ≡ is_some f →
+    file_at g (full_name runs.base Run) ≡ file_at f (full_name runs.base Run) → IsFed runs f fed → IsFed runs g fed
 
 pub run_file_kept : (base own : List ℕ) (f g : Option Files) → own ≡ base → OthersStay own f g → file_at g (full_name base Run) ≡ file_at f (full_name base Run)
 run_file_kept base own f g same others =
@@ -92,6 +94,7 @@ run_file_kept base own f g same others =
     here (full_name base Run) (apart base Run Text (λ n. omega arith)) (apart base Run Places (λ n. omega arith))
 
 -- the index, where the text is written
-pub index_kept : RunsStay → (index : Indexing) (own : List ℕ) (f g : Option Files) (terms : ℕ) (fed : List (ℕ × ℕ)) → own ≡ index.runs.base → is_some g ≡ is_some f → OthersStay own f g → HasTaken index f terms fed → HasTaken index g terms fed
+pub index_kept : RunsStay → (index : Indexing) (own : List ℕ) (f g : Option Files) (terms : ℕ) (fed : List (ℕ × ℕ)) → own ≡ index.runs.base →
+    is_some g ≡ is_some f → OthersStay own f g → HasTaken index f terms fed → HasTaken index g terms fed
 index_kept stay index own f g terms fed same told others is =
     record { runs = stay index.runs f g fed told (run_file_kept index.runs.base own f g same others) is.runs; counts = is.counts; occurrences = is.occurrences }

@@ -34,11 +34,14 @@ none_last : (lists : Listing) (f : Option Files) → Took lists f [] [] → list
 unfolding last_doc
 none_last lists f took = took.last
 
-begun_merging : RunsStay → (merge : Merging) (f g : Option Files) (base : List ℕ) (left : List TermPosting) → merge.base ≡ base → WroteParts OfLists base f g → IsMerging merge f left → IsMerging merge g left
+begun_merging : RunsStay → (merge : Merging) (f g : Option Files) (base : List ℕ) (left : List TermPosting) → merge.base ≡ base → WroteParts OfLists base f g →
+    IsMerging merge f left → IsMerging merge g left
 begun_merging stay merge f g base left base_is wrote merging = merging_stays_all stay merge f g left (subst (λ b. WroteParts OfLists b f g) (sym base_is) wrote) merging
 
-pub can_index_begun : RunsStay → (terms : List (List ℕ)) (docs : List ℕ) (merge : Merging) (lists : Listing) (lex : LexWriting) (sums : List ℕ) (f g : Option Files) (base : List ℕ) (left : List TermPosting) → IsMerging merge f left → merge.base ≡ base →
-    WroteParts OfLists base f g → Took lists g [] [] → TookTerms lex g [] → lists.post.name ≡ full_name base Post → lists.skip.name ≡ full_name base Skip → lex.base ≡ base → length sums ≡ lists.all → lists.total ≡ 0 →
+pub can_index_begun : RunsStay → (terms : List (List ℕ)) (docs : List ℕ) (merge : Merging) (lists : Listing) (lex : LexWriting) (sums : List ℕ)
+    (f g : Option Files) (base : List ℕ) (left : List TermPosting) → IsMerging merge f left → merge.base ≡ base →
+    WroteParts OfLists base f g → Took lists g [] [] → TookTerms lex g [] → lists.post.name ≡ full_name base Post → lists.skip.name ≡ full_name base Skip →
+    lex.base ≡ base → length sums ≡ lists.all → lists.total ≡ 0 →
     CanIndex terms docs 0 merge lists lex sums g
 can_index_begun stay terms docs merge lists lex sums f g base left merging base_is wrote took took_terms post skip lex_base each none = record {
   list = record {
@@ -69,7 +72,8 @@ all_rise collection (t ∷ ts) few = (list_rises collection t few, all_rise coll
 abbrev pub SquaresMost : Type 0
 SquaresMost = (collection : List ℕ) (doc : ℕ) → length collection < 2 ^ 32 → squares doc (inverted collection) ≤ 2 ^ 61
 
-pub indexed_begun : RunsStay → SquaresMost → (terms : List (List ℕ)) (docs : List ℕ) (collection : List ℕ) (merge : Merging) (lists : Listing) (lex : LexWriting) (sums : List ℕ) (f g : Option Files) (base : List ℕ) (all : ℕ) →
+pub indexed_begun : RunsStay → SquaresMost → (terms : List (List ℕ)) (docs : List ℕ) (collection : List ℕ) (merge : Merging) (lists : Listing)
+    (lex : LexWriting) (sums : List ℕ) (f g : Option Files) (base : List ℕ) (all : ℕ) →
     lists.all ≡ all → merge.base ≡ base → WroteParts OfLists base f g → Took lists g [] [] → TookTerms lex g [] → sums ≡ replicate (length sums) 0 → HasLists terms docs all collection merge f →
     HasIndexed terms docs collection 0 merge lists lex sums g
 indexed_begun stay most terms docs collection merge lists lex sums f g base all all_is base_is wrote took took_terms zeros has = record {
@@ -117,7 +121,8 @@ ended terms docs collection n merge lists lex summed f n_is has = record {
     whole = take_all n (inverted collection) (omega (arith, long))
 
 -- the parts that both writers leave
-pub lists_are_there : ((collection : List ℕ) → entries_of (terms_of collection) ≡ lexicon collection) → (base collection : List ℕ) (w : Listing) (f g : Option Files) → w.post.name ≡ full_name base Post → w.skip.name ≡ full_name base Skip →
+pub lists_are_there : ((collection : List ℕ) → entries_of (terms_of collection) ≡ lexicon collection) →
+    (base collection : List ℕ) (w : Listing) (f g : Option Files) → w.post.name ≡ full_name base Post → w.skip.name ≡ full_name base Skip →
     w.all ≡ length (documents collection) → TermsStand base f (terms_of collection) → WroteParts OfPostings base f g → InBytes w g (inverted collection) → ListsStand g base collection
 lists_are_there entries base collection w f g post skip all terms wrote bytes = record {
   post = ap (λ n. bytes_at g n) (sym post) ∙ bytes.post ∙ ap (λ m. as_bytes (lists_bits m (inverted collection))) all;

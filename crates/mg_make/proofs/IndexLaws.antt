@@ -95,7 +95,8 @@ pub zeros_own : (sums : List ℕ) (n : ℕ) → sums ≡ replicate n 0 → sums 
 zeros_own sums n is = is ∙ ap (λ m. replicate m 0) (sym (zeros sums n is))
 
 pub lists_of_inverted :
-    ((collection : List ℕ) → term_postings (occurrences collection) ≡ by_terms 0 (inverted collection)) → ((collection : List ℕ) (term : ℕ) → docs_with term (occurrences collection) ≡ length (get_or (inverted collection) term [])) →
+    ((collection : List ℕ) → term_postings (occurrences collection) ≡ by_terms 0 (inverted collection)) →
+    ((collection : List ℕ) (term : ℕ) → docs_with term (occurrences collection) ≡ length (get_or (inverted collection) term [])) →
     (p : Plan) (counts : DocCounting) (collection : List ℕ) (merge : Merging) (files : Option Files) (all : ℕ) → all ≡ length p.pairs → IsInverted p counts collection merge files →
     HasLists p.terms.terms counts.docs all collection merge files
 lists_of_inverted in_lists counted p counts collection merge files all all_is is = record {
@@ -125,7 +126,8 @@ size_is whole size collection = sym (size (post_bits collection) (whole (length 
 
 -- ---- weights and the working parts
 
-pub weights_stay : (base : List ℕ) (f g : Option Files) → ((n : List ℕ) → n ≢ full_name base MergeA → n ≢ full_name base MergeB → file_at g n ≡ file_at f n) → bytes_at g (full_name base Weights) ≡ bytes_at f (full_name base Weights)
+pub weights_stay : (base : List ℕ) (f g : Option Files) → ((n : List ℕ) → n ≢ full_name base MergeA → n ≢ full_name base MergeB → file_at g n ≡ file_at f n) →
+    bytes_at g (full_name base Weights) ≡ bytes_at f (full_name base Weights)
 weights_stay base f g others =
     bytes_stay f g (full_name base Weights) (others (full_name base Weights) (λ e. not_first (same_part_of_name base Weights MergeA e)) (λ e. not_second (same_part_of_name base Weights MergeB e)))
   where
@@ -138,5 +140,6 @@ weights_stay base f g others =
 pub wrote_weights : (base : List ℕ) (f g : Option Files) (reads reads_now : Reads) → WroteTo (full_name base Weights) f g reads reads_now → WroteParts OfWeights base f g
 wrote_weights base f g reads reads_now wrote = record { told = wrote.told; others = λ name apart. wrote.others name (apart Weights tt) }
 
-pub wrote_merge_parts : (base : List ℕ) (f g : Option Files) → is_some g ≡ is_some f → ((n : List ℕ) → n ≢ full_name base MergeA → n ≢ full_name base MergeB → file_at g n ≡ file_at f n) → WroteParts OfWeights base f g
+pub wrote_merge_parts : (base : List ℕ) (f g : Option Files) → is_some g ≡ is_some f →
+    ((n : List ℕ) → n ≢ full_name base MergeA → n ≢ full_name base MergeB → file_at g n ≡ file_at f n) → WroteParts OfWeights base f g
 wrote_merge_parts base f g told others = record { told = told; others = λ name apart. others name (apart MergeA tt) (apart MergeB tt) }

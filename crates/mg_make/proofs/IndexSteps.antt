@@ -40,12 +40,14 @@ TermsStay =
 abbrev pub BesideLex : List ℕ → Option Files → Option Files → Type 0
 BesideLex base f g = (n : List ℕ) → n ≢ full_name base Lex → n ≢ full_name base LexAt → file_at g n ≡ file_at f n
 
-pub took_beside : ListsStay → (base : List ℕ) (lists : Listing) (f g : Option Files) (done : List (List Posting)) (ps : List Posting) → lists.post.name ≡ full_name base Post → lists.skip.name ≡ full_name base Skip →
+pub took_beside : ListsStay → (base : List ℕ) (lists : Listing) (f g : Option Files) (done : List (List Posting)) (ps : List Posting) →
+    lists.post.name ≡ full_name base Post → lists.skip.name ≡ full_name base Skip →
     is_some g ≡ is_some f → BesideLex base f g → Took lists f done ps → Took lists g done ps
 took_beside stay base lists f g done ps post skip told others took =
     stay lists f g done ps told (subst (λ n. file_at g n ≡ file_at f n) (sym post) (post_stays base f g others)) (subst (λ n. file_at g n ≡ file_at f n) (sym skip) (skip_stays base f g others)) took
 
-pub can_list_beside : RunsStay → ListsStay → (merge : Merging) (lists : Listing) (sums : List ℕ) (f g : Option Files) → CanList merge lists sums f → is_some g ≡ is_some f → BesideLex merge.base f g → CanList merge lists sums g
+pub can_list_beside : RunsStay → ListsStay → (merge : Merging) (lists : Listing) (sums : List ℕ) (f g : Option Files) → CanList merge lists sums f →
+    is_some g ≡ is_some f → BesideLex merge.base f g → CanList merge lists sums g
 can_list_beside runs_stay lists_stay merge lists sums f g can told others = record {
   left = can.left;
   merging = merging_stays_all runs_stay merge f g can.left (wrote_lex merge.base f g told others) can.merging;
@@ -59,7 +61,8 @@ can_list_beside runs_stay lists_stay merge lists sums f g can told others = reco
 }
 
 pub at_list_beside : RunsStay → ListsStay → (number : ℕ) (merge : Merging) (lists : Listing) (sums : List ℕ) (f g : Option Files) (done more : List (List Posting)) →
-    lists.post.name ≡ full_name merge.base Post → lists.skip.name ≡ full_name merge.base Skip → is_some g ≡ is_some f → BesideLex merge.base f g → IsAtList number merge lists sums f done more → IsAtList number merge lists sums g done more
+    lists.post.name ≡ full_name merge.base Post → lists.skip.name ≡ full_name merge.base Skip → is_some g ≡ is_some f → BesideLex merge.base f g →
+    IsAtList number merge lists sums f done more → IsAtList number merge lists sums g done more
 at_list_beside runs_stay lists_stay number merge lists sums f g done more post skip told others is = record {
   merging = merging_stays_all runs_stay merge f g (by_terms number more) (wrote_lex merge.base f g told others) is.merging;
   took = took_beside lists_stay merge.base lists f g done [] post skip told others is.took;
@@ -75,43 +78,52 @@ terms_beside stay base lex f g ts base_is wrote took =
 
 -- ---- one term more
 
-pub can_index_more : RunsStay → ListsStay → TermsStay → (terms : List (List ℕ)) (docs : List ℕ) (n count : ℕ) (merge next : Merging) (lists now : Listing) (lex lexed : LexWriting) (sums summed : List ℕ) (f h g : Option Files) (t : List ℕ) (term : Term) →
-    CanIndex terms docs n merge lists lex sums f → CanList next now summed h → ListedMore lists now count → SameMerge merge next → WroteParts OfPostings merge.base f h → n < length docs → count ≡ slice_index docs n →
-    slice_get terms n ≡ Some t → ((ts : List Term) → TookTerms lex h ts → TookTerms lexed g (ts ++ term ∷ [])) → lexed.front.count ≡ lex.front.count + 1 → lexed.front.last ≡ t → lexed.base ≡ lex.base →
+pub can_index_more : RunsStay → ListsStay → TermsStay → (terms : List (List ℕ)) (docs : List ℕ) (n count : ℕ) (merge next : Merging) (lists now : Listing)
+    (lex lexed : LexWriting) (sums summed : List ℕ) (f h g : Option Files) (t : List ℕ) (term : Term) →
+    CanIndex terms docs n merge lists lex sums f → CanList next now summed h → ListedMore lists now count → SameMerge merge next →
+    WroteParts OfPostings merge.base f h → n < length docs → count ≡ slice_index docs n →
+    slice_get terms n ≡ Some t → ((ts : List Term) → TookTerms lex h ts → TookTerms lexed g (ts ++ term ∷ [])) → lexed.front.count ≡ lex.front.count + 1 →
+    lexed.front.last ≡ t → lexed.base ≡ lex.base →
     is_some g ≡ is_some h → BesideLex lex.base h g → CanIndex terms docs (n + 1) next now lexed summed g
-can_index_more runs_stay lists_stay terms_stay terms docs n count merge next lists now lex lexed sums summed f h g t term can list listed same wrote lt count_is t_is took counted last base told others = record {
-  list = can_list_beside runs_stay lists_stay next now summed h g list told (subst (λ b. BesideLex b h g) (can.base ∙ sym same.base) others);
-  between = listed.pushed;
-  total = omega (arith, listed.total, can.total, count_is, sizes_more docs n lt);
-  base = base ∙ can.base ∙ sym same.base;
-  before = can.before ++ term ∷ [];
-  took = took can.before (terms_beside terms_stay merge.base lex f h can.before can.base wrote can.took);
-  count = omega (arith, counted, can.count);
-  last = λ k e.
-      let k_is : n ≡ k = omega (arith, e) in
-      subst (λ m. slice_get terms m ≡ Some lexed.front.last) k_is (t_is ∙ ap (λ (s : List ℕ). Some s) (sym last));
-}
+can_index_more runs_stay lists_stay terms_stay terms docs n count merge next lists now lex lexed sums summed f h g t term can list listed same wrote lt count_is
+    t_is took counted last base told others = record {
+      list = can_list_beside runs_stay lists_stay next now summed h g list told (subst (λ b. BesideLex b h g) (can.base ∙ sym same.base) others);
+      between = listed.pushed;
+      total = omega (arith, listed.total, can.total, count_is, sizes_more docs n lt);
+      base = base ∙ can.base ∙ sym same.base;
+      before = can.before ++ term ∷ [];
+      took = took can.before (terms_beside terms_stay merge.base lex f h can.before can.base wrote can.took);
+      count = omega (arith, counted, can.count);
+      last = λ k e.
+          let k_is : n ≡ k = omega (arith, e) in
+          subst (λ m. slice_get terms m ≡ Some lexed.front.last) k_is (t_is ∙ ap (λ (s : List ℕ). Some s) (sym last));
+    }
 
-pub indexed_more : RunsStay → ListsStay → TermsStay → (terms : List (List ℕ)) (docs : List ℕ) (collection : List ℕ) (n : ℕ) (merge next : Merging) (lists now : Listing) (lex lexed : LexWriting) (sums summed : List ℕ) (f h g : Option Files) (term : Term) →
-    HasIndexed terms docs collection n merge lists lex sums f → n < length terms → IsAtList (n + 1) next now summed h (take n (inverted collection) ++ get_or (inverted collection) n [] ∷ []) (drop (n + 1) (inverted collection)) →
+pub indexed_more : RunsStay → ListsStay → TermsStay → (terms : List (List ℕ)) (docs : List ℕ) (collection : List ℕ) (n : ℕ) (merge next : Merging)
+    (lists now : Listing) (lex lexed : LexWriting) (sums summed : List ℕ) (f h g : Option Files) (term : Term) →
+    HasIndexed terms docs collection n merge lists lex sums f → n < length terms →
+    IsAtList (n + 1) next now summed h (take n (inverted collection) ++ get_or (inverted collection) n [] ∷ []) (drop (n + 1) (inverted collection)) →
     now.all ≡ lists.all → now.post.name ≡ full_name next.base Post → now.skip.name ≡ full_name next.base Skip → SameMerge merge next → WroteParts OfPostings merge.base f h → lex.base ≡ merge.base →
     ((ts : List Term) → TookTerms lex h ts → TookTerms lexed g (ts ++ term ∷ [])) → take (n + 1) (terms_of collection) ≡ take n (terms_of collection) ++ term ∷ [] →
     is_some g ≡ is_some h → BesideLex lex.base h g → HasIndexed terms docs collection (n + 1) next now lexed summed g
 indexed_more runs_stay lists_stay terms_stay terms docs collection n merge next lists now lex lexed sums summed f h g term has lt list all post skip same wrote base took more told others =
     let within = number_within terms docs lists.all n collection has.of lt in
-    let front : take n (inverted collection) ++ get_or (inverted collection) n [] ∷ [] ≡ take (n + 1) (inverted collection) = sym (take_more (inverted collection) n [] (omega (arith, within, lists_long collection))) in
+    let front : take n (inverted collection) ++ get_or (inverted collection) n [] ∷ [] ≡ take (n + 1) (inverted collection) =
+    sym (take_more (inverted collection) n [] (omega (arith, within, lists_long collection))) in
     record {
       told = told ∙ wrote.told ∙ has.told;
       of = subst (λ m. AreOfCollection terms docs m collection) (sym all) has.of;
       list =
-          at_list_beside runs_stay lists_stay (n + 1) next now summed h g (take (n + 1) (inverted collection)) (drop (n + 1) (inverted collection)) post skip told (subst (λ b. BesideLex b h g) (base ∙ sym same.base) others)
+          at_list_beside runs_stay lists_stay (n + 1) next now summed h g (take (n + 1) (inverted collection)) (drop (n + 1) (inverted collection)) post skip
+          told (subst (λ b. BesideLex b h g) (base ∙ sym same.base) others)
           (subst (λ xs. IsAtList (n + 1) next now summed h xs (drop (n + 1) (inverted collection))) front list);
       took = subst (λ ts. TookTerms lexed g ts) (sym more) (took (take n (terms_of collection)) (terms_beside terms_stay merge.base lex f h (take n (terms_of collection)) base wrote has.took));
     }
 
 -- ---- terms rise
 
-next_above : (terms : List (List ℕ)) (k : ℕ) (a b : List ℕ) → IsStrictlySortedBy (slice_cmp nat_cmp) terms → slice_get terms k ≡ Some a → slice_get terms (suc k) ≡ Some b → slice_cmp nat_cmp a b ≡ Less
+next_above : (terms : List (List ℕ)) (k : ℕ) (a b : List ℕ) → IsStrictlySortedBy (slice_cmp nat_cmp) terms → slice_get terms k ≡ Some a →
+    slice_get terms (suc k) ≡ Some b → slice_cmp nat_cmp a b ≡ Less
 unfolding IsStrictlySortedBy
 next_above [] k a b rising here there = absurd cc
 next_above (x ∷ []) zero a b rising here there = absurd cc
@@ -121,7 +133,8 @@ next_above (x ∷ y ∷ terms) zero a b rising here there =
     subst (λ z. slice_cmp nat_cmp a z ≡ Less) b_is (subst (λ z. slice_cmp nat_cmp z y ≡ Less) a_is rising.0.0)
 next_above (x ∷ terms) (suc k) a b rising here there = next_above terms k a b rising.1 here there
 
-pub above : (terms : List (List ℕ)) (n count : ℕ) (last t : List ℕ) → IsStrictlySortedBy (slice_cmp nat_cmp) terms → count ≡ n → ((k : ℕ) → k + 1 ≡ n → slice_get terms k ≡ Some last) → slice_get terms n ≡ Some t →
+pub above : (terms : List (List ℕ)) (n count : ℕ) (last t : List ℕ) → IsStrictlySortedBy (slice_cmp nat_cmp) terms → count ≡ n →
+    ((k : ℕ) → k + 1 ≡ n → slice_get terms k ≡ Some last) → slice_get terms n ≡ Some t →
     (count == 0 || is_below last t) ≡ true
 above terms n count last t rising count_is before here = subst (λ m. (m == 0 || is_below last t) ≡ true) (sym count_is) (by_number n before here)
   where

@@ -70,7 +70,8 @@ lex_at_stays base f g wrote = wrote.others (full_name base LexAt) (λ p of_p e. 
     lex_at_apart p of_p e = subst OfPostings (sym e) of_p
 
 -- nor are lists' parts of the lexicon
-pub post_stays : (base : List ℕ) (f g : Option Files) → ((n : List ℕ) → n ≢ full_name base Lex → n ≢ full_name base LexAt → file_at g n ≡ file_at f n) → file_at g (full_name base Post) ≡ file_at f (full_name base Post)
+pub post_stays : (base : List ℕ) (f g : Option Files) → ((n : List ℕ) → n ≢ full_name base Lex → n ≢ full_name base LexAt → file_at g n ≡ file_at f n) →
+    file_at g (full_name base Post) ≡ file_at f (full_name base Post)
 post_stays base f g others = others (full_name base Post) (λ e. not_lex (same_part_of_name base Post Lex e)) (λ e. not_lex_at (same_part_of_name base Post LexAt e))
   where
     not_lex : Post ≢ Lex
@@ -79,7 +80,8 @@ post_stays base f g others = others (full_name base Post) (λ e. not_lex (same_p
     not_lex_at : Post ≢ LexAt
     not_lex_at e = cc
 
-pub skip_stays : (base : List ℕ) (f g : Option Files) → ((n : List ℕ) → n ≢ full_name base Lex → n ≢ full_name base LexAt → file_at g n ≡ file_at f n) → file_at g (full_name base Skip) ≡ file_at f (full_name base Skip)
+pub skip_stays : (base : List ℕ) (f g : Option Files) → ((n : List ℕ) → n ≢ full_name base Lex → n ≢ full_name base LexAt → file_at g n ≡ file_at f n) →
+    file_at g (full_name base Skip) ≡ file_at f (full_name base Skip)
 skip_stays base f g others = others (full_name base Skip) (λ e. not_lex (same_part_of_name base Skip Lex e)) (λ e. not_lex_at (same_part_of_name base Skip LexAt e))
   where
     not_lex : Skip ≢ Lex
@@ -162,7 +164,8 @@ pub stops_by_store : {T : Type 0} (f g : ℕ) (same : Type 0) (refusal : PutErr)
 stops_by_store f g same put.Failed cause = cause.failed refl
 stops_by_store f g same put.Memory cause = tt
 
-pub stops_by_part : {T : Type 0} (f g : ℕ) (same : Type 0) (refusal : PartErr) → HasPartCause {T = T} f g (Err refusal) → (same → NoDamage {T = T} (Err refusal)) → ListStops (Rose f g) same (fault_of_part refusal)
+pub stops_by_part : {T : Type 0} (f g : ℕ) (same : Type 0) (refusal : PartErr) → HasPartCause {T = T} f g (Err refusal) →
+    (same → NoDamage {T = T} (Err refusal)) → ListStops (Rose f g) same (fault_of_part refusal)
 stops_by_part f g same part_err.Device cause sound = cause.device
 stops_by_part f g same part_err.Memory cause sound = tt
 stops_by_part f g same (part_err.Bad bad) cause sound = λ is. sound is
@@ -186,15 +189,18 @@ stops_by_damage rose same fault.SameName h not_so = absurd h
 stops_by_damage rose same (fault.TooManyRotations count) h not_so = absurd h
 
 -- a refusal that is passed on
-pub passed_on : {T : Type 0} {rose rose' same same' : Type 0} (r : Result T Fault) (e : Fault) → (y : Fault) × (r ≡ Err y) × (y ≡ e) → (rose → rose') → (same' → same) → ListStops rose same e → IfErr r (ListStops rose' same')
+pub passed_on : {T : Type 0} {rose rose' same same' : Type 0} (r : Result T Fault) (e : Fault) → (y : Fault) × (r ≡ Err y) × (y ≡ e) → (rose → rose') →
+    (same' → same) → ListStops rose same e → IfErr r (ListStops rose' same')
 passed_on r e p up down stops = rw (p.1, p.2) (stops_for e up down stops)
 
 -- where the lists of a collection are told by what is known of it
-pub passed_on_all : {T : Type 0} {rose rose' same : Type 0} (same' : List ℕ → Type 0) (r : Result T Fault) (e : Fault) → (y : Fault) × (r ≡ Err y) × (y ≡ e) → (rose → rose') → ((collection : List ℕ) → same' collection → same) → ListStops rose same e →
+pub passed_on_all : {T : Type 0} {rose rose' same : Type 0} (same' : List ℕ → Type 0) (r : Result T Fault) (e : Fault) → (y : Fault) × (r ≡ Err y) × (y ≡ e) →
+    (rose → rose') → ((collection : List ℕ) → same' collection → same) → ListStops rose same e →
     IfErr r (λ f. (collection : List ℕ) → ListStops rose' (same' collection) f)
 passed_on_all same' r e p up down stops = rw (p.1, p.2) (λ collection. stops_for e up (down collection) stops)
 
-pub passed_on_each : {T : Type 0} {rose rose' : Type 0} (same same' : List ℕ → Type 0) (r : Result T Fault) (e : Fault) → (y : Fault) × (r ≡ Err y) × (y ≡ e) → (rose → rose') → ((collection : List ℕ) → same' collection → same collection) →
+pub passed_on_each : {T : Type 0} {rose rose' : Type 0} (same same' : List ℕ → Type 0) (r : Result T Fault) (e : Fault) → (y : Fault) × (r ≡ Err y) × (y ≡ e) →
+    (rose → rose') → ((collection : List ℕ) → same' collection → same collection) →
     ((collection : List ℕ) → ListStops rose (same collection) e) → IfErr r (λ f. (collection : List ℕ) → ListStops rose' (same' collection) f)
 passed_on_each same same' r e p up down stops = rw (p.1, p.2) (λ collection. stops_for e up (down collection) (stops collection))
 

@@ -45,7 +45,8 @@ unfolding Rises
 rest_rises all last p left h = h.1
 
 -- where the posting that was read is the first of those left
-pub in_list_more : RunsStay → (number : ℕ) (merge next : Merging) (lists now : Listing) (sums summed : List ℕ) (f h g : Option Files) (p q : Posting) (done : List (List Posting)) (ps left : List Posting) (later : List TermPosting) →
+pub in_list_more : RunsStay → (number : ℕ) (merge next : Merging) (lists now : Listing) (sums summed : List ℕ) (f h g : Option Files) (p q : Posting)
+    (done : List (List Posting)) (ps left : List Posting) (later : List TermPosting) →
     IsInList number merge lists sums f done ps (p ∷ left) later → h ≡ f → q ≡ p →
     ((left : List TermPosting) → IsMerging merge f left → IsMerging next h (drop 1 left)) → WroteParts OfPostings next.base h g →
     ((done : List (List Posting)) (ps : List Posting) → Took lists h done ps → Took now g done (ps ++ q ∷ [])) →
@@ -86,7 +87,8 @@ pub one_more_taken : (P Q : List Posting → List Posting → Type 0) (ps left :
     ((qs : List Posting) (p : Posting) (rest : List Posting) → P qs (p ∷ rest) → Q (qs ++ p ∷ []) rest) → P (ps ++ take n left) (drop n left) → Q (ps ++ take (n + 1) left) (drop (n + 1) left)
 one_more_taken P Q ps left n lt step h =
     let none : Posting = record { doc = 0; freq = 0 } in
-    let front : (ps ++ take n left) ++ get_or left n none ∷ [] ≡ ps ++ take (n + 1) left = append_assoc ps (take n left) (get_or left n none ∷ []) ∙ ap (λ xs. ps ++ xs) (sym (take_more left n none lt)) in
+    let front : (ps ++ take n left) ++ get_or left n none ∷ [] ≡ ps ++ take (n + 1) left = append_assoc ps (take n left) (get_or left n none ∷ [])
+    ∙ ap (λ xs. ps ++ xs) (sym (take_more left n none lt)) in
     subst (λ xs. Q xs (drop (n + 1) left)) front (step (ps ++ take n left) (get_or left n none) (drop (n + 1) left) (subst (λ xs. P (ps ++ take n left) xs) (drop_more left n none lt) h))
 
 pub rest_after : (number docs n : ℕ) (merge next : Merging) (lists now : Listing) (sums summed : List ℕ) (f g : Option Files) → n < docs → is_some g ≡ is_some f →
@@ -147,8 +149,10 @@ can_ended stay merge lists now sums f g docs can wrote took between names = reco
   skip = names.skip ∙ can.skip;
 }
 
-pub at_list_ended : RunsStay → (number : ℕ) (merge : Merging) (lists now : Listing) (sums : List ℕ) (f g : Option Files) (all : ℕ) (done : List (List Posting)) (ps : List Posting) (more : List (List Posting)) →
-    IsInList number merge lists sums f done ps [] (by_terms (number + 1) more) → all ≡ now.all → AllByRecursion (λ qs. Rises all 0 qs) more → SquaresFit (done ++ ps ∷ more) → WroteParts OfPostings merge.base f g →
+pub at_list_ended : RunsStay → (number : ℕ) (merge : Merging) (lists now : Listing) (sums : List ℕ) (f g : Option Files) (all : ℕ) (done : List (List Posting))
+    (ps : List Posting) (more : List (List Posting)) →
+    IsInList number merge lists sums f done ps [] (by_terms (number + 1) more) → all ≡ now.all → AllByRecursion (λ qs. Rises all 0 qs) more →
+    SquaresFit (done ++ ps ∷ more) → WroteParts OfPostings merge.base f g →
     ((done : List (List Posting)) (ps : List Posting) → Took lists f done ps → Took now g (done ++ ps ∷ []) []) → IsAtList (number + 1) merge now sums g (done ++ ps ∷ []) more
 at_list_ended stay number merge lists now sums f g all done ps more is all_is rise fit wrote took = record {
   merging = merging_stays stay merge f g (by_terms (number + 1) more) wrote is.merging;

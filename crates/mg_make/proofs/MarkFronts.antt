@@ -117,14 +117,17 @@ first_behind : (a b : List ℕ) → get_or (a ++ b) (length a) 0 ≡ get_or b 0 
 first_behind [] b = refl
 first_behind (x ∷ a) b = first_behind a b
 
-pairs_of_open : (met : List Mark) (m : Mark) (collection : List ℕ) (f : IsFrontOf (met ++ m ∷ []) collection) → is_open_after met ≡ true → get_or (pair_counts collection) (starts met - 1) 0 ≡ get_or (pairs_from (piece_count_from 0 met) (m ∷ f.after)) 0 0
+pairs_of_open : (met : List Mark) (m : Mark) (collection : List ℕ) (f : IsFrontOf (met ++ m ∷ []) collection) → is_open_after met ≡ true →
+    get_or (pair_counts collection) (starts met - 1) 0 ≡ get_or (pairs_from (piece_count_from 0 met) (m ∷ f.after)) 0 0
 pairs_of_open met m collection f is_open =
-    let whole : pair_counts collection ≡ pairs_from 0 met ++ pairs_from (piece_count_from 0 met) (m ∷ f.after) = sym (marks_have_pairs collection) ∙ ap (pairs_from 0) (whole_is met m collection f) ∙ pairs_append 0 met (m ∷ f.after) in
+    let whole : pair_counts collection ≡ pairs_from 0 met ++ pairs_from (piece_count_from 0 met) (m ∷ f.after) = sym (marks_have_pairs collection)
+    ∙ ap (pairs_from 0) (whole_is met m collection f) ∙ pairs_append 0 met (m ∷ f.after) in
     ap (λ ns. get_or ns (starts met - 1) 0) whole ∙ ap (λ k. get_or (pairs_from 0 met ++ pairs_from (piece_count_from 0 met) (m ∷ f.after)) k 0) (sym (number_ended met m collection f is_open))
     ∙ first_behind (pairs_from 0 met) (pairs_from (piece_count_from 0 met) (m ∷ f.after))
 
 -- the open document has a piece more than came
-pub more_pieces : (met : List Mark) (kind : Stream) (x collection : List ℕ) → IsFrontOf (met ++ piece kind x ∷ []) collection → piece_count_from 0 met < 2 * get_or (pair_counts collection) (starts met - 1) 0
+pub more_pieces : (met : List Mark) (kind : Stream) (x collection : List ℕ) → IsFrontOf (met ++ piece kind x ∷ []) collection →
+    piece_count_from 0 met < 2 * get_or (pair_counts collection) (starts met - 1) 0
 more_pieces met kind x collection f =
     let is_open = open_at_piece met kind x collection f in
     let there = pairs_of_open met (piece kind x) collection f is_open in
@@ -168,7 +171,8 @@ is_met met kind x collection f =
     let whole : all_pieces kind collection ≡ pieces_among kind met ++ pieces_among kind (piece kind x ∷ f.after) =
     sym (marks_have_pieces kind collection) ∙ ap (pieces_among kind) (whole_is met (piece kind x) collection f) ∙ pieces_append kind met (piece kind x ∷ f.after)
     in
-    ap (list_any (bytes_eq x)) whole ∙ has-from (pieces_among kind met ++ pieces_among kind (piece kind x ∷ f.after)) x (Contains-append_right (pieces_among kind met) (pieces_among kind (piece kind x ∷ f.after)) x there)
+    ap (list_any (bytes_eq x)) whole ∙ has-from (pieces_among kind met ++ pieces_among kind (piece kind x ∷ f.after)) x
+    (Contains-append_right (pieces_among kind met) (pieces_among kind (piece kind x ∷ f.after)) x there)
 
 some_place : (x : List ℕ) (strings : List (List ℕ)) → number_of strings x < length strings → position (bytes_eq x) strings ≡ None → ⊥
 some_place x strings low none = grind (arith, nat_tests)
@@ -203,13 +207,15 @@ one_piece terms doc Words x = append-nil (with_doc doc (term_at Words terms x))
 one_piece terms doc Others x = refl
 
 -- the occurrence that a piece adds
-pub terms_more : (terms : List (List ℕ)) (met : List Mark) (kind : Stream) (x : List ℕ) (term : Option ℕ) → term ≡ term_at kind terms x → terms_from terms 0 (met ++ piece kind x ∷ []) ≡ terms_from terms 0 met ++ with_doc (starts met) term
+pub terms_more : (terms : List (List ℕ)) (met : List Mark) (kind : Stream) (x : List ℕ) (term : Option ℕ) → term ≡ term_at kind terms x →
+    terms_from terms 0 (met ++ piece kind x ∷ []) ≡ terms_from terms 0 met ++ with_doc (starts met) term
 terms_more terms met kind x term is =
     let doc : 0 + starts met ≡ starts met = omega arith in
     terms_append terms 0 met (piece kind x ∷ []) ∙ ap (λ n. terms_from terms 0 met ++ terms_from terms n (piece kind x ∷ [])) doc
     ∙ ap (λ r. terms_from terms 0 met ++ r) (one_piece terms (starts met) kind x ∙ ap (with_doc (starts met)) (sym is))
 
-pub one_more_term : (terms : List (List ℕ)) (met : List Mark) (kind : Stream) (x : List ℕ) (term : ℕ) (collection : List ℕ) → Some term ≡ term_at kind terms x → IsFrontOf (met ++ piece kind x ∷ []) collection → length (terms_from terms 0 met) < 2 ^ 32 - 1
+pub one_more_term : (terms : List (List ℕ)) (met : List Mark) (kind : Stream) (x : List ℕ) (term : ℕ) (collection : List ℕ) → Some term ≡ term_at kind terms x →
+    IsFrontOf (met ++ piece kind x ∷ []) collection → length (terms_from terms 0 met) < 2 ^ 32 - 1
 one_more_term terms met kind x term collection is f =
     let all = few_terms terms (met ++ piece kind x ∷ []) collection f in
     let parts = ap length (terms_more terms met kind x (Some term) is) ∙ length-append (terms_from terms 0 met) ((term, starts met) ∷ []) in

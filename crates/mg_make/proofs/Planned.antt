@@ -27,7 +27,9 @@ pub record PlanLaws : Type 0 where
   pub models : (kind : Stream) (collection : List ℕ) (it : StreamCode) → IsCodeOf kind collection it → length it.pieces ≤ 2 ^ 22 → IsStreamCode it
   pub terms : (collection : List ℕ) → (terms_and_numbers (sorted_pieces Words collection)).terms ≡ dictionary collection
 
-code-is : (laws : PlanLaws) (kind : Stream) (collection : List ℕ) (entries : List (List ℕ × ℕ)) (code : StreamCode) → entries ≡ vocabulary (pieces_among kind (marks collection)) → code.pieces ≡ sorted_of entries → IsHuffman (counts_of entries) code.lengths → IsCodeOf kind collection code
+code-is : (laws : PlanLaws) (kind : Stream) (collection : List ℕ) (entries : List (List ℕ × ℕ)) (code : StreamCode) →
+    entries ≡ vocabulary (pieces_among kind (marks collection)) → code.pieces ≡ sorted_of entries → IsHuffman (counts_of entries) code.lengths →
+    IsCodeOf kind collection code
 code-is laws kind collection entries code is pieces lengths =
     let all : entries ≡ vocabulary (all_pieces kind collection) = is ∙ ap vocabulary (laws.pieces kind collection) in
     let symbols = collection-symbols kind collection in
@@ -36,8 +38,10 @@ code-is laws kind collection entries code is pieces lengths =
       lengths = subst (λ (counts : List ℕ). IsHuffman counts code.lengths) (ap counts_of all ∙ symbols.1) lengths;
     }
 
-pub plan-of : (laws : PlanLaws) (counts : Counting) (words others : List (List ℕ × ℕ)) (p : Plan) (collection : List ℕ) → IsCountOf counts p.open_end collection → words ≡ counts.words → others ≡ counts.others → p.pairs ≡ counts.pairs
-    → p.code.words.pieces ≡ sorted_of words → p.code.others.pieces ≡ sorted_of others → IsHuffman (counts_of words) p.code.words.lengths → IsHuffman (counts_of others) p.code.others.lengths → p.terms ≡ terms_and_numbers p.code.words.pieces → IsPlanOf p collection
+pub plan-of : (laws : PlanLaws) (counts : Counting) (words others : List (List ℕ × ℕ)) (p : Plan) (collection : List ℕ) →
+    IsCountOf counts p.open_end collection → words ≡ counts.words → others ≡ counts.others → p.pairs ≡ counts.pairs
+    → p.code.words.pieces ≡ sorted_of words → p.code.others.pieces ≡ sorted_of others → IsHuffman (counts_of words) p.code.words.lengths →
+    IsHuffman (counts_of others) p.code.others.lengths → p.terms ≡ terms_and_numbers p.code.words.pieces → IsPlanOf p collection
 plan-of laws counts words others p collection h words_are others_are pairs word_pieces other_pieces word_lengths other_lengths table =
     let word_code = code-is laws Words collection words p.code.words (words_are ∙ h.counted.words) word_pieces word_lengths in
     let other_code = code-is laws Others collection others p.code.others (others_are ∙ h.counted.others) other_pieces other_lengths in

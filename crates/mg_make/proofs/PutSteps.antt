@@ -24,7 +24,8 @@ writing base plan limit sums size scanning pass = record { base = base; plan = p
 
 -- ---- the start
 
-pub put_nothing : (base : List ℕ) (plan : Plan) (limit : ℕ) (sums : List ℕ) (scanning : Scanning) (pass : Inversion) (f g h : Option Files) → HasMet scanning [] [] → HasWritten pass h [] → pass.base ≡ base → pass.plan ≡ plan → budget_of pass ≡ limit
+pub put_nothing : (base : List ℕ) (plan : Plan) (limit : ℕ) (sums : List ℕ) (scanning : Scanning) (pass : Inversion) (f g h : Option Files) →
+    HasMet scanning [] [] → HasWritten pass h [] → pass.base ≡ base → pass.plan ≡ plan → budget_of pass ≡ limit
     → is_some g ≡ is_some f → (IsSome f → file_at g (full_name base Head) ≡ Some []) → WroteParts OfPass base g h → (IsSome g → PartsHold h base plan.code) → sums ≡ replicate (length plan.pairs) 0
     → HasPut (writing base plan limit sums 0 scanning pass) h []
 put_nothing base plan limit sums scanning pass f g h scanned written base_is plan_is limit_is told gone wrote models sums_are = record {
@@ -80,7 +81,8 @@ module _ (base : List ℕ) (plan : Plan) (limit : ℕ) (sums : List ℕ) (size :
     front = front_met scanned (fed ++ byte ∷ []) (put.met ++ next) (takes fed put.met put.scanned) (subst (λ n. n < 2 ^ 32) (sym (length_push fed byte)) (omega (arith, few)));
   }
 
-  pub put_more : (fed : List ℕ) → WroteMarks old new f g next → SamePass old new → WroteSecond old.base f g → HasPut (writing base plan limit sums size scanning old) f fed → HasPut (writing base plan limit sums (size + 1) scanned new) g (fed ++ byte ∷ [])
+  pub put_more : (fed : List ℕ) → WroteMarks old new f g next → SamePass old new → WroteSecond old.base f g →
+      HasPut (writing base plan limit sums size scanning old) f fed → HasPut (writing base plan limit sums (size + 1) scanned new) g (fed ++ byte ∷ [])
   put_more fed wrote same only put =
       let second : WroteSecond base f g = subst (λ b. WroteSecond b f g) put.base_is only in
       record {
@@ -104,9 +106,13 @@ module _ (base : List ℕ) (plan : Plan) (limit : ℕ) (sums : List ℕ) (size :
   put_others fed only put = others_of_second base f g (subst (λ b. WroteSecond b f g) put.base_is only)
 
   -- why it is not written
-  pub put_stops : (rose : Type 0) (fault : Fault) (fed more : List ℕ) → StopsBefore old f next rose fault → HasPut (writing base plan limit sums size scanning old) f fed → length (fed ++ byte ∷ more) < 2 ^ 32 → SecondStops rose (IsPlanOf plan (fed ++ byte ∷ more)) fault
+  pub put_stops : (rose : Type 0) (fault : Fault) (fed more : List ℕ) → StopsBefore old f next rose fault →
+      HasPut (writing base plan limit sums size scanning old) f fed → length (fed ++ byte ∷ more) < 2 ^ 32 →
+      SecondStops rose (IsPlanOf plan (fed ++ byte ∷ more)) fault
   put_stops rose fault fed more stops put few =
       let all : (fed ++ byte ∷ []) ++ more ≡ fed ++ byte ∷ more = append_assoc fed (byte ∷ []) more in
       subst (λ p. SecondStops rose (IsPlanOf p (fed ++ byte ∷ more)) fault) put.plan_is
       (stops.cause put.met (fed ++ byte ∷ more) put.written
-      (subst (λ bytes. IsFrontOf (put.met ++ next) bytes) all (front_more scanned (fed ++ byte ∷ []) more (put.met ++ next) (takes fed put.met put.scanned) (subst (λ bytes. length bytes < 2 ^ 32) (sym all) few))))
+      (subst (λ bytes. IsFrontOf (put.met ++ next) bytes) all
+      (front_more scanned (fed ++ byte ∷ []) more (put.met ++ next) (takes fed put.met put.scanned)
+      (subst (λ bytes. length bytes < 2 ^ 32) (sym all) few))))

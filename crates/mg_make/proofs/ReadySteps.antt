@@ -74,7 +74,8 @@ put_few w f fed some put other few = omega (arith, put.size_is, other.size_is, f
 pub handed_for : (p q : Plan) (l m : ℕ) (a b fed : List ℕ) (f g : Option Files) (r : Inverted) → p ≡ q → l ≡ m → a ≡ b → IsHanded p l a fed f g r → IsHanded q m b fed f g r
 handed_for p q l m a b fed f g r one two three handed = subst (λ x. IsHanded x m b fed f g r) one (subst (λ x. IsHanded p x b fed f g r) two (subst (λ x. IsHanded p l x fed f g r) three handed))
 
-pub handed_by_all : (result : Result Inverted Fault) (p q : Plan) (l m : ℕ) (a b fed : List ℕ) (f g : Option Files) → p ≡ q → l ≡ m → a ≡ b → IfOk result (λ r. IsHanded p l a fed f g r) → IfOk result (λ r. IsHanded q m b fed f g r)
+pub handed_by_all : (result : Result Inverted Fault) (p q : Plan) (l m : ℕ) (a b fed : List ℕ) (f g : Option Files) → p ≡ q → l ≡ m → a ≡ b →
+    IfOk result (λ r. IsHanded p l a fed f g r) → IfOk result (λ r. IsHanded q m b fed f g r)
 handed_by_all (Ok r) p q l m a b fed f g one two three handed = handed_for p q l m a b fed f g r one two three handed
 handed_by_all (Err fault) p q l m a b fed f g one two three handed = tt
 
@@ -105,12 +106,14 @@ list_wider rose now same less cause.SameName grows back stop = absurd stop
 list_wider rose now same less (cause.TooManyRotations count) grows back stop = absurd stop
 
 -- of the parts behind the second pass, for the bytes that were put
-pub rest_refused : {T : Type 0} (result : Result T Fault) (w : Putting) (f g : Option Files) (r : Inverted) (rose now : Type 0) → (rose → now) → (IsSome f → IsSome g) → ((fed : List ℕ) → HasPut w f fed → IsHanded w.plan w.limit w.base fed f g r)
+pub rest_refused : {T : Type 0} (result : Result T Fault) (w : Putting) (f g : Option Files) (r : Inverted) (rose now : Type 0) → (rose → now) →
+    (IsSome f → IsSome g) → ((fed : List ℕ) → HasPut w f fed → IsHanded w.plan w.limit w.base fed f g r)
     → IfErr result (λ fault. (fed : List ℕ) (before : Option Files) → IsHanded w.plan w.limit w.base fed before g r → ListStops rose (IsSome g × IsPlanOf w.plan fed) fault)
     → IfErr result (λ fault. (fed : List ℕ) → HasPut w f fed → ListStops now (IsSome f × IsPlanOf w.plan fed) fault)
 rest_refused (Ok value) w f g r rose now grows still handed stop = tt
 rest_refused (Err fault) w f g r rose now grows still handed stop = λ fed put. list_wider rose now _ _ fault grows (λ both. (still both.0, both.1)) (stop fed f (handed fed put))
 
-pub ready_all : {T : Type 0} (result : Result T Fault) (w : Putting) (fed : List ℕ) (h : Option Files) → OnOk result (IndexStands h w.base fed) → (IndexStands h w.base fed → IsReady (run_cap w.limit) h w.base w.plan.code fed) → OnOk result (IsReady (run_cap w.limit) h w.base w.plan.code fed)
+pub ready_all : {T : Type 0} (result : Result T Fault) (w : Putting) (fed : List ℕ) (h : Option Files) → OnOk result (IndexStands h w.base fed) →
+    (IndexStands h w.base fed → IsReady (run_cap w.limit) h w.base w.plan.code fed) → OnOk result (IsReady (run_cap w.limit) h w.base w.plan.code fed)
 ready_all (Ok value) w fed h stands by = by stands
 ready_all (Err fault) w fed h stands by = tt

@@ -42,7 +42,8 @@ module _ (plan : Plan) (limit : ℕ) (base fed : List ℕ) (before now : Option 
       (inverted_by_pass marks_have_occurrences handed.pass handed.middle now fed r told (subst (λ p. IsPlanOf p fed) (sym handed.plan_is) plan_of) handed.few handed.ends)
 
   -- and why they are not written
-  pub rest_stops : (rose : Type 0) (fault : Fault) → ((collection : List ℕ) → ListStops rose (IsInverted plan r.counts collection r.merge now) fault) → ListStops rose (IsSome now × IsPlanOf plan fed) fault
+  pub rest_stops : (rose : Type 0) (fault : Fault) → ((collection : List ℕ) → ListStops rose (IsInverted plan r.counts collection r.merge now) fault) →
+      ListStops rose (IsSome now × IsPlanOf plan fed) fault
   rest_stops rose fault stop = less_stops rose _ _ fault (λ both. handed_lists both.0 both.1) (stop fed)
     where
       less_stops : (rose same less : Type 0) (fault : Fault) → (less → same) → ListStops rose same fault → ListStops rose less fault
@@ -74,8 +75,10 @@ module _ (plan : Plan) (limit : ℕ) (base fed : List ℕ) (before now : Option 
   handed_peak plan_of = handed.ends.peak ∙ ap (λ n. pool_peak (length (occurring_by handed.pass.plan (marks fed))) n) handed.limit_is
       ∙ ap (λ (p : Plan). pool_peak (length (occurring_by p (marks fed))) limit) handed.plan_is ∙ ap (λ os. pool_peak (length os) limit) (planned_occurrences plan fed plan_of)
 
-  pub handed_text : ((code : TextCode) (collection : List ℕ) → text_bytes (coded_docs code collection) ≡ text_part code collection) → IsPlanOf plan fed → r.text_bytes ≡ length (text_part plan.code fed)
-  handed_text law plan_of = handed.ends.size ∙ ap (λ (p : Plan). length (text_bytes (coded_by p (marks fed)))) handed.plan_is ∙ ap (λ docs. length (text_bytes docs)) (planned_text plan fed plan_of) ∙ ap length (law plan.code fed)
+  pub handed_text : ((code : TextCode) (collection : List ℕ) → text_bytes (coded_docs code collection) ≡ text_part code collection) → IsPlanOf plan fed →
+      r.text_bytes ≡ length (text_part plan.code fed)
+  handed_text law plan_of = handed.ends.size ∙ ap (λ (p : Plan). length (text_bytes (coded_by p (marks fed)))) handed.plan_is
+      ∙ ap (λ docs. length (text_bytes docs)) (planned_text plan fed plan_of) ∙ ap length (law plan.code fed)
 
   pub handed_docs : sum r.counts.docs ≤ r.occurrences
   handed_docs = omega (arith, together r.counts (length handed.pass.plan.terms.terms) (occurring_by handed.pass.plan (marks fed)) handed.ends.counts, handed.ends.occurrences)
@@ -96,9 +99,25 @@ few_occurring plan fed = omega (arith, same_number plan.terms.terms (dictionary 
 
 -- heads of the same numbers are the same
 abbrev made_of : ℕ → ℕ → ℕ → ℕ → ℕ → ℕ → Bool → ℕ → ℕ → ℕ → ℕ → ℕ → ℕ → Head
-made_of v d w o t c e b n r x p k = record { version = v; documents = d; words = w; others = o; terms = t; cap = c; open_end = e; collection = b; occurrences = n; runs = r; text_bytes = x; post_bytes = p; skip_count = k }
+made_of v d w o t c e b n r x p k = record {
+  version = v;
+  documents = d;
+  words = w;
+  others = o;
+  terms = t;
+  cap = c;
+  open_end = e;
+  collection = b;
+  occurrences = n;
+  runs = r;
+  text_bytes = x;
+  post_bytes = p;
+  skip_count = k;
+}
 
-pub same_heads : (a b : Head) → a.version ≡ b.version → a.documents ≡ b.documents → a.words ≡ b.words → a.others ≡ b.others → a.terms ≡ b.terms → a.cap ≡ b.cap → a.open_end ≡ b.open_end → a.collection ≡ b.collection → a.occurrences ≡ b.occurrences → a.runs ≡ b.runs → a.text_bytes ≡ b.text_bytes → a.post_bytes ≡ b.post_bytes → a.skip_count ≡ b.skip_count → a ≡ b
+pub same_heads : (a b : Head) → a.version ≡ b.version → a.documents ≡ b.documents → a.words ≡ b.words → a.others ≡ b.others → a.terms ≡ b.terms →
+    a.cap ≡ b.cap → a.open_end ≡ b.open_end → a.collection ≡ b.collection → a.occurrences ≡ b.occurrences → a.runs ≡ b.runs → a.text_bytes ≡ b.text_bytes →
+    a.post_bytes ≡ b.post_bytes → a.skip_count ≡ b.skip_count → a ≡ b
 same_heads a b e0 e1 e2 e3 e4 e5 e6 e7 e8 e9 e10 e11 e12 =
     ap (λ x. made_of x a.documents a.words a.others a.terms a.cap a.open_end a.collection a.occurrences a.runs a.text_bytes a.post_bytes a.skip_count) e0
     ∙ ap (λ x. made_of b.version x a.words a.others a.terms a.cap a.open_end a.collection a.occurrences a.runs a.text_bytes a.post_bytes a.skip_count) e1

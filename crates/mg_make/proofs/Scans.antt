@@ -37,14 +37,17 @@ marks-of_pairs [] = refl
 marks-of_pairs (p ∷ ps) = ap (λ r. piece Words p.word ∷ piece Others p.other ∷ r) (marks-of_pairs ps)
 
 -- a document's marks, where its pieces are those told and others
-marks-of_document : (doc : List ℕ) (told rest : List (List ℕ)) → pieces doc ≡ told ++ rest → marks_of_document doc ≡ start ∷ (marks_of_pieces Words told ++ (marks_of_pieces (kind_after Words told) rest ++ stop ∷ []))
+marks-of_document : (doc : List ℕ) (told rest : List (List ℕ)) → pieces doc ≡ told ++ rest →
+    marks_of_document doc ≡ start ∷ (marks_of_pieces Words told ++ (marks_of_pieces (kind_after Words told) rest ++ stop ∷ []))
 marks-of_document doc told rest h =
-    let all : marks_of_pairs (parse doc) ≡ marks_of_pieces Words told ++ marks_of_pieces (kind_after Words told) rest = marks-of_pairs (parse doc) ∙ ap (marks_of_pieces Words) h ∙ marks-append Words told rest in
+    let all : marks_of_pairs (parse doc) ≡ marks_of_pieces Words told ++ marks_of_pieces (kind_after Words told) rest = marks-of_pairs (parse doc)
+    ∙ ap (marks_of_pieces Words) h ∙ marks-append Words told rest in
     ap (λ r. start ∷ (r ++ stop ∷ [])) all ∙ ap (λ r. start ∷ r) (append_assoc (marks_of_pieces Words told) (marks_of_pieces (kind_after Words told) rest) (stop ∷ []))
 
 -- ---- a byte of a document
 
-read-taken : (old new : OpenPiece) (byte : ℕ) (told : List (List ℕ)) (doc : List ℕ) → Fits old byte → new ≡ record { kind = old.kind; piece = old.piece ++ byte ∷ [] } → Reads old told doc (byte ∷ []) → Reads new told (doc ++ byte ∷ []) []
+read-taken : (old new : OpenPiece) (byte : ℕ) (told : List (List ℕ)) (doc : List ℕ) → Fits old byte →
+    new ≡ record { kind = old.kind; piece = old.piece ++ byte ∷ [] } → Reads old told doc (byte ∷ []) → Reads new told (doc ++ byte ∷ []) []
 read-taken old new byte told doc fits is h = subst (λ (r : OpenPiece). Reads r told (doc ++ byte ∷ []) []) (sym is) (reads_taken old told doc byte fits.kind fits.room h)
 
 abbrev pub turned : OpenPiece → OpenPiece
@@ -57,7 +60,8 @@ read-at_once old new byte o = record {
   reads = λ told doc h. rw (append-nil told) (read-taken old new byte told doc o.0 o.1 (reads_next old told doc byte h));
 }
 
-reads-turned : (old next : OpenPiece) (byte : ℕ) (told : List (List ℕ)) (doc : List ℕ) → Ends old byte → next ≡ turned old → Reads old told doc (byte ∷ []) → Reads next (told ++ old.piece ∷ []) doc (byte ∷ [])
+reads-turned : (old next : OpenPiece) (byte : ℕ) (told : List (List ℕ)) (doc : List ℕ) → Ends old byte → next ≡ turned old → Reads old told doc (byte ∷ []) →
+    Reads next (told ++ old.piece ∷ []) doc (byte ∷ [])
 reads-turned old next byte told doc ends is h = subst (λ (r : OpenPiece). Reads r (told ++ old.piece ∷ []) doc (byte ∷ [])) (sym is) (reads_turned old told doc byte ends h)
 
 -- one piece ends before it
@@ -77,10 +81,12 @@ ends-empty kind byte h = elim h [ inl is ↦ is | inr full ↦ absurd (omega (ar
 ends-once : (old next last : OpenPiece) (byte : ℕ) → next ≡ turned old → last ≡ turned next → Ends next byte → Ends last byte → ⊥
 ends-once old next last byte is then a b =
     let last_is : last ≡ turned (turned old) = then ∙ ap turned is in
-    of-no_kind old.kind byte (ends-empty (other_kind old.kind) byte (subst (λ (r : OpenPiece). Ends r byte) is a)) (ends-empty (other_kind (other_kind old.kind)) byte (subst (λ (r : OpenPiece). Ends r byte) last_is b))
+    of-no_kind old.kind byte (ends-empty (other_kind old.kind) byte (subst (λ (r : OpenPiece). Ends r byte) is a))
+    (ends-empty (other_kind (other_kind old.kind)) byte (subst (λ (r : OpenPiece). Ends r byte) last_is b))
 
 -- two pieces end before it, the second of which is empty
-pub read-two_ended : (old next last new : OpenPiece) (byte : ℕ) (answer : Offer) → Ends old byte → next ≡ turned old → Ends next byte → last ≡ turned next → Offered last byte answer new → HasRead old new byte (old.piece ∷ [] ∷ [])
+pub read-two_ended : (old next last new : OpenPiece) (byte : ℕ) (answer : Offer) → Ends old byte → next ≡ turned old → Ends next byte → last ≡ turned next →
+    Offered last byte answer new → HasRead old new byte (old.piece ∷ [] ∷ [])
 read-two_ended old next last new byte Ended ends is again then o = absurd (ends-once old next last byte is then again o.0)
 read-two_ended old next last new byte Taken ends is again then o = record {
   kind = ap (λ (r : OpenPiece). r.kind) o.1 ∙ (ap (λ (r : OpenPiece). r.kind) then ∙ ap (λ (r : OpenPiece). other_kind r.kind) is);
@@ -88,22 +94,27 @@ read-two_ended old next last new byte Taken ends is again then o = record {
       let one = reads-turned old next byte told doc ends is (reads_next old told doc byte h) in
       let two = reads-turned next last byte (told ++ old.piece ∷ []) doc again then one in
       let empty : next.piece ≡ [] = ap (λ (r : OpenPiece). r.piece) is in
-      let joined : (told ++ old.piece ∷ []) ++ next.piece ∷ [] ≡ told ++ (old.piece ∷ [] ∷ []) = append_assoc told (old.piece ∷ []) (next.piece ∷ []) ∙ ap (λ (p : List ℕ). told ++ (old.piece ∷ p ∷ [])) empty in
+      let joined : (told ++ old.piece ∷ []) ++ next.piece ∷ [] ≡ told ++ (old.piece ∷ [] ∷ []) = append_assoc told (old.piece ∷ []) (next.piece ∷ [])
+      ∙ ap (λ (p : List ℕ). told ++ (old.piece ∷ p ∷ [])) empty in
       subst (λ (t : List (List ℕ)). Reads new t (doc ++ byte ∷ []) []) joined (read-taken last new byte ((told ++ old.piece ∷ []) ++ next.piece ∷ []) doc o.0 o.1 two);
 }
 
 -- ---- what is met
 
 -- a piece of a reader was told, and maybe an empty one
-pub met-one : (m0 m1 m2 : Meeting) (begins : Bool) (kind : Stream) (bytes : List ℕ) (old now : OpenPiece) → m1 ≡ restarted begins m0 → m2 ≡ with_piece kind bytes m1 → kind ≡ now.kind → bytes ≡ now.piece → now ≡ old → marks_of m2 ≡ joined_marks begins old.kind (old.piece ∷ [])
+pub met-one : (m0 m1 m2 : Meeting) (begins : Bool) (kind : Stream) (bytes : List ℕ) (old now : OpenPiece) → m1 ≡ restarted begins m0 →
+    m2 ≡ with_piece kind bytes m1 → kind ≡ now.kind → bytes ≡ now.piece → now ≡ old → marks_of m2 ≡ joined_marks begins old.kind (old.piece ∷ [])
 met-one m0 m1 m2 begins kind bytes old now is one k p same =
     ap (λ (m : Meeting). marks_of m) one ∙ ap (λ (m : Meeting). marks_of (with_piece kind bytes m)) is
     ∙ ap (λ (x : Stream). joined_marks begins x (bytes ∷ [])) k ∙ ap (λ (x : List ℕ). joined_marks begins now.kind (x ∷ [])) p ∙ ap (λ (r : OpenPiece). joined_marks begins r.kind (r.piece ∷ [])) same
 
-pub met-two : (m0 m1 m2 m3 : Meeting) (begins : Bool) (kind : Stream) (bytes : List ℕ) (old now : OpenPiece) → m1 ≡ restarted begins m0 → m2 ≡ with_piece kind bytes m1 → m3 ≡ with_other m2 → kind ≡ now.kind → bytes ≡ now.piece → now ≡ old → marks_of m3 ≡ joined_marks begins old.kind (old.piece ∷ [] ∷ [])
+pub met-two : (m0 m1 m2 m3 : Meeting) (begins : Bool) (kind : Stream) (bytes : List ℕ) (old now : OpenPiece) → m1 ≡ restarted begins m0 →
+    m2 ≡ with_piece kind bytes m1 → m3 ≡ with_other m2 → kind ≡ now.kind → bytes ≡ now.piece → now ≡ old →
+    marks_of m3 ≡ joined_marks begins old.kind (old.piece ∷ [] ∷ [])
 met-two m0 m1 m2 m3 begins kind bytes old now is one two k p same =
     ap (λ (m : Meeting). marks_of m) two ∙ ap (λ (m : Meeting). marks_of (with_other m)) one ∙ ap (λ (m : Meeting). marks_of (with_other (with_piece kind bytes m))) is
-    ∙ ap (λ (x : Stream). joined_marks begins x (bytes ∷ [] ∷ [])) k ∙ ap (λ (x : List ℕ). joined_marks begins now.kind (x ∷ [] ∷ [])) p ∙ ap (λ (r : OpenPiece). joined_marks begins r.kind (r.piece ∷ [] ∷ [])) same
+    ∙ ap (λ (x : Stream). joined_marks begins x (bytes ∷ [] ∷ [])) k ∙ ap (λ (x : List ℕ). joined_marks begins now.kind (x ∷ [] ∷ [])) p
+    ∙ ap (λ (r : OpenPiece). joined_marks begins r.kind (r.piece ∷ [] ∷ [])) same
 
 pub met-end : (m0 m1 : Meeting) → m0.ends ≡ false → m1 ≡ with_end m0 → marks_of m1 ≡ marks_of m0 ++ stop ∷ []
 met-end m0 m1 none is =
@@ -138,22 +149,26 @@ left-two Others bytes h = absurd (omega (arith, h))
 abbrev docs_marks : List (List ℕ) → List Mark
 docs_marks docs = flat_map marks_of_document docs
 
-opened : (is_open : Bool) (told : List (List ℕ)) (xs : List Mark) → (is_open ≡ false → told ≡ []) → marks_of_open is_open told ++ (only_if (not is_open) start ++ xs) ≡ start ∷ (marks_of_pieces Words told ++ xs)
+opened : (is_open : Bool) (told : List (List ℕ)) (xs : List Mark) → (is_open ≡ false → told ≡ []) →
+    marks_of_open is_open told ++ (only_if (not is_open) start ++ xs) ≡ start ∷ (marks_of_pieces Words told ++ xs)
 opened true told xs none = refl
 opened false told xs none = sym (ap (λ (t : List (List ℕ)). start ∷ (marks_of_pieces Words t ++ xs)) (none refl))
 
 -- the marks met, and what is met with a byte
-met-more : (s : Scanning) (fed : List ℕ) (met new : List Mark) (h : HasMet s fed met) (xs : List Mark) → new ≡ only_if (not s.is_open) start ++ xs → met ++ new ≡ docs_marks (closed_documents fed) ++ (start ∷ (marks_of_pieces Words h.told ++ xs))
+met-more : (s : Scanning) (fed : List ℕ) (met new : List Mark) (h : HasMet s fed met) (xs : List Mark) → new ≡ only_if (not s.is_open) start ++ xs →
+    met ++ new ≡ docs_marks (closed_documents fed) ++ (start ∷ (marks_of_pieces Words h.told ++ xs))
 met-more s fed met new h xs is =
     let before : List Mark = docs_marks (closed_documents fed) in
     ap (λ (a : List Mark). a ++ new) h.marks_are ∙ ap (λ (b : List Mark). (before ++ marks_of_open s.is_open h.told) ++ b) is
     ∙ append_assoc before (marks_of_open s.is_open h.told) (only_if (not s.is_open) start ++ xs) ∙ ap (λ (r : List Mark). before ++ r) (opened s.is_open h.told xs h.none)
 
 -- after a byte of a document
-pub met-byte : (s : Scanning) (seen : Seen) (reading : OpenPiece) (m : Meeting) (fed : List ℕ) (met : List Mark) (byte : ℕ) (ended : List (List ℕ)) → byte ≢ 2 → StandsFor seen (fed ++ byte ∷ []) → HasRead s.reading reading byte ended → marks_of m ≡ joined_marks (not s.is_open) s.reading.kind ended → HasMet s fed met
+pub met-byte : (s : Scanning) (seen : Seen) (reading : OpenPiece) (m : Meeting) (fed : List ℕ) (met : List Mark) (byte : ℕ) (ended : List (List ℕ)) → byte ≢ 2 →
+    StandsFor seen (fed ++ byte ∷ []) → HasRead s.reading reading byte ended → marks_of m ≡ joined_marks (not s.is_open) s.reading.kind ended → HasMet s fed met
     → HasMet (record { seen = seen; reading = reading; is_open = true; met = m }) (fed ++ byte ∷ []) (met ++ marks_of m)
 met-byte s seen reading m fed met byte ended ne stands read is h =
-    let kinds : marks_of_pieces Words h.told ++ marks_of_pieces s.reading.kind ended ≡ marks_of_pieces Words (h.told ++ ended) = ap (λ k. marks_of_pieces Words h.told ++ marks_of_pieces k ended) h.kind ∙ sym (marks-append Words h.told ended) in
+    let kinds : marks_of_pieces Words h.told ++ marks_of_pieces s.reading.kind ended ≡ marks_of_pieces Words (h.told ++ ended) =
+    ap (λ k. marks_of_pieces Words h.told ++ marks_of_pieces k ended) h.kind ∙ sym (marks-append Words h.told ended) in
     record {
       seen = stands;
       same = sym (has_open_end-push fed byte ∙ ap not (ne_eqb byte 2 ne));
@@ -161,11 +176,14 @@ met-byte s seen reading m fed met byte ended ne stands read is h =
       none = λ e. absurd cc;
       kind = read.kind ∙ ap (λ k. kind_after k ended) h.kind ∙ sym (kind-append Words h.told ended);
       reads = subst (λ (o : List ℕ). Reads reading (h.told ++ ended) o []) (sym (open-byte fed byte ne)) (read.reads h.told (open_part fed) h.reads);
-      marks_are = met-more s fed met (marks_of m) h (marks_of_pieces s.reading.kind ended) is ∙ ap (λ (r : List Mark). docs_marks (closed_documents fed) ++ (start ∷ r)) kinds ∙ sym (ap (λ (d : List (List ℕ)). docs_marks d ++ (start ∷ marks_of_pieces Words (h.told ++ ended))) (closed-byte fed byte ne));
+      marks_are = met-more s fed met (marks_of m) h (marks_of_pieces s.reading.kind ended) is
+          ∙ ap (λ (r : List Mark). docs_marks (closed_documents fed) ++ (start ∷ r)) kinds
+          ∙ sym (ap (λ (d : List (List ℕ)). docs_marks d ++ (start ∷ marks_of_pieces Words (h.told ++ ended))) (closed-byte fed byte ne));
     }
 
 -- it goes on the piece that is read, and nothing is met with it
-pub met-went_on : (s : Scanning) (seen : Seen) (reading : OpenPiece) (fed : List ℕ) (met : List Mark) (byte : ℕ) → s.is_open ≡ true → byte ≢ 2 → StandsFor seen (fed ++ byte ∷ []) → HasRead s.reading reading byte [] → HasMet s fed met
+pub met-went_on : (s : Scanning) (seen : Seen) (reading : OpenPiece) (fed : List ℕ) (met : List Mark) (byte : ℕ) → s.is_open ≡ true → byte ≢ 2 →
+    StandsFor seen (fed ++ byte ∷ []) → HasRead s.reading reading byte [] → HasMet s fed met
     → HasMet (record { seen = seen; reading = reading; is_open = s.is_open; met = s.met }) (fed ++ byte ∷ []) met
 met-went_on s seen reading fed met byte is_open ne stands read h =
     let m : Meeting = restarted false s.met in
@@ -182,7 +200,9 @@ met-went_on s seen reading fed met byte is_open ne stands read h =
     }
 
 -- the marks of the open document at its end
-closing : (s : Scanning) (fed : List ℕ) (met : List Mark) (h : HasMet s fed met) → start ∷ (marks_of_pieces Words h.told ++ (marks_of_pieces s.reading.kind (left_at_end s.reading.kind s.reading.piece) ++ stop ∷ [])) ≡ marks_of_document (open_part fed)
+closing : (s : Scanning) (fed : List ℕ) (met : List Mark) (h : HasMet s fed met) → start ∷
+    (marks_of_pieces Words h.told ++ (marks_of_pieces s.reading.kind (left_at_end s.reading.kind s.reading.piece) ++ stop ∷ []))
+    ≡ marks_of_document (open_part fed)
 closing s fed met h =
     let left : List (List ℕ) = left_at_end s.reading.kind s.reading.piece in
     ap (λ k. start ∷ (marks_of_pieces Words h.told ++ (marks_of_pieces k left ++ stop ∷ []))) h.kind
@@ -208,7 +228,8 @@ met-close s seen m fed met stands is h = record {
       ∙ sym (ap docs_marks (closed-close fed)) ∙ sym (append-nil (docs_marks (closed_documents (fed ++ 2 ∷ []))));
 }
 
-pub met-closed : (s : Scanning) (seen : Seen) (reading : OpenPiece) (m : Meeting) (fed : List ℕ) (met : List Mark) (byte : ℕ) → byte ≡ 2 → reading ≡ record { kind = Words; piece = [] } → StandsFor seen (fed ++ byte ∷ []) → marks_of m ≡ closing_marks (not s.is_open) s.reading → HasMet s fed met
+pub met-closed : (s : Scanning) (seen : Seen) (reading : OpenPiece) (m : Meeting) (fed : List ℕ) (met : List Mark) (byte : ℕ) → byte ≡ 2 →
+    reading ≡ record { kind = Words; piece = [] } → StandsFor seen (fed ++ byte ∷ []) → marks_of m ≡ closing_marks (not s.is_open) s.reading → HasMet s fed met
     → HasMet (record { seen = seen; reading = reading; is_open = false; met = m }) (fed ++ byte ∷ []) (met ++ marks_of m)
 met-closed s seen reading m fed met byte is empty stands closes h =
     let two = met-close s seen m fed met (subst (λ b. StandsFor seen (fed ++ b ∷ [])) is stands) closes h in
@@ -235,12 +256,14 @@ end-open s m fed met is closes h =
     let with_start : marks_of m ≡ closing_marks (not s.is_open) s.reading = closes ∙ sym (ap (λ b. closing_marks b s.reading) none) in
     let docs : documents fed ≡ closed_documents fed ++ open_part fed ∷ [] = documents-are fed ∙ ap (λ b. closed_documents fed ++ cond b (open_part fed ∷ []) []) (sym h.same ∙ is) in
     ap docs_marks docs ∙ one-more (closed_documents fed) (open_part fed)
-    ∙ sym (met-more s fed met (marks_of m) h (marks_of_pieces s.reading.kind (left_at_end s.reading.kind s.reading.piece) ++ stop ∷ []) with_start ∙ ap (λ (r : List Mark). docs_marks (closed_documents fed) ++ r) (closing s fed met h))
+    ∙ sym (met-more s fed met (marks_of m) h (marks_of_pieces s.reading.kind (left_at_end s.reading.kind s.reading.piece) ++ stop ∷ []) with_start
+    ∙ ap (λ (r : List Mark). docs_marks (closed_documents fed) ++ r) (closing s fed met h))
 
 pub end-closed : (s : Scanning) (m : Meeting) (fed : List ℕ) (met : List Mark) → s.is_open ≡ false → marks_of m ≡ [] → HasMet s fed met → marks fed ≡ met ++ marks_of m
 end-closed s m fed met is none h =
     let docs : documents fed ≡ closed_documents fed = documents-are fed ∙ ap (λ b. closed_documents fed ++ cond b (open_part fed ∷ []) []) (sym h.same ∙ is) ∙ append-nil (closed_documents fed) in
-    ap docs_marks docs ∙ sym (ap (λ (x : List Mark). met ++ x) none ∙ append-nil met ∙ h.marks_are ∙ ap (λ b. docs_marks (closed_documents fed) ++ marks_of_open b h.told) is ∙ append-nil (docs_marks (closed_documents fed)))
+    ap docs_marks docs ∙ sym (ap (λ (x : List Mark). met ++ x) none ∙ append-nil met ∙ h.marks_are
+    ∙ ap (λ b. docs_marks (closed_documents fed) ++ marks_of_open b h.told) is ∙ append-nil (docs_marks (closed_documents fed)))
 
 -- ---- whatever follows
 
@@ -297,8 +320,13 @@ marks-go_on s fed met h more = by s.is_open refl
         let g = go-on fed more in
         let f = g.first (sym h.same ∙ is) in
         let after : List Mark = marks_of_pieces (kind_after Words h.told) (pieces_from s.reading.kind (s.reading.piece ++ f.0)) ++ stop ∷ [] in
-        let doc : marks_of_document (open_part fed ++ f.0) ≡ start ∷ (marks_of_pieces Words h.told ++ after) = marks-of_document (open_part fed ++ f.0) h.told (pieces_from s.reading.kind (s.reading.piece ++ f.0)) (h.reads.goes_on f.0) in
+        let doc : marks_of_document (open_part fed ++ f.0) ≡ start ∷ (marks_of_pieces Words h.told ++ after) =
+        marks-of_document (open_part fed ++ f.0) h.told (pieces_from s.reading.kind (s.reading.piece ++ f.0)) (h.reads.goes_on f.0) in
         let all : met ≡ before ++ (start ∷ marks_of_pieces Words h.told) = h.marks_are ∙ ap (λ b. before ++ marks_of_open b h.told) is in
         let others : List Mark = docs_marks f.1 in
-        let first : docs_marks g.rest ≡ (start ∷ marks_of_pieces Words h.told) ++ (after ++ others) = ap docs_marks f.2 ∙ ap (λ (r : List Mark). r ++ others) doc ∙ append_assoc (start ∷ marks_of_pieces Words h.told) after others in
-        (after ++ others, ap docs_marks g.whole ∙ docs-append (closed_documents fed) g.rest ∙ ap (λ (r : List Mark). before ++ r) first ∙ sym (append_assoc before (start ∷ marks_of_pieces Words h.told) (after ++ others)) ∙ sym (ap (λ (a : List Mark). a ++ (after ++ others)) all))
+        let first : docs_marks g.rest ≡ (start ∷ marks_of_pieces Words h.told) ++ (after ++ others) = ap docs_marks f.2
+        ∙ ap (λ (r : List Mark). r ++ others) doc ∙ append_assoc (start ∷ marks_of_pieces Words h.told) after others in (
+          after ++ others,
+          ap docs_marks g.whole ∙ docs-append (closed_documents fed) g.rest ∙ ap (λ (r : List Mark). before ++ r) first
+              ∙ sym (append_assoc before (start ∷ marks_of_pieces Words h.told) (after ++ others)) ∙ sym (ap (λ (a : List Mark). a ++ (after ++ others)) all),
+        )

@@ -77,30 +77,43 @@ pairs_room s files met is low =
     omega (arith, is.pairs, more, most, small)
 
 -- the stream whose turn it is
-pub turn_now : (s : Inversion) (files : Option Files) (met : List Mark) (kind : Stream) → ((left put pairs : ℕ) → left + put ≡ 2 * pairs → turn left ≡ turn put) → HasWritten s files met → s.text.is_open ≡ true → kind ≡ turn (piece_count_from 0 met) → kind ≡ turn s.text.left
+pub turn_now : (s : Inversion) (files : Option Files) (met : List Mark) (kind : Stream) →
+    ((left put pairs : ℕ) → left + put ≡ 2 * pairs → turn left ≡ turn put) → HasWritten s files met → s.text.is_open ≡ true →
+    kind ≡ turn (piece_count_from 0 met) → kind ≡ turn s.text.left
 turn_now s files met kind law is is_open at = at ∙ sym (law s.left (piece_count_from 0 met) (get_or s.plan.pairs (s.doc - 1) 0) (is.put is_open)) ∙ ap turn is.left
 
 -- the codeword of a symbol is that of its piece
-pub put_bits : (kind : Stream) (code model : TextCode) (symbol : ℕ) (x : List ℕ) (old w : TextWriting) (f g : Option Files) → model ≡ code → number_of (code_of kind model).pieces x ≡ symbol → ((docs : List Bits) (bits : Bits) → IsOnText old f docs bits → IsOnText w g docs (bits ++ codeword (code_of kind model).lengths symbol))
+pub put_bits : (kind : Stream) (code model : TextCode) (symbol : ℕ) (x : List ℕ) (old w : TextWriting) (f g : Option Files) → model ≡ code →
+    number_of (code_of kind model).pieces x ≡ symbol → ((docs : List Bits) (bits : Bits) → IsOnText old f docs bits →
+    IsOnText w g docs (bits ++ codeword (code_of kind model).lengths symbol))
     → (docs : List Bits) (bits : Bits) → IsOnText old f docs bits → IsOnText w g docs (bits ++ piece_bits code kind x)
 put_bits kind code model symbol x old w f g same number took docs bits on =
     subst (λ (c : TextCode). IsOnText w g docs (bits ++ piece_bits c kind x)) same
     (subst (λ (s : ℕ). IsOnText w g docs (bits ++ codeword (code_of kind model).lengths s)) (sym number) (took docs bits on))
 
 -- an occurrence more can be taken
-pub few_taken : (s : Inversion) (files : Option Files) (met : List Mark) (kind : Stream) (x : List ℕ) (term : ℕ) (collection : List ℕ) → Some term ≡ term_at kind s.plan.terms.terms x → HasWritten s files met → IsFrontOf (met ++ piece kind x ∷ []) collection → s.index.occurrences < 2 ^ 32 - 1
+pub few_taken : (s : Inversion) (files : Option Files) (met : List Mark) (kind : Stream) (x : List ℕ) (term : ℕ) (collection : List ℕ) →
+    Some term ≡ term_at kind s.plan.terms.terms x → HasWritten s files met → IsFrontOf (met ++ piece kind x ∷ []) collection → s.index.occurrences < 2 ^ 32 - 1
 few_taken s files met kind x term collection term_is is front =
     let few = one_more_term s.plan.terms.terms met kind x term collection term_is front in
     omega (arith, few, is.index.occurrences)
 
-pub may_follow : (s : Inversion) (files : Option Files) (met : List Mark) (term : ℕ) → term < length s.plan.terms.terms → 1 ≤ s.doc → s.index.occurrences < 2 ^ 32 - 1 → HasWritten s files met → MayFollow (length s.plan.terms.terms) (occurring_by s.plan met) term s.doc
+pub may_follow : (s : Inversion) (files : Option Files) (met : List Mark) (term : ℕ) → term < length s.plan.terms.terms → 1 ≤ s.doc →
+    s.index.occurrences < 2 ^ 32 - 1 → HasWritten s files met → MayFollow (length s.plan.terms.terms) (occurring_by s.plan met) term s.doc
 may_follow s files met term known some few is =
     let doc : 0 + starts met ≡ s.doc = omega (arith, is.doc) in
-    record { known = known; some = some; order = subst (λ (n : ℕ). NeverFall 0 (occurring_by s.plan met) n) doc (met_in_order s.plan.terms.terms 0 met); few = omega (arith, few, is.index.occurrences) }
+    record {
+      known = known;
+      some = some;
+      order = subst (λ (n : ℕ). NeverFall 0 (occurring_by s.plan met) n) doc (met_in_order s.plan.terms.terms 0 met);
+      few = omega (arith, few, is.index.occurrences);
+    }
 
 -- ---- steps
 
-pub wrote_nothing : (s : Inversion) (files : Option Files) → s.text.base ≡ s.base → s.index.runs.base ≡ s.base → IsPlan s.plan → IsOnText s.text files [] [] → HasTaken s.index files (length s.plan.terms.terms) [] → s.doc ≡ 0 → s.left ≡ 0 → s.text.docs ≡ 0 → s.text.pairs ≡ 0 → s.text.is_open ≡ false → HasWritten s files []
+pub wrote_nothing : (s : Inversion) (files : Option Files) → s.text.base ≡ s.base → s.index.runs.base ≡ s.base → IsPlan s.plan → IsOnText s.text files [] [] →
+    HasTaken s.index files (length s.plan.terms.terms) [] → s.doc ≡ 0 → s.left ≡ 0 → s.text.docs ≡ 0 → s.text.pairs ≡ 0 → s.text.is_open ≡ false →
+    HasWritten s files []
 wrote_nothing s files text_base runs_base planned text index doc left docs pairs closed = record {
   text_base = text_base;
   runs_base = runs_base;
@@ -116,8 +129,11 @@ wrote_nothing s files text_base runs_base planned text index doc left docs pairs
   put = λ is. absurd cc;
 }
 
-pub wrote_start : (old : Inversion) (w : TextWriting) (f g : Option Files) (met : List Mark) (pairs : ℕ) → old.text.is_open ≡ false → pairs ≡ get_or old.plan.pairs old.doc 0 → old.doc < length old.plan.pairs → ((docs : List Bits) → IsOnText old.text f docs [] → IsOnText w g docs (gamma (pairs + 1))) → Began old.text w pairs → w.base ≡ old.text.base
-    → ((terms : ℕ) (fed : List (ℕ × ℕ)) → HasTaken old.index f terms fed → HasTaken old.index g terms fed) → HasWritten old f met → HasWritten (record { base = old.base; plan = old.plan; text = w; index = old.index; doc = old.doc + 1; left = 2 * pairs }) g (met ++ start ∷ [])
+pub wrote_start : (old : Inversion) (w : TextWriting) (f g : Option Files) (met : List Mark) (pairs : ℕ) → old.text.is_open ≡ false →
+    pairs ≡ get_or old.plan.pairs old.doc 0 → old.doc < length old.plan.pairs →
+    ((docs : List Bits) → IsOnText old.text f docs [] → IsOnText w g docs (gamma (pairs + 1))) → Began old.text w pairs → w.base ≡ old.text.base
+    → ((terms : ℕ) (fed : List (ℕ × ℕ)) → HasTaken old.index f terms fed → HasTaken old.index g terms fed) → HasWritten old f met →
+    HasWritten (record { base = old.base; plan = old.plan; text = w; index = old.index; doc = old.doc + 1; left = 2 * pairs }) g (met ++ start ∷ [])
 wrote_start old w f g met pairs closed here room took began base kept is =
     let none = none_open old f met closed is in
     let bits : gamma (pairs + 1) ≡ open_by old.plan (met ++ start ∷ []) = ap (λ n. gamma (n + 1)) (here ∙ ap (λ k. get_or old.plan.pairs k 0) is.doc) ∙ sym (open_start old.plan met) in
@@ -132,7 +148,8 @@ wrote_start old w f g met pairs closed here room took began base kept is =
       runs_base = is.runs_base;
       planned = is.planned;
       text = subst (λ (b : Bits). IsOnText w g (coded_by old.plan (met ++ start ∷ [])) b) bits text;
-      index = subst (λ (fed : List (ℕ × ℕ)). HasTaken old.index g (length old.plan.terms.terms) fed) (sym (occurring_start old.plan met)) (kept (length old.plan.terms.terms) (occurring_by old.plan met) is.index);
+      index = subst (λ (fed : List (ℕ × ℕ)). HasTaken old.index g (length old.plan.terms.terms) fed) (sym (occurring_start old.plan met))
+          (kept (length old.plan.terms.terms) (occurring_by old.plan met) is.index);
       doc = omega (arith, is.doc, parts);
       left = sym began.left;
       docs = began.docs ∙ ap (λ n. n + 1) is.docs;
@@ -142,8 +159,13 @@ wrote_start old w f g met pairs closed here room took began base kept is =
       put = λ o. omega (arith, pieces, place, here);
     }
 
-pub wrote_piece : (old : Inversion) (w : TextWriting) (index : Indexing) (f h : Option Files) (met : List Mark) (kind : Stream) (x : List ℕ) (term : Option ℕ) → 0 < old.left → term ≡ term_at kind old.plan.terms.terms x → ((docs : List Bits) (bits : Bits) → IsOnText old.text f docs bits → IsOnText w h docs (bits ++ piece_bits old.plan.code kind x)) → PutOne old.text w → w.base ≡ old.text.base
-    → index.runs.base ≡ old.index.runs.base → HasTaken index h (length old.plan.terms.terms) (occurring_by old.plan met ++ with_doc (starts met) term) → HasWritten old f met → HasWritten (record { base = old.base; plan = old.plan; text = w; index = index; doc = old.doc; left = old.left - 1 }) h (met ++ piece kind x ∷ [])
+pub wrote_piece : (old : Inversion) (w : TextWriting) (index : Indexing) (f h : Option Files) (met : List Mark) (kind : Stream) (x : List ℕ) (term : Option ℕ) →
+    0 < old.left → term ≡ term_at kind old.plan.terms.terms x →
+    ((docs : List Bits) (bits : Bits) → IsOnText old.text f docs bits → IsOnText w h docs (bits ++ piece_bits old.plan.code kind x)) → PutOne old.text w →
+    w.base ≡ old.text.base
+    → index.runs.base ≡ old.index.runs.base → HasTaken index h (length old.plan.terms.terms) (occurring_by old.plan met ++ with_doc (starts met) term) →
+    HasWritten old f met → HasWritten (record { base = old.base; plan = old.plan; text = w; index = index; doc = old.doc; left = old.left - 1 }) h
+    (met ++ piece kind x ∷ [])
 wrote_piece old w index f h met kind x term more term_is took put base runs_base taken is =
     let bits : Bits = open_by old.plan met ++ piece_bits old.plan.code kind x in
     let text : IsOnText w h (coded_by old.plan met) bits = took (coded_by old.plan met) (open_by old.plan met) is.text in
@@ -165,7 +187,9 @@ wrote_piece old w index f h met kind x term more term_is took put base runs_base
       put = λ o. let was = is.put (sym put.is_open ∙ o) in omega (arith, pieces, was);
     }
 
-pub wrote_stop : (old : Inversion) (w : TextWriting) (f g : Option Files) (met : List Mark) → old.left ≡ 0 → ((docs : List Bits) (bits : Bits) → IsOnText old.text f docs bits → IsOnText w g (docs ++ bits ∷ []) []) → Ended old.text w → w.base ≡ old.text.base → ((terms : ℕ) (fed : List (ℕ × ℕ)) → HasTaken old.index f terms fed → HasTaken old.index g terms fed)
+pub wrote_stop : (old : Inversion) (w : TextWriting) (f g : Option Files) (met : List Mark) → old.left ≡ 0 →
+    ((docs : List Bits) (bits : Bits) → IsOnText old.text f docs bits → IsOnText w g (docs ++ bits ∷ []) []) → Ended old.text w → w.base ≡ old.text.base →
+    ((terms : ℕ) (fed : List (ℕ × ℕ)) → HasTaken old.index f terms fed → HasTaken old.index g terms fed)
     → HasWritten old f met → HasWritten (record { base = old.base; plan = old.plan; text = w; index = old.index; doc = old.doc; left = old.left }) g (met ++ stop ∷ [])
 wrote_stop old w f g met none took ended base kept is =
     let text : IsOnText w g (coded_by old.plan met ++ open_by old.plan met ∷ []) [] = took (coded_by old.plan met) (open_by old.plan met) is.text in
@@ -176,7 +200,8 @@ wrote_stop old w f g met none took ended base kept is =
       runs_base = is.runs_base;
       planned = is.planned;
       text = subst (λ (b : Bits). IsOnText w g (coded_by old.plan (met ++ stop ∷ [])) b) (sym (open_stop old.plan met)) text;
-      index = subst (λ (fed : List (ℕ × ℕ)). HasTaken old.index g (length old.plan.terms.terms) fed) (sym (occurring_stop old.plan met)) (kept (length old.plan.terms.terms) (occurring_by old.plan met) is.index);
+      index = subst (λ (fed : List (ℕ × ℕ)). HasTaken old.index g (length old.plan.terms.terms) fed) (sym (occurring_stop old.plan met))
+          (kept (length old.plan.terms.terms) (occurring_by old.plan met) is.index);
       doc = omega (arith, is.doc, parts);
       left = none ∙ sym ended.left;
       docs = ended.docs ∙ is.docs;

@@ -92,7 +92,8 @@ pub parts_wider : (less more : Part → Type 0) (base : List ℕ) (f g : Option 
 parts_wider less more base f g wider wrote = record { told = wrote.told; others = λ name away. wrote.others name (λ q of. away q (wider q of)) }
 
 -- a part that is none of these is as before
-pub kept : (parts : Part → Type 0) (base : List ℕ) (f g : Option Files) (p : Part) → ((q : Part) → parts q → number q ≢ number p) → WroteParts parts base f g → file_at g (full_name base p) ≡ file_at f (full_name base p)
+pub kept : (parts : Part → Type 0) (base : List ℕ) (f g : Option Files) (p : Part) → ((q : Part) → parts q → number q ≢ number p) → WroteParts parts base f g →
+    file_at g (full_name base p) ≡ file_at f (full_name base p)
 kept parts base f g p other wrote = wrote.others (full_name base p) (λ q of e. other q of (sym (ap number (same_part_of_name base p q e))))
 
 -- and so are files of other names
@@ -111,14 +112,16 @@ others_both base f g h one two = record { told = two.told ∙ one.told; others =
 pub bytes_kept : (f g : Option Files) (name : List ℕ) → file_at g name ≡ file_at f name → bytes_at g name ≡ bytes_at f name
 bytes_kept f g name same = ap (λ (file : Option (List ℕ)). unwrap_or file []) same
 
-pub models_kept : (f g : Option Files) (base : List ℕ) (code : TextCode) → file_at g (full_name base Words) ≡ file_at f (full_name base Words) → file_at g (full_name base Nonwords) ≡ file_at f (full_name base Nonwords) → PartsHold f base code → PartsHold g base code
+pub models_kept : (f g : Option Files) (base : List ℕ) (code : TextCode) → file_at g (full_name base Words) ≡ file_at f (full_name base Words) →
+    file_at g (full_name base Nonwords) ≡ file_at f (full_name base Nonwords) → PartsHold f base code → PartsHold g base code
 models_kept f g base code words others hold = record {
   words = bytes_kept f g _ words ∙ hold.words;
   others = bytes_kept f g _ others ∙ hold.others;
 }
 
 -- what the writing of the models wrote
-pub models_wrote : (base : List ℕ) (f g : Option Files) → is_some g ≡ is_some f → ((n : List ℕ) → n ≢ full_name base Words → n ≢ full_name base Nonwords → file_at g n ≡ file_at f n) → WroteParts OfPass base f g
+pub models_wrote : (base : List ℕ) (f g : Option Files) → is_some g ≡ is_some f →
+    ((n : List ℕ) → n ≢ full_name base Words → n ≢ full_name base Nonwords → file_at g n ≡ file_at f n) → WroteParts OfPass base f g
 models_wrote base f g told others = record { told = told; others = λ name away. others name (away Words tt) (away Nonwords tt) }
 
 -- the second pass leaves head and models

@@ -33,23 +33,27 @@ stops_change rose same fault other not = absurd other
 
 -- ---- the plan is that of another collection
 
-pub other_documents : (s : Inversion) (files : Option Files) (met : List Mark) (collection : List ℕ) → HasWritten s files met → IsFrontOf (met ++ start ∷ []) collection → length s.plan.pairs ≤ s.doc → ¬ IsPlanOf s.plan collection
+pub other_documents : (s : Inversion) (files : Option Files) (met : List Mark) (collection : List ℕ) → HasWritten s files met →
+    IsFrontOf (met ++ start ∷ []) collection → length s.plan.pairs ≤ s.doc → ¬ IsPlanOf s.plan collection
 other_documents s files met collection is front most of =
     let more = more_documents met collection front in
     let same = ap length of.pairs in
     omega (arith, more, same, is.doc)
 
-open_pairs : (s : Inversion) (files : Option Files) (met : List Mark) (collection : List ℕ) → HasWritten s files met → IsPlanOf s.plan collection → get_or s.plan.pairs (s.doc - 1) 0 ≡ get_or (pair_counts collection) (starts met - 1) 0
+open_pairs : (s : Inversion) (files : Option Files) (met : List Mark) (collection : List ℕ) → HasWritten s files met → IsPlanOf s.plan collection →
+    get_or s.plan.pairs (s.doc - 1) 0 ≡ get_or (pair_counts collection) (starts met - 1) 0
 open_pairs s files met collection is of = ap (λ ns. get_or ns (s.doc - 1) 0) of.pairs ∙ ap (λ k. get_or (pair_counts collection) (k - 1) 0) is.doc
 
-pub other_pieces : (s : Inversion) (files : Option Files) (met : List Mark) (kind : Stream) (x collection : List ℕ) → HasWritten s files met → IsFrontOf (met ++ piece kind x ∷ []) collection → s.text.is_open ≡ true → s.left ≡ 0 → ¬ IsPlanOf s.plan collection
+pub other_pieces : (s : Inversion) (files : Option Files) (met : List Mark) (kind : Stream) (x collection : List ℕ) → HasWritten s files met →
+    IsFrontOf (met ++ piece kind x ∷ []) collection → s.text.is_open ≡ true → s.left ≡ 0 → ¬ IsPlanOf s.plan collection
 other_pieces s files met kind x collection is front is_open none of =
     let more = more_pieces met kind x collection front in
     let same = open_pairs s files met collection is of in
     let put = is.put is_open in
     omega (arith, more, same, put)
 
-pub other_stop : (s : Inversion) (files : Option Files) (met : List Mark) (collection : List ℕ) → HasWritten s files met → IsFrontOf (met ++ stop ∷ []) collection → s.text.is_open ≡ true → 0 < s.left → ¬ IsPlanOf s.plan collection
+pub other_stop : (s : Inversion) (files : Option Files) (met : List Mark) (collection : List ℕ) → HasWritten s files met →
+    IsFrontOf (met ++ stop ∷ []) collection → s.text.is_open ≡ true → 0 < s.left → ¬ IsPlanOf s.plan collection
 other_stop s files met collection is front is_open some of =
     let all = no_more_pieces met collection front in
     let same = open_pairs s files met collection is of in
@@ -60,5 +64,6 @@ pieces_of : (kind : Stream) (p : Plan) (collection : List ℕ) → IsPlanOf p co
 pieces_of Words p collection of = of.code.0.pieces
 pieces_of Others p collection of = of.code.1.pieces
 
-pub other_piece : (p : Plan) (met : List Mark) (kind : Stream) (x collection : List ℕ) → IsFrontOf (met ++ piece kind x ∷ []) collection → position (bytes_eq x) (code_of kind p.code).pieces ≡ None → ¬ IsPlanOf p collection
+pub other_piece : (p : Plan) (met : List Mark) (kind : Stream) (x collection : List ℕ) → IsFrontOf (met ++ piece kind x ∷ []) collection →
+    position (bytes_eq x) (code_of kind p.code).pieces ≡ None → ¬ IsPlanOf p collection
 other_piece p met kind x collection front none of = has_symbol met kind x collection front (sym (ap (position (bytes_eq x)) (pieces_of kind p collection of)) ∙ none)

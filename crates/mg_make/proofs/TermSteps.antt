@@ -24,7 +24,8 @@ use Rattle.mg_make.specs.Listing.{AreOfCollection, HasIndexed, HasList, IsAtList
 within_lists : (collection : List ℕ) (n : ℕ) → n < length (dictionary collection) → n < length (inverted collection)
 within_lists collection n lt = omega (arith, lt, lists_long collection)
 
-pub size_at : (docs : List ℕ) (collection : List ℕ) (n : ℕ) → docs ≡ map length (inverted collection) → n < length (dictionary collection) → length (get_or (inverted collection) n []) ≡ slice_index docs n
+pub size_at : (docs : List ℕ) (collection : List ℕ) (n : ℕ) → docs ≡ map length (inverted collection) → n < length (dictionary collection) →
+    length (get_or (inverted collection) n []) ≡ slice_index docs n
 size_at docs collection n is lt =
     sym (ap (λ xs. slice_index xs n) is ∙ get_or-map (λ (ps : List Posting). length ps) (inverted collection) n [] 0 (within_lists collection n lt))
 
@@ -39,7 +40,8 @@ list_next terms docs collection n merge lists lex sums f lt has =
     let within = number_within terms docs lists.all n collection has.of lt in
     subst (λ xs. IsAtList n merge lists sums f (take n (inverted collection)) xs) (drop_more (inverted collection) n [] (within_lists collection n within)) has.list
 
-pub has_list : (terms : List (List ℕ)) (docs : List ℕ) (collection : List ℕ) (n count : ℕ) (merge : Merging) (lists : Listing) (lex : LexWriting) (sums : List ℕ) (f : Option Files) → n < length terms →
+pub has_list : (terms : List (List ℕ)) (docs : List ℕ) (collection : List ℕ) (n count : ℕ) (merge : Merging) (lists : Listing) (lex : LexWriting)
+    (sums : List ℕ) (f : Option Files) → n < length terms →
     count ≡ slice_index docs n → HasIndexed terms docs collection n merge lists lex sums f → HasList n count merge lists sums f
 has_list terms docs collection n count merge lists lex sums f lt count_is has =
     let within = number_within terms docs lists.all n collection has.of lt in
@@ -64,13 +66,15 @@ has_list terms docs collection n count merge lists lex sums f lt count_is has =
 
 -- ---- what the lexicon tells of a term
 
-pub info_is : (terms : List (List ℕ)) (docs : List ℕ) (collection : List ℕ) (n count post_at skip_at all : ℕ) (t : List ℕ) → AreOfCollection terms docs all collection → n < length terms → slice_get terms n ≡ Some t →
+pub info_is : (terms : List (List ℕ)) (docs : List ℕ) (collection : List ℕ) (n count post_at skip_at all : ℕ) (t : List ℕ) →
+    AreOfCollection terms docs all collection → n < length terms → slice_get terms n ≡ Some t →
     count ≡ slice_index docs n → post_at ≡ length (lists_bits all (take n (inverted collection))) / 8 → skip_at ≡ length (lists_entries all (take n (inverted collection))) →
     take (n + 1) (terms_of collection) ≡ take n (terms_of collection) ++ record { string = t; info = record { docs = count; post_at = post_at; skip_at = skip_at } } ∷ []
 info_is terms docs collection n count post_at skip_at all t of lt t_is count_is post_is skip_is =
     let within = number_within terms docs all n collection of lt in
     let string : get_or (dictionary collection) n [] ≡ t = sym (ap (λ xs. get_or xs n []) of.terms_are) ∙ get_or_from_slice_get terms n t [] t_is in
-    let counted : count ≡ length (postings collection (get_or (dictionary collection) n [])) = count_is ∙ sym (size_at docs collection n of.docs_are within) ∙ ap (λ (ps : List Posting). length ps) (list_of_term collection n within) in
+    let counted : count ≡ length (postings collection (get_or (dictionary collection) n [])) = count_is ∙ sym (size_at docs collection n of.docs_are within)
+    ∙ ap (λ (ps : List Posting). length ps) (list_of_term collection n within) in
     let told : info_of collection n (get_or (dictionary collection) n []) ≡ record { docs = count; post_at = post_at; skip_at = skip_at } =
     same_info _ _ _ _ _ _ (sym (counted ∙ docs-are collection (get_or (dictionary collection) n [])))
     (sym (post_is ∙ ap (λ m. length (lists_bits m (take n (inverted collection))) / 8) of.all_are))

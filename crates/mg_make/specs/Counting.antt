@@ -51,7 +51,8 @@ StopsAt met next _ = ⊥
 
 -- why a piece is not counted
 abbrev pub PieceStops : Stream → List (List ℕ × ℕ) → List ℕ → Fault → Type 0
-PieceStops kind entries bytes (TooManyPieces stream) = (stream ≡ kind) × (has_piece entries bytes ≡ false) × (length entries ≡ version_2.pieces)
+PieceStops kind entries bytes (TooManyPieces stream) = (stream ≡ kind) × (has_piece entries bytes ≡ false)
+    × (length entries ≡ version_2.pieces)
 PieceStops kind entries bytes Memory = Unit {0}
 PieceStops kind entries bytes _ = ⊥
 

@@ -21,4 +21,5 @@ pub record AreDocCounts (c : DocCounting) (terms : ℕ) (fed : List (ℕ × ℕ)
 -- after one occurrence more, of a term in a document that is not before the last one that has it, they are the counts of that too
 abbrev pub CountsOneMore : DocCounting → DocCounting → ℕ → ℕ → Type 0
 CountsOneMore old new term doc =
-    (fed : List (ℕ × ℕ)) → AreDocCounts old (length old.docs) fed → last_with term 0 fed ≤ doc → AreDocCounts new (length old.docs) (fed ++ (term, doc) ∷ [])
+    (fed : List (ℕ × ℕ)) → AreDocCounts old (length old.docs) fed → last_with term 0 fed ≤ doc →
+    AreDocCounts new (length old.docs) (fed ++ (term, doc) ∷ [])

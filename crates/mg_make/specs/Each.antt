@@ -11,4 +11,5 @@ RefusedUnless faults before now fact result = IfErr result (ListStops (Rose (fau
 
 -- refused where the store failed or for want of memory, and for damage or a change only where this is so of no collection
 abbrev pub RefusedIfNone : {X T : Type 0} → (X → ℕ) → X → X → (List ℕ → Type 0) → Result T Fault → Type 0
-RefusedIfNone faults before now given result = IfErr result (λ fault. (collection : List ℕ) → ListStops (Rose (faults before) (faults now)) (given collection) fault)
+RefusedIfNone faults before now given result = IfErr result (λ fault. (collection : List ℕ) →
+    ListStops (Rose (faults before) (faults now)) (given collection) fault)

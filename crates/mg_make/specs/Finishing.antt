@@ -31,17 +31,19 @@ budget_of s = s.index.runs.pool.limit
 
 -- A pass that wrote these marks ends with this: the parts are written, the merge has all postings, and the numbers are those of the marks.
 -- There are as many documents as were planned.
-pub record EndsWith (s : Inversion) (met : List Mark) (files_before files_now : Option Files) (r : Inverted) : Type 0 where
-  pub documents : starts met ≡ length s.plan.pairs
-  pub text : IsSome files_before → DocumentsStand s.base files_now (coded_by s.plan met)
-  pub size : r.text_bytes ≡ length (text_bytes (coded_by s.plan met))
-  pub run : IsSome files_before → bytes_at files_now (full_name s.base Run) ≡ as_bytes (run_part_bits (run_cap (budget_of s)) (occurring_by s.plan met))
-  pub merge : IsMerging r.merge files_now (term_postings (occurring_by s.plan met))
-  pub base : r.merge.base ≡ s.base
-  pub runs : r.merge.runs ≡ run_count (length (occurring_by s.plan met)) (run_cap (budget_of s))
-  pub peak : r.merge.peak ≡ pool_peak (length (occurring_by s.plan met)) (budget_of s)
-  pub counts : AreDocCounts r.counts (length s.plan.terms.terms) (occurring_by s.plan met)
-  pub occurrences : r.occurrences ≡ length (occurring_by s.plan met)
+pub record EndsWith (s : Inversion) (met : List Mark) (files_before files_now : Option Files) (r : Inverted) : Type 0
+  where
+    pub documents : starts met ≡ length s.plan.pairs
+    pub text : IsSome files_before → DocumentsStand s.base files_now (coded_by s.plan met)
+    pub size : r.text_bytes ≡ length (text_bytes (coded_by s.plan met))
+    pub run : IsSome files_before → bytes_at files_now (full_name s.base Run)
+        ≡ as_bytes (run_part_bits (run_cap (budget_of s)) (occurring_by s.plan met))
+    pub merge : IsMerging r.merge files_now (term_postings (occurring_by s.plan met))
+    pub base : r.merge.base ≡ s.base
+    pub runs : r.merge.runs ≡ run_count (length (occurring_by s.plan met)) (run_cap (budget_of s))
+    pub peak : r.merge.peak ≡ pool_peak (length (occurring_by s.plan met)) (budget_of s)
+    pub counts : AreDocCounts r.counts (length s.plan.terms.terms) (occurring_by s.plan met)
+    pub occurrences : r.occurrences ≡ length (occurring_by s.plan met)
 
 -- a merge of the runs of these occurrences
 pub record IsMergeOf (runs_in : Inverting) (g h : Option Files) (merge : Merging) (fed : List (ℕ × ℕ)) : Type 0 where
@@ -57,16 +59,19 @@ pub record IsMergeOf (runs_in : Inverting) (g h : Option Files) (merge : Merging
   pub base : merge.base ≡ runs_in.base
 
 -- the text of a pass is ended, where as many documents were written as were planned
-pub record TextEnd (old new : Inversion) (result : Result ℕ Fault) (files_before files_now : Option Files) (reads_before reads_now : Reads)
+pub record TextEnd (old new : Inversion) (result : Result ℕ Fault) (files_before files_now : Option Files)
+    (reads_before reads_now : Reads)
     (faults_before faults_now : ℕ) : Type 0 where
   -- what goes on is as it was
   pub index : new.index ≡ old.index
   -- there are as many documents as were planned
   pub all : OnOk result (length old.plan.pairs ≤ old.doc)
   -- the parts of the text have the documents
-  pub stands : OnOk result ((docs : List Bits) → IsOnText old.text files_before docs [] → IsSome files_before → DocumentsStand old.text.base files_now docs)
+  pub stands : OnOk result ((docs : List Bits) → IsOnText old.text files_before docs [] → IsSome files_before →
+      DocumentsStand old.text.base files_now docs)
   -- the size of the text
-  pub answer : IfOk result (λ size. (docs : List Bits) → IsOnText old.text files_before docs [] → size ≡ length (text_bytes docs))
+  pub answer : IfOk result (λ size. (docs : List Bits) → IsOnText old.text files_before docs [] →
+      size ≡ length (text_bytes docs))
   -- whether the store tells its files stays
   pub told : is_some files_now ≡ is_some files_before
   -- no file was written but the parts of the text
@@ -81,8 +86,10 @@ pub record TextEnd (old new : Inversion) (result : Result ℕ Fault) (files_befo
 
 -- no part was read but those of the runs
 abbrev pub ReadRuns : Reads → Reads → Type 0
-ReadRuns before now = (p : AnyPart) → same_part p Run ≡ false → same_part p MergeA ≡ false → same_part p MergeB ≡ false → now p ≡ before p
+ReadRuns before now = (p : AnyPart) → same_part p Run ≡ false → same_part p MergeA ≡ false →
+    same_part p MergeB ≡ false → now p ≡ before p
 
 -- whatever marks it wrote, a pass that wrote them ends with this
 abbrev pub HandsOn : {E : Type 0} → Inversion → Option Files → Option Files → Result Inverted E → Type 0
-HandsOn s files files_now result = (met : List Mark) → HasWritten s files met → IfOk result (λ (inverted : Inverted). EndsWith s met files files_now inverted)
+HandsOn s files files_now result = (met : List Mark) → HasWritten s files met →
+    IfOk result (λ (inverted : Inverted). EndsWith s met files files_now inverted)

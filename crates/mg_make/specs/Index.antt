@@ -21,7 +21,8 @@ use Rattle.mg_make.specs.Plans.{IsPlanOf, Plan}
 use Rattle.mg_make.specs.declared.lists.Sizes.{Sizes}
 
 -- The store tells its files, plan and counts are those of a collection, and the merge has the postings of all its occurrences left.
-pub record IsInverted (p : Plan) (counts : DocCounting) (collection : List ℕ) (merge : Merging) (files : Option Files) : Type 0 where
+pub record IsInverted (p : Plan) (counts : DocCounting) (collection : List ℕ) (merge : Merging) (files : Option Files) :
+    Type 0 where
   pub told : IsSome files
   pub plan_is : IsPlanOf p collection
   pub few : length collection < 2 ^ 32

@@ -37,4 +37,5 @@ OfRuns p = ⊥
 -- whatever occurrences were taken, one more is taken behind them, where it may follow
 abbrev pub TakesOneMore : Indexing → Indexing → Option Files → Option Files → ℕ → ℕ → Type 0
 TakesOneMore old new files files_now term doc =
-    (terms : ℕ) (fed : List (ℕ × ℕ)) → HasTaken old files terms fed → MayFollow terms fed term doc → HasTaken new files_now terms (fed ++ (term, doc) ∷ [])
+    (terms : ℕ) (fed : List (ℕ × ℕ)) → HasTaken old files terms fed → MayFollow terms fed term doc →
+    HasTaken new files_now terms (fed ++ (term, doc) ∷ [])

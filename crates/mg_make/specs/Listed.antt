@@ -25,84 +25,103 @@ use Rattle.mg_make.specs.declared.lists.Terms.{Terms}
 
 -- where the store tells its files, this is so of the posting that is left first
 abbrev pub ForFirstLeft : Merging → Option Files → (TermPosting → Type 0) → Type 0
-ForFirstLeft merge files holds = IsSome files → (p : TermPosting) (left : List TermPosting) → IsMerging merge files (p ∷ left) → holds p
+ForFirstLeft merge files holds = IsSome files → (p : TermPosting) (left : List TermPosting) →
+    IsMerging merge files (p ∷ left) → holds p
 
 -- if the sums were those of some lists, they are those of the lists with this posting behind the last
 abbrev pub SumsTake : Vec ℕ Global → Vec ℕ Global → Posting → Type 0
 SumsTake sums sums_now posting =
-    (done : List (List Posting)) (ps : List Posting) → SquaresFit (done ++ (ps ++ posting ∷ []) ∷ []) → AreSquares sums.items (done ++ ps ∷ [])
+    (done : List (List Posting)) (ps : List Posting) → SquaresFit (done ++ (ps ++ posting ∷ []) ∷ []) →
+    AreSquares sums.items (done ++ ps ∷ [])
     → AreSquares sums_now.items (done ++ (ps ++ posting ∷ []) ∷ [])
 
 -- whatever the writer of lists took, this posting is taken behind it
 abbrev pub ListTakes : Listing → Listing → Option Files → Option Files → Posting → Type 0
 ListTakes lists lists_now files files_now posting =
-    (done : List (List Posting)) (ps : List Posting) → Took lists files done ps → Took lists_now files_now done (ps ++ posting ∷ [])
+    (done : List (List Posting)) (ps : List Posting) → Took lists files done ps →
+    Took lists_now files_now done (ps ++ posting ∷ [])
 
 -- where the store tells its files, the first posting that is left of the list of a number is taken
-abbrev pub TakesPosting : {X T E : Type 0} → ℕ → Merging → Merging → Listing → Listing → Vec ℕ Global → Vec ℕ Global → (X → Option Files) → X → X → Result T E → Type 0
+abbrev pub TakesPosting : {X T E : Type 0} → ℕ → Merging → Merging → Listing → Listing → Vec ℕ Global → Vec ℕ Global →
+    (X → Option Files) → X → X → Result T E → Type 0
 TakesPosting number merge merge_now lists lists_now sums sums_now files store store_now result =
-    IsSome (files store) → (done : List (List Posting)) (ps : List Posting) (p : Posting) (left : List Posting) (later : List TermPosting)
+    IsSome (files store) → (done : List (List Posting)) (ps : List Posting) (p : Posting) (left : List Posting)
+    (later : List TermPosting)
     → IsInList number merge lists sums.items (files store) done ps (p ∷ left) later
     → OnOk result (IsInList number merge_now lists_now sums_now.items (files store_now) done (ps ++ p ∷ []) left later)
 
 -- where the store tells its files, the first so many postings that are left of the list of a number are taken
-abbrev pub TakesPostings : {X T E : Type 0} → ℕ → ℕ → Merging → Merging → Listing → Listing → Vec ℕ Global → Vec ℕ Global → (X → Option Files) → X → X → Result T E → Type 0
+abbrev pub TakesPostings : {X T E : Type 0} → ℕ → ℕ → Merging → Merging → Listing → Listing → Vec ℕ Global →
+    Vec ℕ Global → (X → Option Files) → X → X → Result T E → Type 0
 TakesPostings docs number merge merge_now lists lists_now sums sums_now files store store_now result =
-    IsSome (files store) → (done : List (List Posting)) (ps left : List Posting) (later : List TermPosting) → docs ≤ length left
+    IsSome (files store) → (done : List (List Posting)) (ps left : List Posting) (later : List TermPosting) →
+    docs ≤ length left
     → IsInList number merge lists sums.items (files store) done ps left later
-    → OnOk result (IsInList number merge_now lists_now sums_now.items (files store_now) done (ps ++ take docs left) (drop docs left) later)
+    → OnOk result (IsInList number merge_now lists_now sums_now.items (files store_now) done (ps ++ take docs left)
+    (drop docs left) later)
 
 -- ---- between lists
 
 -- where the store tells its files, this is so of the lists that are done, the next one, of so many postings, and those that follow
-abbrev pub ForListLeft : ℕ → ℕ → Merging → Listing → Vec ℕ Global → Option Files → (List (List Posting) → List Posting → List (List Posting) → Type 0) → Type 0
+abbrev pub ForListLeft : ℕ → ℕ → Merging → Listing → Vec ℕ Global → Option Files →
+    (List (List Posting) → List Posting → List (List Posting) → Type 0) → Type 0
 ForListLeft docs number merge lists sums files holds =
     IsSome files → (done : List (List Posting)) (ps : List Posting) (more : List (List Posting)) → length ps ≡ docs
     → IsAtList number merge lists sums.items files done (ps ∷ more) → holds done ps more
 
 -- where the store tells its files, the next list, of so many postings and of the term of a number, is done
-abbrev pub EndsList : {X T E : Type 0} → ℕ → ℕ → Merging → Merging → Listing → Listing → Vec ℕ Global → Vec ℕ Global → (X → Option Files) → X → X → Result T E → Type 0
+abbrev pub EndsList : {X T E : Type 0} → ℕ → ℕ → Merging → Merging → Listing → Listing → Vec ℕ Global → Vec ℕ Global →
+    (X → Option Files) → X → X → Result T E → Type 0
 EndsList docs number merge merge_now lists lists_now sums sums_now files store store_now result =
     ForListLeft docs number merge lists sums (files store)
-    (λ done ps more. OnOk result (IsAtList (number + 1) merge_now lists_now sums_now.items (files store_now) (done ++ ps ∷ []) more))
+    (λ done ps more. OnOk result (IsAtList (number + 1) merge_now lists_now sums_now.items (files store_now)
+    (done ++ ps ∷ []) more))
 
 -- the list begins in Post behind those that are done
-abbrev pub BeginsInPost : {E : Type 0} → ℕ → Result (ℕ × ℕ) E → List (List Posting) → List Posting → List (List Posting) → Type 0
+abbrev pub BeginsInPost : {E : Type 0} → ℕ → Result (ℕ × ℕ) E → List (List Posting) → List Posting →
+    List (List Posting) → Type 0
 BeginsInPost all result done ps more = IfOk result (λ at. at.0 ≡ length (lists_bits all done) / 8)
 
 -- its skip entries begin behind those of the lists that are done
-abbrev pub BeginsInSkip : {E : Type 0} → ℕ → Result (ℕ × ℕ) E → List (List Posting) → List Posting → List (List Posting) → Type 0
+abbrev pub BeginsInSkip : {E : Type 0} → ℕ → Result (ℕ × ℕ) E → List (List Posting) → List Posting →
+    List (List Posting) → Type 0
 BeginsInSkip all result done ps more = IfOk result (λ at. at.1 ≡ length (lists_entries all done))
 
 -- ---- between terms
 
 -- the store tells its files, and lists and lexicon are those of a collection as far as the terms below a number
 abbrev pub IndexedTo : ℕ → Terms → Merging → IndexWriter → Vec ℕ Global → Option Files → List ℕ → Type 0
-IndexedTo number terms merge writer sums files collection = HasIndexed terms.table.now.terms terms.counts.now.docs collection number merge writer.lists writer.lex sums.items files
+IndexedTo number terms merge writer sums files collection = HasIndexed terms.table.now.terms terms.counts.now.docs
+    collection number merge writer.lists writer.lex sums.items files
 
 -- the same, of all terms to be indexed
 abbrev pub ToIndex : Terms → Merging → IndexWriter → Vec ℕ Global → Option Files → List ℕ → Type 0
 ToIndex terms merge writer sums files collection = IndexedTo 0 terms merge writer sums files collection
 
 -- what was indexed of a collection as far as the one number is indexed as far as the other
-abbrev pub Indexes : {X T E : Type 0} → ℕ → ℕ → Terms → Merging → Merging → IndexWriter → IndexWriter → Vec ℕ Global → Vec ℕ Global → (X → Option Files) → X → X → Result T E → Type 0
+abbrev pub Indexes : {X T E : Type 0} → ℕ → ℕ → Terms → Merging → Merging → IndexWriter → IndexWriter → Vec ℕ Global →
+    Vec ℕ Global → (X → Option Files) → X → X → Result T E → Type 0
 Indexes from to terms merge merge_now writer writer_now sums sums_now files store store_now result =
     (collection : List ℕ) → IndexedTo from terms merge writer sums (files store) collection
     → OnOk result (IndexedTo to terms merge_now writer_now sums_now (files store_now) collection)
 
 -- the term of a number is indexed, behind those below it
-abbrev pub IndexesTerm : {X T E : Type 0} → ℕ → Terms → Merging → Merging → IndexWriter → IndexWriter → Vec ℕ Global → Vec ℕ Global → (X → Option Files) → X → X → Result T E → Type 0
+abbrev pub IndexesTerm : {X T E : Type 0} → ℕ → Terms → Merging → Merging → IndexWriter → IndexWriter → Vec ℕ Global →
+    Vec ℕ Global → (X → Option Files) → X → X → Result T E → Type 0
 IndexesTerm number terms merge merge_now writer writer_now sums sums_now files store store_now result =
     Indexes number (number + 1) terms merge merge_now writer writer_now sums sums_now files store store_now result
 
 -- all terms are indexed
-abbrev pub IndexesAll : {X T E : Type 0} → Terms → Merging → Merging → IndexWriter → IndexWriter → Vec ℕ Global → Vec ℕ Global → (X → Option Files) → X → X → Result T E → Type 0
+abbrev pub IndexesAll : {X T E : Type 0} → Terms → Merging → Merging → IndexWriter → IndexWriter → Vec ℕ Global →
+    Vec ℕ Global → (X → Option Files) → X → X → Result T E → Type 0
 IndexesAll terms merge merge_now writer writer_now sums sums_now files store store_now result =
-    Indexes 0 (length terms.table.now.terms) terms merge merge_now writer writer_now sums sums_now files store store_now result
+    Indexes 0 (length terms.table.now.terms) terms merge merge_now writer writer_now sums sums_now files store store_now
+    result
 
 -- over any store: the lists of the terms below a number are done, and the lexicon has so many terms
 abbrev pub CanIndexTo : ℕ → Terms → Merging → IndexWriter → Vec ℕ Global → Option Files → Type 0
-CanIndexTo number terms merge writer sums files = CanIndex terms.table.now.terms terms.counts.now.docs number merge writer.lists writer.lex sums.items files
+CanIndexTo number terms merge writer sums files = CanIndex terms.table.now.terms terms.counts.now.docs number merge
+    writer.lists writer.lex sums.items files
 
 -- the same of all terms
 abbrev pub HasAllTerms : Terms → Merging → IndexWriter → Vec ℕ Global → Option Files → Type 0
@@ -116,11 +135,13 @@ NothingLeft merge files = IsSome files × IsMerging merge files []
 
 -- the store tells its files, what was counted is of a collection, and its postings are left
 abbrev pub ListsAreLeft : Terms → Vec ℕ Global → Merging → Option Files → List ℕ → Type 0
-ListsAreLeft terms sums merge files collection = HasLists terms.table.now.terms terms.counts.now.docs (length sums.items) collection merge files
+ListsAreLeft terms sums merge files collection = HasLists terms.table.now.terms terms.counts.now.docs
+    (length sums.items) collection merge files
 
 -- this is so of each collection all of whose lists the writer took
 abbrev pub WhereAllTaken : Listing → Option Files → (List ℕ → Type 0) → Type 0
-WhereAllTaken lists files holds = (collection : List ℕ) → lists.all ≡ length (documents collection) → Took lists files (inverted collection) [] → holds collection
+WhereAllTaken lists files holds = (collection : List ℕ) → lists.all ≡ length (documents collection) →
+    Took lists files (inverted collection) [] → holds collection
 
 -- the parts of lists and of the lexicon are those of a collection
 abbrev pub WroteLists : {X T E : Type 0} → (X → Option Files) → X → List ℕ → Result T E → List ℕ → Type 0
@@ -129,12 +150,15 @@ WroteLists files store base result collection = OnOk result (ListsStand (files s
 -- where the store tells its files, they are those of each collection all of whose lists and terms the writers took
 abbrev pub EndsIndex : {X T E : Type 0} → IndexWriter → (X → Option Files) → X → X → Result T E → Type 0
 EndsIndex writer files store store_now result =
-    (collection : List ℕ) → IsSome (files store) → writer.lists.all ≡ length (documents collection) → Took writer.lists (files store) (inverted collection) []
-    → TookTerms writer.lex (files store) (terms_of collection) → WroteLists files store_now writer.lex.base result collection
+    (collection : List ℕ) → IsSome (files store) → writer.lists.all ≡ length (documents collection) →
+    Took writer.lists (files store) (inverted collection) []
+    → TookTerms writer.lex (files store) (terms_of collection) →
+    WroteLists files store_now writer.lex.base result collection
 
 -- the sums are those of the squared weights of a collection's lists
 abbrev pub SumsAreSquares : {T E : Type 0} → Vec ℕ Global → Result T E → List ℕ → Type 0
-SumsAreSquares sums result collection = OnOk result (sums.items ≡ squares_to (length (documents collection)) (inverted collection))
+SumsAreSquares sums result collection = OnOk result
+    (sums.items ≡ squares_to (length (documents collection)) (inverted collection))
 
 -- Post has as many bytes as the lists of a collection take
 abbrev pub HasPostBytes : {E : Type 0} → Result Sizes E → List ℕ → Type 0
@@ -142,8 +166,10 @@ HasPostBytes result collection = IfOk result (λ (sizes : Sizes). sizes.post_byt
 
 -- there are as many skip entries as the lists of a collection have
 abbrev pub HasSkipCount : {E : Type 0} → Result Sizes E → List ℕ → Type 0
-HasSkipCount result collection = IfOk result (λ (sizes : Sizes). sizes.skip_count ≡ length (lists_entries (length (documents collection)) (inverted collection)))
+HasSkipCount result collection = IfOk result (λ (sizes : Sizes). sizes.skip_count
+    ≡ length (lists_entries (length (documents collection)) (inverted collection)))
 
 -- no file changes but the working parts of merging
 abbrev pub OnlyMergesChange : List ℕ → Option Files → Option Files → Type 0
-OnlyMergesChange base files files_now = (n : List ℕ) → n ≢ full_name base MergeA → n ≢ full_name base MergeB → file_at files_now n ≡ file_at files n
+OnlyMergesChange base files files_now = (n : List ℕ) → n ≢ full_name base MergeA → n ≢ full_name base MergeB →
+    file_at files_now n ≡ file_at files n

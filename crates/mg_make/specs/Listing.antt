@@ -79,7 +79,8 @@ pub record HasNext (number all last : ℕ) (merge : Merging) (files : Option Fil
   pub follows : Follows all last posting
 
 -- Behind the lists that are done, these postings of the list of a term's number were taken. The others of the list are left, and those of later terms.
-pub record IsInList (number : ℕ) (merge : Merging) (lists : Listing) (sums : List ℕ) (files : Option Files) (done : List (List Posting)) (ps left : List Posting) (later : List TermPosting) : Type 0 where
+pub record IsInList (number : ℕ) (merge : Merging) (lists : Listing) (sums : List ℕ) (files : Option Files)
+    (done : List (List Posting)) (ps left : List Posting) (later : List TermPosting) : Type 0 where
   pub merging : IsMerging merge files (term_list number left ++ later)
   pub took : Took lists files done ps
   pub rises : Rises lists.all lists.last left
@@ -87,7 +88,8 @@ pub record IsInList (number : ℕ) (merge : Merging) (lists : Listing) (sums : L
   pub summed : AreSquares sums (done ++ ps ∷ [])
 
 -- the store tells its files, and at least so many postings of the list are left
-pub record HasRest (number count : ℕ) (merge : Merging) (lists : Listing) (sums : List ℕ) (files : Option Files) : Type 0 where
+pub record HasRest (number count : ℕ) (merge : Merging) (lists : Listing) (sums : List ℕ) (files : Option Files) : Type
+    0 where
   pub told : IsSome files
   pub done : List (List Posting)
   pub ps : List Posting
@@ -105,7 +107,8 @@ pub record SameMerge (old new : Merging) : Type 0 where
 -- ---- between lists
 
 -- These lists are done. The others are left, the first of them of a term's number.
-pub record IsAtList (number : ℕ) (merge : Merging) (lists : Listing) (sums : List ℕ) (files : Option Files) (done more : List (List Posting)) : Type 0 where
+pub record IsAtList (number : ℕ) (merge : Merging) (lists : Listing) (sums : List ℕ) (files : Option Files)
+    (done more : List (List Posting)) : Type 0 where
   pub merging : IsMerging merge files (by_terms number more)
   pub took : Took lists files done []
   pub rise : AllByRecursion (λ ps. Rises lists.all 0 ps) more
@@ -113,14 +116,15 @@ pub record IsAtList (number : ℕ) (merge : Merging) (lists : Listing) (sums : L
   pub summed : AreSquares sums done
 
 -- the store tells its files, and the next list has so many postings, and some
-pub record HasList (number docs : ℕ) (merge : Merging) (lists : Listing) (sums : List ℕ) (files : Option Files) : Type 0 where
-  pub told : IsSome files
-  pub done : List (List Posting)
-  pub ps : List Posting
-  pub more : List (List Posting)
-  pub size : length ps ≡ docs
-  pub some : 1 ≤ docs
-  pub is : IsAtList number merge lists sums files done (ps ∷ more)
+pub record HasList (number docs : ℕ) (merge : Merging) (lists : Listing) (sums : List ℕ) (files : Option Files) : Type 0
+  where
+    pub told : IsSome files
+    pub done : List (List Posting)
+    pub ps : List Posting
+    pub more : List (List Posting)
+    pub size : length ps ≡ docs
+    pub some : 1 ≤ docs
+    pub is : IsAtList number merge lists sums files done (ps ∷ more)
 
 -- one list more of so many postings is done
 pub record ListedMore (old new : Listing) (docs : ℕ) : Type 0 where
@@ -130,7 +134,8 @@ pub record ListedMore (old new : Listing) (docs : ℕ) : Type 0 where
 -- ---- between terms
 
 -- Over any store: the lists of the terms below a number are done, and the lexicon has so many terms.
-pub record CanIndex (terms : List (List ℕ)) (docs : List ℕ) (number : ℕ) (merge : Merging) (lists : Listing) (lex : LexWriting) (sums : List ℕ) (files : Option Files) : Type 0 where
+pub record CanIndex (terms : List (List ℕ)) (docs : List ℕ) (number : ℕ) (merge : Merging) (lists : Listing)
+    (lex : LexWriting) (sums : List ℕ) (files : Option Files) : Type 0 where
   pub list : CanList merge lists sums files
   pub between : lists.pushed ≡ 0
   pub total : lists.total ≡ sum (take number docs)
@@ -141,16 +146,19 @@ pub record CanIndex (terms : List (List ℕ)) (docs : List ℕ) (number : ℕ) (
   pub last : (k : ℕ) → k + 1 ≡ number → slice_get terms k ≡ Some lex.front.last
 
 -- The store tells its files, and lists and lexicon are those of a collection as far as the terms below a number.
-pub record HasIndexed (terms : List (List ℕ)) (docs : List ℕ) (collection : List ℕ) (number : ℕ) (merge : Merging) (lists : Listing) (lex : LexWriting) (sums : List ℕ) (files : Option Files) : Type 0 where
+pub record HasIndexed (terms : List (List ℕ)) (docs : List ℕ) (collection : List ℕ) (number : ℕ) (merge : Merging)
+    (lists : Listing) (lex : LexWriting) (sums : List ℕ) (files : Option Files) : Type 0 where
   pub told : IsSome files
   pub of : AreOfCollection terms docs lists.all collection
-  pub list : IsAtList number merge lists sums files (take number (inverted collection)) (drop number (inverted collection))
+  pub list : IsAtList number merge lists sums files (take number (inverted collection))
+      (drop number (inverted collection))
   pub took : TookTerms lex files (take number (terms_of collection))
 
 -- ---- what stands
 
 -- The store tells its files, what was counted is of a collection, and its postings are left.
-pub record HasLists (terms : List (List ℕ)) (docs : List ℕ) (all : ℕ) (collection : List ℕ) (merge : Merging) (files : Option Files) : Type 0 where
+pub record HasLists (terms : List (List ℕ)) (docs : List ℕ) (all : ℕ) (collection : List ℕ) (merge : Merging)
+    (files : Option Files) : Type 0 where
   pub told : IsSome files
   pub of : AreOfCollection terms docs all collection
   pub merging : IsMerging merge files (by_terms 0 (inverted collection))

@@ -20,25 +20,54 @@ only_if holds mark = if holds then mark ∷ [] else []
 abbrev pub marks_of : Meeting → List Mark
 marks_of m =
     only_if m.begins start
-    ++ (only_if m.has_piece (piece m.kind m.bytes) ++ (only_if m.has_other (piece (other_kind m.kind) []) ++ only_if m.ends stop))
+    ++ (only_if m.has_piece (piece m.kind m.bytes)
+    ++ (only_if m.has_other (piece (other_kind m.kind) []) ++ only_if m.ends stop))
 
 -- ---- one after the other
 
 -- nothing but maybe the start of a document, after what was met before
 abbrev pub restarted : Bool → Meeting → Meeting
-restarted begins m = record { begins = begins; has_piece = false; has_other = false; ends = false; kind = m.kind; bytes = m.bytes }
+restarted begins m = record {
+  begins = begins;
+  has_piece = false;
+  has_other = false;
+  ends = false;
+  kind = m.kind;
+  bytes = m.bytes;
+}
 
 -- and a piece
 abbrev pub with_piece : Stream → List ℕ → Meeting → Meeting
-with_piece kind bytes m = record { begins = m.begins; has_piece = true; has_other = m.has_other; ends = m.ends; kind = kind; bytes = bytes }
+with_piece kind bytes m = record {
+  begins = m.begins;
+  has_piece = true;
+  has_other = m.has_other;
+  ends = m.ends;
+  kind = kind;
+  bytes = bytes;
+}
 
 -- and an empty piece of the other kind
 abbrev pub with_other : Meeting → Meeting
-with_other m = record { begins = m.begins; has_piece = m.has_piece; has_other = true; ends = m.ends; kind = m.kind; bytes = m.bytes }
+with_other m = record {
+  begins = m.begins;
+  has_piece = m.has_piece;
+  has_other = true;
+  ends = m.ends;
+  kind = m.kind;
+  bytes = m.bytes;
+}
 
 -- and the end of the document
 abbrev pub with_end : Meeting → Meeting
-with_end m = record { begins = m.begins; has_piece = m.has_piece; has_other = m.has_other; ends = true; kind = m.kind; bytes = m.bytes }
+with_end m = record {
+  begins = m.begins;
+  has_piece = m.has_piece;
+  has_other = m.has_other;
+  ends = true;
+  kind = m.kind;
+  bytes = m.bytes;
+}
 
 -- a piece, where there is one
 abbrev pub piece_if : Bool → Stream → List ℕ → List Mark

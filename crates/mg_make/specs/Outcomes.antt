@@ -47,8 +47,10 @@ pub record AreMadeAnew (files : Option Files) (base collection : List ℕ) (cap 
 -- ---- words for contracts of calls that make a set
 
 -- this is so of a store before a call and after it
-abbrev pub BetweenMoments : {X : Type 0} → (X → Option Files) → (X → Reads) → (X → ℕ) → X → X → (StoreAt → StoreAt → Type 0) → Type 0
-BetweenMoments files reads faults before now holds = holds (store_at files reads faults before) (store_at files reads faults now)
+abbrev pub BetweenMoments : {X : Type 0} → (X → Option Files) → (X → Reads) → (X → ℕ) → X → X →
+    (StoreAt → StoreAt → Type 0) → Type 0
+BetweenMoments files reads faults before now holds = holds (store_at files reads faults before)
+    (store_at files reads faults now)
 
 -- a device failed between a call's begin and its end
 abbrev pub Fails : {X : Type 0} → (X → ℕ) → X → X → Type 0
@@ -68,11 +70,13 @@ RefusesSize result size = most_bytes < size → RefusedFor result (TooLarge size
 
 -- bytes that are not too many are refused where it is a document that passes the limits first
 abbrev pub RefusesDocuments : {T : Type 0} → Result T Fault → List ℕ → Type 0
-RefusesDocuments result bytes = length bytes ≤ most_bytes → PassesFirst version_2 bytes start → RefusedFor result TooManyDocuments
+RefusesDocuments result bytes = length bytes ≤ most_bytes → PassesFirst version_2 bytes start →
+    RefusedFor result TooManyDocuments
 
 -- and where it is this piece
 abbrev pub RefusesPieces : {T : Type 0} → Result T Fault → List ℕ → Stream → List ℕ → Type 0
-RefusesPieces result bytes stream word = length bytes ≤ most_bytes → PassesFirst version_2 bytes (piece stream word) → RefusedFor result (TooManyPieces stream)
+RefusesPieces result bytes stream word = length bytes ≤ most_bytes → PassesFirst version_2 bytes (piece stream word) →
+    RefusedFor result (TooManyPieces stream)
 
 -- with bytes within the limits it is done or memory lacks, unless the store fails
 abbrev pub Completes : {X T : Type 0} → (X → ℕ) → X → X → Result T Fault → List ℕ → Type 0

@@ -19,7 +19,12 @@ pub record Plan : Type 0 where
 
 -- the plan by this code, whose terms are those of its words
 abbrev pub plan_by : TextCode → List ℕ → Bool → Plan
-plan_by code pairs open_end = record { code = code; pairs = pairs; terms = terms_and_numbers code.words.pieces; open_end = open_end }
+plan_by code pairs open_end = record {
+  code = code;
+  pairs = pairs;
+  terms = terms_and_numbers code.words.pieces;
+  open_end = open_end;
+}
 
 -- what every plan keeps
 pub record IsPlan (p : Plan) : Type 0 where

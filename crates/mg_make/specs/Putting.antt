@@ -82,15 +82,16 @@ pub record HasPut (w : Putting) (files : Option Files) (fed : List ℕ) : Type 0
 -- ---- what stands
 
 -- the parts of a base are those of a collection, with this code and so many occurrences to a run, but for the head
-pub record IsReady (cap : ℕ) (files : Option Files) (base : List ℕ) (code : TextCode) (collection : List ℕ) : Type 0 where
-  pub limits : IsWithinLimits 2 collection
-  pub code_is : IsTextCode collection code
-  pub words : bytes_at files (full_name base Words) ≡ pieces_part code.words
-  pub nonwords : bytes_at files (full_name base Nonwords) ≡ pieces_part code.others
-  pub text : bytes_at files (full_name base part.Text) ≡ text_part code collection
-  pub places : bytes_at files (full_name base part.Places) ≡ places_part 2 code collection
-  pub run : bytes_at files (full_name base Run) ≡ as_bytes (run_part_bits cap (occurrences collection))
-  pub index : IndexStands files base collection
+pub record IsReady (cap : ℕ) (files : Option Files) (base : List ℕ) (code : TextCode) (collection : List ℕ) : Type 0
+  where
+    pub limits : IsWithinLimits 2 collection
+    pub code_is : IsTextCode collection code
+    pub words : bytes_at files (full_name base Words) ≡ pieces_part code.words
+    pub nonwords : bytes_at files (full_name base Nonwords) ≡ pieces_part code.others
+    pub text : bytes_at files (full_name base part.Text) ≡ text_part code collection
+    pub places : bytes_at files (full_name base part.Places) ≡ places_part 2 code collection
+    pub run : bytes_at files (full_name base Run) ≡ as_bytes (run_part_bits cap (occurrences collection))
+    pub index : IndexStands files base collection
 
 -- the store tells its files, all parts but the head are ready, and the head is there and empty
 pub record LacksOnlyHead (base collection : List ℕ) (cap : ℕ) (code : TextCode) (files : Option Files) : Type 0 where
@@ -103,16 +104,17 @@ pub record LacksOnlyHead (base collection : List ℕ) (cap : ℕ) (code : TextCo
 -- ---- what the second pass hands on
 
 -- A pass that wrote all marks of these bytes, by this plan and in a pool of so many bytes, ended so.
-pub record IsHanded (plan : Plan) (limit : ℕ) (base fed : List ℕ) (before now : Option Files) (r : Inverted) : Type 0 where
-  pub few : length fed < 2 ^ 32
-  pub pass : Inversion
-  pub middle : Option Files
-  pub written : HasWritten pass middle (marks fed)
-  pub ends : EndsWith pass (marks fed) middle now r
-  pub plan_is : pass.plan ≡ plan
-  pub limit_is : budget_of pass ≡ limit
-  pub base_is : pass.base ≡ base
-  pub told : is_some middle ≡ is_some before
+pub record IsHanded (plan : Plan) (limit : ℕ) (base fed : List ℕ) (before now : Option Files) (r : Inverted) : Type 0
+  where
+    pub few : length fed < 2 ^ 32
+    pub pass : Inversion
+    pub middle : Option Files
+    pub written : HasWritten pass middle (marks fed)
+    pub ends : EndsWith pass (marks fed) middle now r
+    pub plan_is : pass.plan ≡ plan
+    pub limit_is : budget_of pass ≡ limit
+    pub base_is : pass.base ≡ base
+    pub told : is_some middle ≡ is_some before
 
 -- ---- words for its contracts
 
@@ -122,11 +124,13 @@ IsEmptied files base p = file_at files (full_name base p) ≡ Some []
 
 -- this is so of all bytes that were scanned and whose marks were written
 abbrev pub ForScanned : Scanning → Inversion → Option Files → (List ℕ → Type 0) → Type 0
-ForScanned scanning pass files holds = (fed : List ℕ) (met : List Mark) → HasMet scanning fed met → HasWritten pass files met → length fed < 2 ^ 32 → holds fed
+ForScanned scanning pass files holds = (fed : List ℕ) (met : List Mark) → HasMet scanning fed met →
+    HasWritten pass files met → length fed < 2 ^ 32 → holds fed
 
 -- what the pass ended with is that of these bytes
 abbrev pub HandsFor : {E : Type 0} → Inversion → Option Files → Option Files → Result Inverted E → List ℕ → Type 0
-HandsFor pass before now result fed = IfOk result (λ (inverted : Inverted). IsHanded pass.plan (budget_of pass) pass.base fed before now inverted)
+HandsFor pass before now result fed = IfOk result (λ (inverted : Inverted).
+    IsHanded pass.plan (budget_of pass) pass.base fed before now inverted)
 
 -- for damage or a change, only where the store does not tell its files or this is no plan of the bytes
 abbrev pub PlanStops : Type 0 → Plan → Option Files → Fault → List ℕ → Type 0
@@ -134,25 +138,32 @@ PlanStops store_rose plan files fault fed = ListStops store_rose (IsSome files �
 
 -- this is so of all bytes for which the pass ended with this
 abbrev pub ForHanded : Plan → ℕ → List ℕ → Option Files → Inverted → (List ℕ → Type 0) → Type 0
-ForHanded plan limit base files inverted holds = (fed : List ℕ) (before : Option Files) → IsHanded plan limit base fed before files inverted → holds fed
+ForHanded plan limit base files inverted holds = (fed : List ℕ) (before : Option Files) →
+    IsHanded plan limit base fed before files inverted → holds fed
 
 -- the pass for these bytes can't be ended for such a reason
-abbrev pub ScannedRefused : {X T : Type 0} → Scanning → Inversion → (X → Option Files) → (X → ℕ) → X → X → Result T Fault → Type 0
+abbrev pub ScannedRefused : {X T : Type 0} → Scanning → Inversion → (X → Option Files) → (X → ℕ) → X → X →
+    Result T Fault → Type 0
 ScannedRefused scanning pass files faults before now result =
-    IfErr result (λ fault. ForScanned scanning pass (files before) (PlanStops (Rose (faults before) (faults now)) pass.plan (files before) fault))
+    IfErr result (λ fault. ForScanned scanning pass (files before)
+    (PlanStops (Rose (faults before) (faults now)) pass.plan (files before) fault))
 
 -- what follows the pass is refused for such a reason
-abbrev pub HandedRefused : {X T : Type 0} → Plan → ℕ → List ℕ → Inverted → (X → Option Files) → (X → ℕ) → X → X → Result T Fault → Type 0
+abbrev pub HandedRefused : {X T : Type 0} → Plan → ℕ → List ℕ → Inverted → (X → Option Files) → (X → ℕ) → X → X →
+    Result T Fault → Type 0
 HandedRefused plan limit base inverted files faults before now result =
-    IfErr result (λ fault. ForHanded plan limit base (files before) inverted (PlanStops (Rose (faults before) (faults now)) plan (files before) fault))
+    IfErr result (λ fault. ForHanded plan limit base (files before) inverted
+    (PlanStops (Rose (faults before) (faults now)) plan (files before) fault))
 
 -- what follows the last byte that was put is refused for such a reason
 abbrev pub PutRefused : {X T : Type 0} → Putting → (X → Option Files) → (X → ℕ) → X → X → Result T Fault → Type 0
 PutRefused w files faults before now result =
-    IfErr result (λ fault. (fed : List ℕ) → HasPut w (files before) fed → PlanStops (Rose (faults before) (faults now)) w.plan (files before) fault fed)
+    IfErr result (λ fault. (fed : List ℕ) → HasPut w (files before) fed →
+    PlanStops (Rose (faults before) (faults now)) w.plan (files before) fault fed)
 
 -- bytes, behind those that were put and before more, are refused for such a reason
-abbrev pub NextRefused : {X T : Type 0} → Putting → (List ℕ → List ℕ) → (X → Option Files) → (X → ℕ) → X → X → Result T Fault → Type 0
+abbrev pub NextRefused : {X T : Type 0} → Putting → (List ℕ → List ℕ) → (X → Option Files) → (X → ℕ) → X → X →
+    Result T Fault → Type 0
 NextRefused w next files faults before now result =
     IfErr result (λ fault. (fed more : List ℕ) → HasPut w (files before) fed → length (fed ++ next more) < 2 ^ 32
     → SecondStops (Rose (faults before) (faults now)) (IsPlanOf w.plan (fed ++ next more)) fault)
@@ -171,11 +182,13 @@ HasPeakOf limit result fed = IfOk result (λ made. made.1 ≡ pool_peak (length 
 
 -- where the store tells its files, it is so if there are so many of the bytes and the plan is theirs
 abbrev pub MakesHead : {E : Type 0} → ℕ → Plan → ℕ → Option Files → Result (Head × ℕ) E → List ℕ → Type 0
-MakesHead size plan limit files result fed = size ≡ length fed → IsSome files → IsPlanOf plan fed → HasHeadOf plan limit result fed
+MakesHead size plan limit files result fed = size ≡ length fed → IsSome files → IsPlanOf plan fed →
+    HasHeadOf plan limit result fed
 
 -- where the store tells its files, lists, lexicon and weights are those of the bytes if the plan is theirs
 abbrev pub MakesIndex : {X T E : Type 0} → Plan → List ℕ → (X → Option Files) → X → X → Result T E → List ℕ → Type 0
-MakesIndex plan base files before now result fed = IsSome (files before) → IsPlanOf plan fed → WroteIndex (files now) base result fed
+MakesIndex plan base files before now result fed = IsSome (files before) → IsPlanOf plan fed →
+    WroteIndex (files now) base result fed
 
 -- all parts but the head are those of the bytes
 abbrev pub MakesReady : {T E : Type 0} → Putting → Option Files → Result T E → List ℕ → Type 0
@@ -187,14 +200,17 @@ StandsForNoOther files base collection = StandsForNone files base ⊎ Stands fil
 
 -- the files with the head of a collection appended
 abbrev pub with_head : Option Files → List ℕ → ℕ → TextCode → List ℕ → Option Files
-with_head files base cap code collection = grown files (full_name base part.Head) (head_bytes (head_of 2 cap code collection))
+with_head files base cap code collection = grown files (full_name base part.Head)
+    (head_bytes (head_of 2 cap code collection))
 
 -- the head of a collection was appended in part or not at all
 abbrev pub GrewByHead : Option Files → Option Files → List ℕ → ℕ → TextCode → List ℕ → Type 0
-GrewByHead before now base cap code collection = GrewInPart before now (full_name base part.Head) (head_bytes (head_of 2 cap code collection))
+GrewByHead before now base cap code collection = GrewInPart before now (full_name base part.Head)
+    (head_bytes (head_of 2 cap code collection))
 
 -- this is so between all files that lack only the head of a set, and all other files
 abbrev pub WhereHeadLacks : (List ℕ → List ℕ → ℕ → TextCode → Option Files → Option Files → Type 0) → Type 0
 WhereHeadLacks holds =
-    (base collection : List ℕ) (cap : ℕ) (code : TextCode) (before now : Option Files) → LacksOnlyHead base collection cap code before
+    (base collection : List ℕ) (cap : ℕ) (code : TextCode) (before now : Option Files) →
+    LacksOnlyHead base collection cap code before
     → holds base collection cap code before now

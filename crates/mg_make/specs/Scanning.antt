@@ -43,7 +43,8 @@ pub record HasMet (s : Scanning) (fed : List ℕ) (met : List Mark) : Type 0 whe
 -- A byte was read into a document: these pieces ended before it.
 pub record HasRead (old new : OpenPiece) (byte : ℕ) (ended : List (List ℕ)) : Type 0 where
   pub kind : new.kind ≡ kind_after old.kind ended
-  pub reads : (told : List (List ℕ)) (doc : List ℕ) → Reads old told doc [] → Reads new (told ++ ended) (doc ++ byte ∷ []) []
+  pub reads : (told : List (List ℕ)) (doc : List ℕ) → Reads old told doc [] →
+      Reads new (told ++ ended) (doc ++ byte ∷ []) []
 
 -- what is met with a byte of a document, before which these pieces ended
 abbrev pub joined_marks : Bool → Stream → List (List ℕ) → List Mark
@@ -51,4 +52,5 @@ joined_marks begins kind ended = only_if begins start ++ marks_of_pieces kind en
 
 -- what is met with the end of a document, of which this piece is read
 abbrev pub closing_marks : Bool → OpenPiece → List Mark
-closing_marks begins reading = only_if begins start ++ (marks_of_pieces reading.kind (left_at_end reading.kind reading.piece) ++ stop ∷ [])
+closing_marks begins reading = only_if begins start
+    ++ (marks_of_pieces reading.kind (left_at_end reading.kind reading.piece) ++ stop ∷ [])

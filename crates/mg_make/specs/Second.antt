@@ -92,7 +92,8 @@ IsChange (Changed what first second) = first ≢ second
 IsChange fault = ⊥
 
 -- why these marks, which come next in a collection, are not written
-pub record StopsBefore (s : Inversion) (files : Option Files) (next : List Mark) (store_rose : Type 0) (fault : Fault) : Type 0 where
+pub record StopsBefore (s : Inversion) (files : Option Files) (next : List Mark) (store_rose : Type 0) (fault : Fault) :
+    Type 0 where
   pub cause : (met : List Mark) (collection : List ℕ) → HasWritten s files met → IsFrontOf (met ++ next) collection
       → SecondStops store_rose (IsPlanOf s.plan collection) fault
 

@@ -15,7 +15,8 @@ use Rattle.mg_make.specs.Second.{HasStopCause, Inversion, SamePass, WroteMarks}
 use Rattle.mg_make.specs.Written.{WroteParts, WroteSecond}
 
 -- a step of the second pass: it writes these marks, or stops before one of them
-pub record PassStep (old new : Inversion) (marks : List Mark) (result : Result (Unit {0}) Fault) (files_before files_now : Option Files)
+pub record PassStep (old new : Inversion) (marks : List Mark) (result : Result (Unit {0}) Fault)
+    (files_before files_now : Option Files)
     (reads_before reads_now : Reads) (faults_before faults_now : ℕ) : Type 0 where
   -- when it is done, the marks stand behind all that were written before
   pub written : OnOk result (WroteMarks old new files_before files_now marks)
@@ -31,7 +32,8 @@ pub record PassStep (old new : Inversion) (marks : List Mark) (result : Result (
   pub refused : HasStopCause old files_before marks (Rose faults_before faults_now) result
 
 -- a step that writes these parts of a base alone, and reads nothing
-pub record PutStep {T : Type 0} (parts : AnyPart → Type 0) (base : List ℕ) (result : Result T PutErr) (files_before files_now : Option Files)
+pub record PutStep {T : Type 0} (parts : AnyPart → Type 0) (base : List ℕ) (result : Result T PutErr)
+    (files_before files_now : Option Files)
     (reads_before reads_now : Reads) (faults_before faults_now : ℕ) : Type 0 where
   -- no other file was written
   pub wrote : WroteParts parts base files_before files_now
@@ -41,7 +43,8 @@ pub record PutStep {T : Type 0} (parts : AnyPart → Type 0) (base : List ℕ) (
   pub cause : HasPutCause faults_before faults_now result
 
 -- a step that writes these parts of a base alone, and reads what was sorted
-pub record SortStep (parts : AnyPart → Type 0) (base : List ℕ) (files_before files_now : Option Files) (reads_before reads_now : Reads)
+pub record SortStep (parts : AnyPart → Type 0) (base : List ℕ) (files_before files_now : Option Files)
+    (reads_before reads_now : Reads)
     (faults_before faults_now : ℕ) : Type 0 where
   -- no other file was written
   pub wrote : WroteParts parts base files_before files_now
@@ -51,7 +54,8 @@ pub record SortStep (parts : AnyPart → Type 0) (base : List ℕ) (files_before
   pub later : faults_before ≤ faults_now
 
 -- a step that takes postings from a merge, and writes these parts of a base alone
-pub record MergeStep (parts : AnyPart → Type 0) (base : List ℕ) (old new : Merging) (files_before files_now : Option Files)
+pub record MergeStep (parts : AnyPart → Type 0) (base : List ℕ) (old new : Merging)
+    (files_before files_now : Option Files)
     (reads_before reads_now : Reads) (faults_before faults_now : ℕ) : Type 0 where
   -- the merge goes on: its base and its numbers stay
   pub same : SameMerge old new

@@ -24,4 +24,13 @@ summary_of budget collection = record {
 
 -- those of a head, with the greatest use of a pool and its size
 abbrev pub summary_by : Head → ℕ → ℕ → Summary
-summary_by h most size = record { documents = h.documents; words = h.words; others = h.others; terms = h.terms; occurrences = h.occurrences; runs = h.runs; peak = most; budget = size }
+summary_by h most size = record {
+  documents = h.documents;
+  words = h.words;
+  others = h.others;
+  terms = h.terms;
+  occurrences = h.occurrences;
+  runs = h.runs;
+  peak = most;
+  budget = size;
+}

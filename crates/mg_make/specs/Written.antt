@@ -12,7 +12,8 @@ use Rattle.mg_dev.specs.declared.fault.Fault.TheVariants.{Changed, Memory, Store
 -- only files of these parts of a base were written
 pub record WroteParts (parts : AnyPart → Type 0) (base : List ℕ) (before now : Option Files) : Type 0 where
   pub told : is_some now ≡ is_some before
-  pub others : (name : List ℕ) → ((p : AnyPart) → parts p → name ≢ full_name base p) → file_at now name ≡ file_at before name
+  pub others : (name : List ℕ) → ((p : AnyPart) → parts p → name ≢ full_name base p) →
+      file_at now name ≡ file_at before name
 
 -- the parts that the second pass writes
 abbrev pub OfSecond : AnyPart → Type 0

@@ -33,7 +33,8 @@ impl Model for Count {
 
 /// What is met in fewer than 2^32 bytes has so few pieces that their numbers fit in four bytes.
 fn few_are_met()
-    ensures met { (s : Scanning) (fed : List ℕ) (met : List Mark) → HasMet s fed met → length fed < 2 ^ 32 → AreFew met }
+    ensures met { (s : Scanning) (fed : List ℕ) (met : List Mark) → HasMet s fed met →
+        length fed < 2 ^ 32 → AreFew met }
     ensures all { (collection : List ℕ) → length collection < 2 ^ 32 → AreFew (marks collection) }
 {
     few_of_each();
@@ -58,8 +59,10 @@ impl Count {
     #[inline]
     pub fn take(&mut self, byte: u8) -> Result<(), Fault>
         requires given { (fed : List ℕ) × HasCounted self.old fed × (length fed < 2 ^ 32 - 1) }
-        ensures given { OnOk result ((fed : List ℕ) → HasCounted self.old fed → HasCounted self.new (fed ++ byte ∷ [])) }
-        ensures refused { IfErr result (λ fault. (fed : List ℕ) → HasCounted self.old fed → CountStops (fed ++ byte ∷ []) fault) }
+        ensures given { OnOk result ((fed : List ℕ) → HasCounted self.old fed →
+            HasCounted self.new (fed ++ byte ∷ [])) }
+        ensures refused { IfErr result (λ fault. (fed : List ℕ) → HasCounted self.old fed →
+            CountStops (fed ++ byte ∷ []) fault) }
     {
         if self.scanner.goes_on(byte) {
             return Ok(());
@@ -70,8 +73,10 @@ impl Count {
     /// Takes the next byte where it may end a piece, or begin or end a document.
     fn take_other(&mut self, byte: u8) -> Result<(), Fault>
         requires given { (fed : List ℕ) × HasCounted self.old fed × (length fed < 2 ^ 32 - 1) }
-        ensures given { OnOk result ((fed : List ℕ) → HasCounted self.old fed → HasCounted self.new (fed ++ byte ∷ [])) }
-        ensures refused { IfErr result (λ fault. (fed : List ℕ) → HasCounted self.old fed → CountStops (fed ++ byte ∷ []) fault) }
+        ensures given { OnOk result ((fed : List ℕ) → HasCounted self.old fed →
+            HasCounted self.new (fed ++ byte ∷ [])) }
+        ensures refused { IfErr result (λ fault. (fed : List ℕ) → HasCounted self.old fed →
+            CountStops (fed ++ byte ∷ []) fault) }
     {
         few_are_met();
         self.scanner.take(byte);
@@ -86,9 +91,11 @@ impl Count {
         requires most { budget ≤ 2 ^ 30 }
         requires given { (fed : List ℕ) × HasCounted self fed × (length fed < 2 ^ 32) }
         ensures plan { IfOk result (λ r. IsPlan r.0) }
-        ensures of { (fed : List ℕ) → HasCounted self fed → length fed < 2 ^ 32 → IfOk result (λ r. IsPlanOf r.0 fed) }
+        ensures of { (fed : List ℕ) → HasCounted self fed → length fed < 2 ^ 32 →
+            IfOk result (λ r. IsPlanOf r.0 fed) }
         ensures room { IfOk result (λ r. IsRoomFor r.1 r.0 budget) }
-        ensures refused { IfErr result (λ fault. (fed : List ℕ) → HasCounted self fed → EndStops fed fault) }
+        ensures refused { IfErr result (λ fault. (fed : List ℕ) → HasCounted self fed →
+            EndStops fed fault) }
     {
         let (counts, open_end) = self.end()?;
         match plan_of(alloc, counts, open_end, budget) {
@@ -102,7 +109,8 @@ impl Count {
         requires given { (fed : List ℕ) × HasCounted self fed × (length fed < 2 ^ 32) }
         ensures counted { (fed : List ℕ) → HasCounted self fed → length fed < 2 ^ 32 →
             IfOk result (λ r. IsCountOf r.0 r.1 fed) }
-        ensures refused { IfErr result (λ fault. (fed : List ℕ) → HasCounted self fed → EndStops fed fault) }
+        ensures refused { IfErr result (λ fault. (fed : List ℕ) → HasCounted self fed →
+            EndStops fed fault) }
     {
         few_are_met();
         let Count {

@@ -73,9 +73,12 @@ impl Counts {
     /// Counts what is met with one byte, which mostly is nothing.
     #[inline]
     pub(crate) fn take(&mut self, met: &Met) -> Result<(), Fault>
-        requires few { (before : List Mark) × IsCounted self.old before × AreFew (before ++ marks_of met.now) }
-        ensures counted { OnOk result ((before : List Mark) → IsCounted self.old before → IsCounted self.new (before ++ marks_of met.now)) }
-        ensures refused { IfErr result (λ fault. (before : List Mark) → IsCounted self.old before → StopsAt before (marks_of met.now) fault) }
+        requires few { (before : List Mark) × IsCounted self.old before
+            × AreFew (before ++ marks_of met.now) }
+        ensures counted { OnOk result ((before : List Mark) → IsCounted self.old before →
+            IsCounted self.new (before ++ marks_of met.now)) }
+        ensures refused { IfErr result (λ fault. (before : List Mark) → IsCounted self.old before →
+            StopsAt before (marks_of met.now) fault) }
     {
         if met.is_nothing() {
             return Ok(());
@@ -85,9 +88,12 @@ impl Counts {
 
     /// Counts each of the four that is met.
     fn take_marks(&mut self, met: &Met) -> Result<(), Fault>
-        requires few { (before : List Mark) × IsCounted self.old before × AreFew (before ++ marks_of met.now) }
-        ensures counted { OnOk result ((before : List Mark) → IsCounted self.old before → IsCounted self.new (before ++ marks_of met.now)) }
-        ensures refused { IfErr result (λ fault. (before : List Mark) → IsCounted self.old before → StopsAt before (marks_of met.now) fault) }
+        requires few { (before : List Mark) × IsCounted self.old before
+            × AreFew (before ++ marks_of met.now) }
+        ensures counted { OnOk result ((before : List Mark) → IsCounted self.old before →
+            IsCounted self.new (before ++ marks_of met.now)) }
+        ensures refused { IfErr result (λ fault. (before : List Mark) → IsCounted self.old before →
+            StopsAt before (marks_of met.now) fault) }
     {
         marks_add_up();
         self.begin_if(met.begins())?;
@@ -98,8 +104,10 @@ impl Counts {
 
     /// Counts the start of a document, where one begins.
     fn begin_if(&mut self, begins: bool) -> Result<(), Fault>
-        ensures counted { OnOk result ((met : List Mark) → IsCounted self.old met → IsCounted self.new (met ++ only_if begins start)) }
-        ensures refused { IfErr result (λ fault. (met : List Mark) → IsCounted self.old met → StopsAt met (only_if begins start) fault) }
+        ensures counted { OnOk result ((met : List Mark) → IsCounted self.old met →
+            IsCounted self.new (met ++ only_if begins start)) }
+        ensures refused { IfErr result (λ fault. (met : List Mark) → IsCounted self.old met →
+            StopsAt met (only_if begins start) fault) }
     {
         marks_add_up();
         if !begins {
@@ -116,9 +124,12 @@ impl Counts {
     /// Counts a piece, where one is met.
     fn piece_if(&mut self, is_met: bool, stream: Stream, bytes: &[u8]) -> Result<(), Fault>
         requires short { length bytes.now ≤ 255 }
-        requires few { (met : List Mark) × IsCounted self.old met × AreFew (met ++ only_if is_met (piece stream bytes.now)) }
-        ensures counted { OnOk result ((met : List Mark) → IsCounted self.old met → IsCounted self.new (met ++ only_if is_met (piece stream bytes.now))) }
-        ensures refused { IfErr result (λ fault. (met : List Mark) → IsCounted self.old met → StopsAt met (only_if is_met (piece stream bytes.now)) fault) }
+        requires few { (met : List Mark) × IsCounted self.old met
+            × AreFew (met ++ only_if is_met (piece stream bytes.now)) }
+        ensures counted { OnOk result ((met : List Mark) → IsCounted self.old met →
+            IsCounted self.new (met ++ only_if is_met (piece stream bytes.now))) }
+        ensures refused { IfErr result (λ fault. (met : List Mark) → IsCounted self.old met →
+            StopsAt met (only_if is_met (piece stream bytes.now)) fault) }
     {
         marks_add_up();
         if !is_met {
@@ -134,7 +145,8 @@ impl Counts {
     /// Keeps the number of a document's pairs, where one ends. Its pieces are twice as many.
     fn end_if(&mut self, ends: bool) -> Result<(), Fault>
         requires few { (met : List Mark) × IsCounted self.old met × AreFew met }
-        ensures counted { OnOk result ((met : List Mark) → IsCounted self.old met → IsCounted self.new (met ++ only_if ends stop)) }
+        ensures counted { OnOk result ((met : List Mark) → IsCounted self.old met →
+            IsCounted self.new (met ++ only_if ends stop)) }
         ensures refused { IfErr result (λ fault. fault ≡ Memory) }
     {
         marks_add_up();

@@ -38,7 +38,8 @@ impl DocCounts {
     /// One occurrence more of a term, in a document that is not before those of the other ones.
     pub(crate) fn count(&mut self, term: u32, doc: u32)
         requires term { term < length self.old.docs }
-        requires counts { (fed : List (ℕ × ℕ)) × AreDocCounts self.old (length self.old.docs) fed × (last_with term 0 fed ≤ doc) }
+        requires counts { (fed : List (ℕ × ℕ)) × AreDocCounts self.old (length self.old.docs) fed
+            × (last_with term 0 fed ≤ doc) }
         requires some { 1 ≤ doc }
         ensures counts { CountsOneMore self.old self.new term doc }
         ensures size { length self.new.docs ≡ length self.old.docs }

@@ -29,9 +29,12 @@ fn write_weights_part<S: Store>(
     base: &str,
     sums: &[u64],
 ) -> Result<(), PutErr>
-    ensures bytes { IsSome (S.files store.old) → OnOk result (WeightsAreRoots (S.files store.new) base.now sums.now) }
-    ensures first { IsSome (S.files store.old) → OnOk result (file_at (S.files store.new) (full_name base.now part.MergeA) ≡ Some []) }
-    ensures second { IsSome (S.files store.old) → OnOk result (file_at (S.files store.new) (full_name base.now part.MergeB) ≡ Some []) }
+    ensures bytes { IsSome (S.files store.old) →
+        OnOk result (WeightsAreRoots (S.files store.new) base.now sums.now) }
+    ensures first { IsSome (S.files store.old) →
+        OnOk result (file_at (S.files store.new) (full_name base.now part.MergeA) ≡ Some []) }
+    ensures second { IsSome (S.files store.old) →
+        OnOk result (file_at (S.files store.new) (full_name base.now part.MergeB) ≡ Some []) }
     ensures step { Between S.files S.reads S.faults store.old store.new
         (PutStep OfWeights base.now result) }
 {
@@ -55,14 +58,19 @@ pub(crate) fn write_all<S: Store>(
     sums: &mut Vec<u64>,
 ) -> Result<Sizes, Fault>
     requires base { merge.old.base ≡ base.now }
-    requires sizes { AreListSizes counts.now.docs (length plan.now.terms.terms) (length plan.now.pairs) }
+    requires sizes { AreListSizes counts.now.docs (length plan.now.terms.terms)
+        (length plan.now.pairs) }
     requires left { (left : List TermPosting) × IsMerging merge.old (S.files store.old) left }
     requires zero { sums.old.items ≡ replicate (length plan.now.pairs) 0 }
-    ensures stand { ForEach (InvertedOf plan.now counts.now merge.old (S.files store.old)) (WroteIndex (S.files store.new) base.now result) }
-    ensures post_bytes { ForEach (InvertedOf plan.now counts.now merge.old (S.files store.old)) (HasPostPart result) }
-    ensures skip_count { ForEach (InvertedOf plan.now counts.now merge.old (S.files store.old)) (HasSkipPart result) }
+    ensures stand { ForEach (InvertedOf plan.now counts.now merge.old (S.files store.old))
+        (WroteIndex (S.files store.new) base.now result) }
+    ensures post_bytes { ForEach (InvertedOf plan.now counts.now merge.old (S.files store.old))
+        (HasPostPart result) }
+    ensures skip_count { ForEach (InvertedOf plan.now counts.now merge.old (S.files store.old))
+        (HasSkipPart result) }
     ensures few { IfOk result (λ sizes. sizes.skip_count ≤ sum counts.now.docs) }
-    ensures refused { RefusedIfNone S.faults store.old store.new (InvertedOf plan.now counts.now merge.old (S.files store.old)) result }
+    ensures refused { RefusedIfNone S.faults store.old store.new
+        (InvertedOf plan.now counts.now merge.old (S.files store.old)) result }
     ensures step { Between S.files S.reads S.faults store.old store.new
         (MergeStep OfIndex base.now merge.old merge.new) }
 {

@@ -57,7 +57,8 @@ impl<'a> Inverter<'a> {
         counts: DocCounts,
     ) -> Result<Self, PutErr>
         requires pool { pool ≡ record { entries = []; slots = []; peak = 0; limit = pool.limit } }
-        ensures taken { IfOk result (λ index. (terms : ℕ) → AreDocCounts counts terms [] → HasTaken index (S.files store.new) terms []) }
+        ensures taken { IfOk result (λ index. (terms : ℕ) → AreDocCounts counts terms [] →
+            HasTaken index (S.files store.new) terms []) }
         ensures base { IfOk result (λ index. index.runs.base ≡ base.entry.now) }
         ensures limit { IfOk result (λ index. index.runs.pool.limit ≡ pool.limit) }
         ensures wrote { WroteParts OfRuns base.entry.now (S.files store.old) (S.files store.new) }
@@ -76,11 +77,14 @@ impl<'a> Inverter<'a> {
 
     /// Takes an occurrence of a term in a document, which is not before those of the other occurrences.
     pub(crate) fn add<S: Store>(&mut self, store: &mut S, term: u32, doc: u32) -> Result<(), PutErr>
-        requires taken { (terms : ℕ) × (fed : List (ℕ × ℕ)) × HasTaken self.old (S.files store.old) terms fed × MayFollow terms fed term doc }
-        ensures taken { OnOk result (TakesOneMore self.old self.new (S.files store.old) (S.files store.new) term doc) }
+        requires taken { (terms : ℕ) × (fed : List (ℕ × ℕ))
+            × HasTaken self.old (S.files store.old) terms fed × MayFollow terms fed term doc }
+        ensures taken { OnOk result (TakesOneMore self.old self.new (S.files store.old)
+            (S.files store.new) term doc) }
         ensures base { self.new.runs.base ≡ self.old.runs.base }
         ensures limit { self.new.runs.pool.limit ≡ self.old.runs.pool.limit }
-        ensures wrote { WroteParts OfRuns self.old.runs.base (S.files store.old) (S.files store.new) }
+        ensures wrote { WroteParts OfRuns self.old.runs.base (S.files store.old)
+            (S.files store.new) }
         ensures reads { SameReads (S.reads store.old) (S.reads store.new) }
         ensures cause { HasPutCause (S.faults store.old) (S.faults store.new) result }
     {
@@ -100,14 +104,17 @@ impl<'a> Inverter<'a> {
         store: &mut S,
         text_bytes: u64,
     ) -> Result<Inverted<'a>, PartErr>
-        requires taken { (terms : ℕ) × (fed : List (ℕ × ℕ)) × HasTaken self (S.files store.old) terms fed }
-        ensures merged { IfOk result (λ r. (fed : List (ℕ × ℕ)) → IsFed self.entry.runs (S.files store.old) fed →
+        requires taken { (terms : ℕ) × (fed : List (ℕ × ℕ))
+            × HasTaken self (S.files store.old) terms fed }
+        ensures merged { IfOk result (λ r. (fed : List (ℕ × ℕ)) →
+            IsFed self.entry.runs (S.files store.old) fed →
             IsMergeOf self.entry.runs (S.files store.old) (S.files store.new) r.merge fed) }
         ensures bytes { IfOk result (λ r. r.text_bytes ≡ text_bytes) }
         ensures counts { IfOk result (λ r. r.counts ≡ self.entry.counts) }
         ensures occurrences { IfOk result (λ r. r.occurrences ≡ self.entry.occurrences) }
         ensures undamaged { IsSome (S.files store.old) → NoDamage result }
-        ensures worked { Between S.files S.reads S.faults store.old store.new (Worked self.entry.runs.base) }
+        ensures worked { Between S.files S.reads S.faults store.old store.new
+            (Worked self.entry.runs.base) }
         ensures cause { HasPartCause (S.faults store.old) (S.faults store.new) result }
     {
         let Inverter {

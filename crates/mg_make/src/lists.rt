@@ -95,13 +95,17 @@ fn write_term<S: Store>(
     number: u32,
 ) -> Result<(), Fault>
     requires can { CanIndexTo number terms.now merge.old writer.old sums.old (S.files store.old) }
-    requires sizes { AreListSizes terms.now.counts.now.docs (length terms.now.table.now.terms) writer.old.lists.all }
+    requires sizes { AreListSizes terms.now.counts.now.docs (length terms.now.table.now.terms)
+        writer.old.lists.all }
     requires number { number < length terms.now.table.now.terms }
     requires few { length terms.now.table.now.terms ≤ 2 ^ 22 }
     requires rising { IsStrictlySortedBy (slice_cmp nat_cmp) terms.now.table.now.terms }
-    ensures can { OnOk result (CanIndexTo (number + 1) terms.now merge.new writer.new sums.new (S.files store.new)) }
-    ensures indexed { IndexesTerm number terms.now merge.old merge.new writer.old writer.new sums.old sums.new S.files store.old store.new result }
-    ensures refused { RefusedIfNone S.faults store.old store.new (IndexedTo number terms.now merge.old writer.old sums.old (S.files store.old)) result }
+    ensures can { OnOk result (CanIndexTo (number + 1) terms.now merge.new writer.new sums.new
+        (S.files store.new)) }
+    ensures indexed { IndexesTerm number terms.now merge.old merge.new writer.old writer.new
+        sums.old sums.new S.files store.old store.new result }
+    ensures refused { RefusedIfNone S.faults store.old store.new
+        (IndexedTo number terms.now merge.old writer.old sums.old (S.files store.old)) result }
     ensures all { writer.new.lists.all ≡ writer.old.lists.all }
     ensures step { Between S.files S.reads S.faults store.old store.new
         (MergeStep OfLists merge.old.base merge.old merge.new) }
@@ -132,10 +136,14 @@ fn write_terms<S: Store>(
     terms: &Terms<'_>,
 ) -> Result<(), Fault>
     requires can { CanIndexTo 0 terms.now merge.old writer.old sums.old (S.files store.old) }
-    requires sizes { AreListSizes terms.now.counts.now.docs (length terms.now.table.now.terms) writer.old.lists.all }
-    ensures can { OnOk result (HasAllTerms terms.now merge.new writer.new sums.new (S.files store.new)) }
-    ensures indexed { IndexesAll terms.now merge.old merge.new writer.old writer.new sums.old sums.new S.files store.old store.new result }
-    ensures refused { RefusedIfNone S.faults store.old store.new (ToIndex terms.now merge.old writer.old sums.old (S.files store.old)) result }
+    requires sizes { AreListSizes terms.now.counts.now.docs (length terms.now.table.now.terms)
+        writer.old.lists.all }
+    ensures can { OnOk result (HasAllTerms terms.now merge.new writer.new sums.new
+        (S.files store.new)) }
+    ensures indexed { IndexesAll terms.now merge.old merge.new writer.old writer.new sums.old
+        sums.new S.files store.old store.new result }
+    ensures refused { RefusedIfNone S.faults store.old store.new
+        (ToIndex terms.now merge.old writer.old sums.old (S.files store.old)) result }
     ensures all { writer.new.lists.all ≡ writer.old.lists.all }
     ensures step { Between S.files S.reads S.faults store.old store.new
         (MergeStep OfLists merge.old.base merge.old merge.new) }
@@ -149,7 +157,8 @@ fn write_terms<S: Store>(
 /// Sees that no posting is left.
 fn expect_end<S: Store>(store: &mut S, merge: &mut Merge<'_>) -> Result<(), Fault>
     requires left { (left : List TermPosting) × IsMerging merge.old (S.files store.old) left }
-    ensures refused { RefusedUnless S.faults store.old store.new (NothingLeft merge.old (S.files store.old)) result }
+    ensures refused { RefusedUnless S.faults store.old store.new
+        (NothingLeft merge.old (S.files store.old)) result }
     ensures looked { Between S.files S.reads S.faults store.old store.new
         (MergeLook merge.old merge.new) }
 {
@@ -162,7 +171,8 @@ fn expect_end<S: Store>(store: &mut S, merge: &mut Merge<'_>) -> Result<(), Faul
 
 /// Writes what both writers hold.
 fn finish<S: Store>(store: &mut S, writer: &mut IndexWriter<'_>) -> Result<Sizes, PutErr>
-    requires lists { (done : List (List Posting)) × Took writer.old.lists (S.files store.old) done [] }
+    requires lists { (done : List (List Posting)) × Took writer.old.lists (S.files store.old) done
+        [] }
     requires lex { (terms : List Term) × TookTerms writer.old.lex (S.files store.old) terms }
     requires post { writer.old.lists.post.name ≡ full_name writer.old.lex.base part.Post }
     requires skip { writer.old.lists.skip.name ≡ full_name writer.old.lex.base part.Skip }
@@ -192,14 +202,19 @@ fn write_index<S: Store>(
     terms: &Terms<'_>,
 ) -> Result<Sizes, Fault>
     requires can { CanIndexTo 0 terms.now merge.old writer.old sums.old (S.files store.old) }
-    requires sizes { AreListSizes terms.now.counts.now.docs (length terms.now.table.now.terms) writer.old.lists.all }
+    requires sizes { AreListSizes terms.now.counts.now.docs (length terms.now.table.now.terms)
+        writer.old.lists.all }
     ensures stand { ForEach (ToIndex terms.now merge.old writer.old sums.old (S.files store.old))
         (WroteLists S.files store.new merge.old.base result) }
-    ensures sums { ForEach (ToIndex terms.now merge.old writer.old sums.old (S.files store.old)) (SumsAreSquares sums.new result) }
-    ensures post_bytes { ForEach (ToIndex terms.now merge.old writer.old sums.old (S.files store.old)) (HasPostBytes result) }
-    ensures skip_count { ForEach (ToIndex terms.now merge.old writer.old sums.old (S.files store.old)) (HasSkipCount result) }
+    ensures sums { ForEach (ToIndex terms.now merge.old writer.old sums.old (S.files store.old))
+        (SumsAreSquares sums.new result) }
+    ensures post_bytes { ForEach (ToIndex terms.now merge.old writer.old sums.old
+        (S.files store.old)) (HasPostBytes result) }
+    ensures skip_count { ForEach (ToIndex terms.now merge.old writer.old sums.old
+        (S.files store.old)) (HasSkipCount result) }
     ensures few { IfOk result (λ sizes. sizes.skip_count ≤ sum terms.now.counts.now.docs) }
-    ensures refused { RefusedIfNone S.faults store.old store.new (ToIndex terms.now merge.old writer.old sums.old (S.files store.old)) result }
+    ensures refused { RefusedIfNone S.faults store.old store.new
+        (ToIndex terms.now merge.old writer.old sums.old (S.files store.old)) result }
     ensures step { Between S.files S.reads S.faults store.old store.new
         (MergeStep OfLists merge.old.base merge.old merge.new) }
 {
@@ -222,15 +237,21 @@ pub(crate) fn write_lists<S: Store>(
     sums: &mut Vec<u64>,
 ) -> Result<Sizes, Fault>
     requires base { merge.old.base ≡ base.now }
-    requires sizes { AreListSizes terms.now.counts.now.docs (length terms.now.table.now.terms) (length sums.old.items) }
+    requires sizes { AreListSizes terms.now.counts.now.docs (length terms.now.table.now.terms)
+        (length sums.old.items) }
     requires left { (left : List TermPosting) × IsMerging merge.old (S.files store.old) left }
     requires zero { sums.old.items ≡ replicate (length sums.old.items) 0 }
-    ensures stand { ForEach (ListsAreLeft terms.now sums.old merge.old (S.files store.old)) (WroteLists S.files store.new base.now result) }
-    ensures sums { ForEach (ListsAreLeft terms.now sums.old merge.old (S.files store.old)) (SumsAreSquares sums.new result) }
-    ensures post_bytes { ForEach (ListsAreLeft terms.now sums.old merge.old (S.files store.old)) (HasPostBytes result) }
-    ensures skip_count { ForEach (ListsAreLeft terms.now sums.old merge.old (S.files store.old)) (HasSkipCount result) }
+    ensures stand { ForEach (ListsAreLeft terms.now sums.old merge.old (S.files store.old))
+        (WroteLists S.files store.new base.now result) }
+    ensures sums { ForEach (ListsAreLeft terms.now sums.old merge.old (S.files store.old))
+        (SumsAreSquares sums.new result) }
+    ensures post_bytes { ForEach (ListsAreLeft terms.now sums.old merge.old (S.files store.old))
+        (HasPostBytes result) }
+    ensures skip_count { ForEach (ListsAreLeft terms.now sums.old merge.old (S.files store.old))
+        (HasSkipCount result) }
     ensures few { IfOk result (λ sizes. sizes.skip_count ≤ sum terms.now.counts.now.docs) }
-    ensures refused { RefusedIfNone S.faults store.old store.new (ListsAreLeft terms.now sums.old merge.old (S.files store.old)) result }
+    ensures refused { RefusedIfNone S.faults store.old store.new
+        (ListsAreLeft terms.now sums.old merge.old (S.files store.old)) result }
     ensures step { Between S.files S.reads S.faults store.old store.new
         (MergeStep OfLists base.now merge.old merge.new) }
 {

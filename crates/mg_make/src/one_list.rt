@@ -50,10 +50,13 @@ fn next_posting<S: Store>(
     requires last { last ≤ 2 ^ 24 }
     ensures left { (left : List TermPosting) → IsMerging merge.old (S.files store.old) left →
         OnOk result (IsMerging merge.new (S.files store.new) (drop 1 left)) }
-    ensures told { ForFirstLeft merge.old (S.files store.old) (λ p. IfOk result (λ posting. posting ≡ p)) }
+    ensures told { ForFirstLeft merge.old (S.files store.old)
+        (λ p. IfOk result (λ posting. posting ≡ p)) }
     ensures term { IfOk result (λ posting. posting.term ≡ number) }
-    ensures follows { IfOk result (λ posting. Follows all last (posting_of posting.doc posting.count)) }
-    ensures refused { RefusedUnless S.faults store.old store.new (HasNext number all last merge.old (S.files store.old)) result }
+    ensures follows { IfOk result (λ posting.
+        Follows all last (posting_of posting.doc posting.count)) }
+    ensures refused { RefusedUnless S.faults store.old store.new
+        (HasNext number all last merge.old (S.files store.old)) result }
     ensures looked { Between S.files S.reads S.faults store.old store.new
         (MergeLook merge.old merge.new) }
 {
@@ -94,17 +97,21 @@ fn write_posting<S: Store>(
     sums: &mut Vec<u64>,
     posting: TermPosting,
 ) -> Result<(), PutErr>
-    requires took { (done : List (List Posting)) × (ps : List Posting) × Took lists.old (S.files store.old) done ps }
+    requires took { (done : List (List Posting)) × (ps : List Posting)
+        × Took lists.old (S.files store.old) done ps }
     requires each { length sums.old.items ≡ lists.old.all }
     requires more { lists.old.pushed < lists.old.docs }
     requires total { lists.old.total < 2 ^ 32 }
     requires follows { Follows lists.old.all lists.old.last (posting_of posting.doc posting.count) }
-    ensures took { OnOk result (ListTakes lists.old lists.new (S.files store.old) (S.files store.new) (posting_of posting.doc posting.count)) }
-    ensures summed { OnOk result (SumsTake sums.old sums.new (posting_of posting.doc posting.count)) }
+    ensures took { OnOk result (ListTakes lists.old lists.new (S.files store.old)
+        (S.files store.new) (posting_of posting.doc posting.count)) }
+    ensures summed { OnOk result (SumsTake sums.old sums.new
+        (posting_of posting.doc posting.count)) }
     ensures pushed { OnOk result (Pushed lists.old lists.new posting.doc) }
     ensures each { length sums.new.items ≡ length sums.old.items }
     ensures same { SameFiles lists.old lists.new }
-    ensures others { (n : List ℕ) → n ≢ lists.old.post.name → n ≢ lists.old.skip.name → file_at (S.files store.new) n ≡ file_at (S.files store.old) n }
+    ensures others { (n : List ℕ) → n ≢ lists.old.post.name → n ≢ lists.old.skip.name →
+        file_at (S.files store.new) n ≡ file_at (S.files store.old) n }
     ensures told { is_some (S.files store.new) ≡ is_some (S.files store.old) }
     ensures reads { SameReads (S.reads store.old) (S.reads store.new) }
     ensures cause { HasPutCause (S.faults store.old) (S.faults store.new) result }
@@ -128,10 +135,12 @@ fn take_posting<S: Store>(
     requires more { lists.old.pushed < lists.old.docs }
     requires total { lists.old.total < 2 ^ 32 }
     ensures can { OnOk result (CanList merge.new lists.new sums.new.items (S.files store.new)) }
-    ensures told { TakesPosting number merge.old merge.new lists.old lists.new sums.old sums.new S.files store.old store.new result }
+    ensures told { TakesPosting number merge.old merge.new lists.old lists.new sums.old sums.new
+        S.files store.old store.new result }
     ensures pushed { OnOk result (PushedMore lists.old lists.new 1) }
     ensures last { IfOk result (λ doc. lists.new.last ≡ doc) }
-    ensures refused { RefusedUnless S.faults store.old store.new (HasRest number 1 merge.old lists.old sums.old.items (S.files store.old)) result }
+    ensures refused { RefusedUnless S.faults store.old store.new
+        (HasRest number 1 merge.old lists.old sums.old.items (S.files store.old)) result }
     ensures files { SameFiles lists.old lists.new }
     ensures step { Between S.files S.reads S.faults store.old store.new
         (MergeStep OfPostings merge.old.base merge.old merge.new) }
@@ -160,9 +169,11 @@ fn take_postings<S: Store>(
     requires last { lists.old.last ≡ 0 }
     requires total { lists.old.total + docs ≤ 2 ^ 32 }
     ensures can { OnOk result (CanList merge.new lists.new sums.new.items (S.files store.new)) }
-    ensures told { TakesPostings docs number merge.old merge.new lists.old lists.new sums.old sums.new S.files store.old store.new result }
+    ensures told { TakesPostings docs number merge.old merge.new lists.old lists.new sums.old
+        sums.new S.files store.old store.new result }
     ensures pushed { OnOk result (PushedMore lists.old lists.new docs) }
-    ensures refused { RefusedUnless S.faults store.old store.new (HasRest number docs merge.old lists.old sums.old.items (S.files store.old)) result }
+    ensures refused { RefusedUnless S.faults store.old store.new
+        (HasRest number docs merge.old lists.old sums.old.items (S.files store.old)) result }
     ensures files { SameFiles lists.old lists.new }
     ensures step { Between S.files S.reads S.faults store.old store.new
         (MergeStep OfPostings merge.old.base merge.old merge.new) }
@@ -189,11 +200,15 @@ pub(crate) fn write_list<S: Store>(
     requires within { docs ≤ lists.old.all }
     requires total { lists.old.total + docs ≤ 2 ^ 32 }
     ensures can { OnOk result (CanList merge.new lists.new sums.new.items (S.files store.new)) }
-    ensures told { EndsList docs number merge.old merge.new lists.old lists.new sums.old sums.new S.files store.old store.new result }
-    ensures post_at { ForListLeft docs number merge.old lists.old sums.old (S.files store.old) (BeginsInPost lists.old.all result) }
-    ensures skip_at { ForListLeft docs number merge.old lists.old sums.old (S.files store.old) (BeginsInSkip lists.old.all result) }
+    ensures told { EndsList docs number merge.old merge.new lists.old lists.new sums.old sums.new
+        S.files store.old store.new result }
+    ensures post_at { ForListLeft docs number merge.old lists.old sums.old (S.files store.old)
+        (BeginsInPost lists.old.all result) }
+    ensures skip_at { ForListLeft docs number merge.old lists.old sums.old (S.files store.old)
+        (BeginsInSkip lists.old.all result) }
     ensures listed { OnOk result (ListedMore lists.old lists.new docs) }
-    ensures refused { RefusedUnless S.faults store.old store.new (HasList number docs merge.old lists.old sums.old.items (S.files store.old)) result }
+    ensures refused { RefusedUnless S.faults store.old store.new
+        (HasList number docs merge.old lists.old sums.old.items (S.files store.old)) result }
     ensures files { SameFiles lists.old lists.new }
     ensures step { Between S.files S.reads S.faults store.old store.new
         (MergeStep OfPostings merge.old.base merge.old merge.new) }

@@ -45,7 +45,8 @@ impl Plan {
     pub(crate) fn of(alloc: Global, counts: Counts, open_end: bool) -> Result<Self, AllocError>
         requires counted { (collection : List ℕ) × IsCountOf counts open_end collection }
         ensures plan { IfOk result (λ plan. IsPlan plan) }
-        ensures of { (collection : List ℕ) → IsCountOf counts open_end collection → IfOk result (λ plan. IsPlanOf plan collection) }
+        ensures of { (collection : List ℕ) → IsCountOf counts open_end collection →
+            IfOk result (λ plan. IsPlanOf plan collection) }
     {
         few_of_each();
         limits_of_marks();
@@ -130,7 +131,8 @@ pub(crate) fn plan_of(
     requires most { budget ≤ 2 ^ 30 }
     requires counted { (collection : List ℕ) × IsCountOf counts open_end collection }
     ensures plan { IfOk result (λ r. IsPlan r.0) }
-    ensures of { (collection : List ℕ) → IsCountOf counts open_end collection → IfOk result (λ r. IsPlanOf r.0 collection) }
+    ensures of { (collection : List ℕ) → IsCountOf counts open_end collection →
+        IfOk result (λ r. IsPlanOf r.0 collection) }
     ensures room { IfOk result (λ r. IsRoomFor r.1 r.0 budget) }
 {
     let plan = match Plan::of(alloc, counts, open_end) {

@@ -34,7 +34,8 @@ impl Model for Scanner {
 /// Reads a byte of a document. Up to two pieces end before it, of which the second is empty: it lies
 /// between a full piece and a byte of the same kind.
 fn read_byte(reader: &mut PieceReader, byte: u8, met: &mut Met, begins: bool)
-    ensures met { (ended : List (List ℕ)) × HasRead reader.old reader.new byte ended × (marks_of met.new ≡ joined_marks begins reader.old.kind ended) }
+    ensures met { (ended : List (List ℕ)) × HasRead reader.old reader.new byte ended
+        × (marks_of met.new ≡ joined_marks begins reader.old.kind ended) }
 {
     met.restart(begins);
     match reader.offer(byte) {
@@ -54,7 +55,8 @@ fn read_byte(reader: &mut PieceReader, byte: u8, met: &mut Met, begins: bool)
 
 /// Tells the pieces that are left at a document's end.
 fn tell_left(reader: &PieceReader, met: &mut Met, begins: bool)
-    ensures met { marks_of met.new ≡ joined_marks begins reader.now.kind (left_at_end reader.now.kind reader.now.piece) }
+    ensures met { marks_of met.new ≡ joined_marks begins reader.now.kind
+        (left_at_end reader.now.kind reader.now.piece) }
     ensures ends { met.new.ends ≡ false }
 {
     met.restart(begins);
@@ -95,8 +97,10 @@ impl Scanner {
     /// met with it. Else it is not taken.
     #[inline]
     pub(crate) fn goes_on(&mut self, byte: u8) -> bool
-        requires some { (fed : List ℕ) × (met : List Mark) × HasMet self.old fed met × (length fed < 2 ^ 32) }
-        ensures met { result ≡ true → (fed : List ℕ) (met : List Mark) → HasMet self.old fed met → HasMet self.new (fed ++ byte ∷ []) met }
+        requires some { (fed : List ℕ) × (met : List Mark) × HasMet self.old fed met
+            × (length fed < 2 ^ 32) }
+        ensures met { result ≡ true → (fed : List ℕ) (met : List Mark) → HasMet self.old fed met →
+            HasMet self.new (fed ++ byte ∷ []) met }
         ensures same { result ≡ false → self.new ≡ self.old }
     {
         if !self.is_open || byte == CLOSE {
@@ -112,8 +116,10 @@ impl Scanner {
 
     /// Takes the next byte, of fewer than 2^32 in all before it.
     pub(crate) fn take(&mut self, byte: u8)
-        requires some { (fed : List ℕ) × (met : List Mark) × HasMet self.old fed met × (length fed < 2 ^ 32) }
-        ensures met { (fed : List ℕ) (met : List Mark) → HasMet self.old fed met → HasMet self.new (fed ++ byte ∷ []) (met ++ marks_of self.new.met) }
+        requires some { (fed : List ℕ) × (met : List Mark) × HasMet self.old fed met
+            × (length fed < 2 ^ 32) }
+        ensures met { (fed : List ℕ) (met : List Mark) → HasMet self.old fed met →
+            HasMet self.new (fed ++ byte ∷ []) (met ++ marks_of self.new.met) }
     {
         let begins = !self.is_open;
         match self.splitter.feed(byte) {
@@ -130,7 +136,8 @@ impl Scanner {
 
     /// Takes the end of the collection, where a document may be open.
     pub(crate) fn finish(&mut self)
-        ensures met { (fed : List ℕ) (met : List Mark) → HasMet self.old fed met → marks fed ≡ met ++ marks_of self.new.met }
+        ensures met { (fed : List ℕ) (met : List Mark) → HasMet self.old fed met →
+            marks fed ≡ met ++ marks_of self.new.met }
     {
         if self.is_open {
             end_document(&mut self.reader, &mut self.met, false);
@@ -141,7 +148,8 @@ impl Scanner {
 
     /// Whether bytes came after the last document that was closed.
     pub(crate) fn is_open(&self) -> bool
-        ensures { (fed : List ℕ) (met : List Mark) → HasMet self.now fed met → result ≡ has_open_end fed }
+        ensures { (fed : List ℕ) (met : List Mark) → HasMet self.now fed met →
+            result ≡ has_open_end fed }
     {
         self.is_open
     }

@@ -263,7 +263,8 @@ impl<'a> SecondPass<'a> {
     // Ends the text, and answers its size. Refused where the plan has more documents.
     fn end_text<S: Store>(&mut self, store: &mut S) -> Result<u64, Fault>
         requires whole { IsWhole self.old (S.files store.old) }
-        ensures { Between S.files S.reads S.faults store.old store.new (TextEnd self.old self.new result) }
+        ensures { Between S.files S.reads S.faults store.old store.new
+            (TextEnd self.old self.new result) }
     {
         let plan = self.plan;
         if (self.doc as usize) < plan.pairs.len() {
@@ -322,7 +323,8 @@ fn unknown(stream: Stream) -> Fault
 fn term_of(plan: &Plan, stream: Stream, symbol: u32) -> Option<u32>
     requires plan { IsPlan plan.now }
     requires symbol { symbol < length (code_of stream plan.now.code).pieces }
-    ensures term { (piece : List ℕ) → slice_get (code_of stream plan.now.code).pieces symbol ≡ Some piece →
+    ensures term { (piece : List ℕ) → slice_get (code_of stream plan.now.code).pieces symbol
+        ≡ Some piece →
         result ≡ term_at stream plan.now.terms.terms piece }
     ensures known { (term : ℕ) → result ≡ Some term → term < length plan.now.terms.terms }
 {

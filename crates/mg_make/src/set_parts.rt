@@ -42,9 +42,11 @@ use std::alloc::Global;
 /// Empties the head, so that the files stand for no collection.
 #[tactic(auto, using(mg_dev::specs::Laws::file_laws))]
 pub(crate) fn reset_head<S: Store>(store: &mut S, base: &str) -> Result<(), PutErr>
-    ensures empty { IsSome (S.files store.old) → OnOk result (file_at (S.files store.new) (full_name base.now part.Head) ≡ Some []) }
+    ensures empty { IsSome (S.files store.old) →
+        OnOk result (file_at (S.files store.new) (full_name base.now part.Head) ≡ Some []) }
     ensures unbuilt { IsUnbuilt base.now (S.files store.old) (S.files store.new) }
-    ensures wrote { WroteParts (λ p. p ≡ part.Head) base.now (S.files store.old) (S.files store.new) }
+    ensures wrote { WroteParts (λ p. p ≡ part.Head) base.now (S.files store.old)
+        (S.files store.new) }
     ensures reads { SameReads (S.reads store.old) (S.reads store.new) }
     ensures cause { HasPutCause (S.faults store.old) (S.faults store.new) result }
 {
@@ -71,7 +73,8 @@ pub(crate) fn open_parts<'a, S: Store>(
     ensures base { IfOk result (λ pass. pass.base ≡ base.entry.now) }
     ensures plan { IfOk result (λ pass. pass.plan ≡ plan.entry.now) }
     ensures limit { IfOk result (λ pass. budget_of pass ≡ pool.limit) }
-    ensures models { IsSome (S.files store.old) → OnOk result (PartsHold (S.files store.new) base.entry.now plan.entry.now.code) }
+    ensures models { IsSome (S.files store.old) →
+        OnOk result (PartsHold (S.files store.new) base.entry.now plan.entry.now.code) }
     ensures step { Between S.files S.reads S.faults store.old store.new
         (PutStep OfPass base.entry.now result) }
 {
@@ -85,12 +88,14 @@ pub(crate) fn end_pass<'a, S: Store>(
     scanner: &mut Scanner,
     pass: SecondPass<'a>,
 ) -> Result<Inverted<'a>, Fault>
-    requires put { (fed : List ℕ) × (met : List Mark) × HasMet scanner.old fed met × HasWritten pass (S.files store.old) met × (length fed < 2 ^ 32) }
+    requires put { (fed : List ℕ) × (met : List Mark) × HasMet scanner.old fed met
+        × HasWritten pass (S.files store.old) met × (length fed < 2 ^ 32) }
     ensures handed { ForScanned scanner.old pass.entry (S.files store.old)
         (HandsFor pass.entry (S.files store.old) (S.files store.new) result) }
     ensures step { Between S.files S.reads S.faults store.old store.new
         (SortStep OfSecond pass.entry.base) }
-    ensures refused { ScannedRefused scanner.old pass.entry S.files S.faults store.old store.new result }
+    ensures refused { ScannedRefused scanner.old pass.entry S.files S.faults store.old store.new
+        result }
 {
     let mut pass = pass;
     scanner.finish();
@@ -114,18 +119,21 @@ pub(crate) fn write_rest<S: Store>(
     limit: u64,
 ) -> Result<(Head, u64), Fault>
     requires handed { (fed : List ℕ) × (before : Option Files) ×
-        IsHanded plan.now limit base.now fed before (S.files store.old) inverted × (size ≡ length fed) }
+        IsHanded plan.now limit base.now fed before (S.files store.old) inverted
+        × (size ≡ length fed) }
     requires plan { IsPlan plan.now }
     requires zero { sums.old.items ≡ replicate (length plan.now.pairs) 0 }
     ensures within { IfOk result (λ made. IsWithin (fields_of made.0)) }
     ensures head { ForHanded plan.now limit base.now (S.files store.old) inverted.entry
         (MakesHead size plan.now limit (S.files store.old) result) }
-    ensures peak { ForHanded plan.now limit base.now (S.files store.old) inverted.entry (λ fed. IsPlanOf plan.now fed → HasPeakOf limit result fed) }
+    ensures peak { ForHanded plan.now limit base.now (S.files store.old) inverted.entry
+        (λ fed. IsPlanOf plan.now fed → HasPeakOf limit result fed) }
     ensures stand { ForHanded plan.now limit base.now (S.files store.old) inverted.entry
         (MakesIndex plan.now base.now S.files store.old store.new result) }
     ensures step { Between S.files S.reads S.faults store.old store.new
         (SortStep OfIndex base.now) }
-    ensures refused { HandedRefused plan.now limit base.now inverted.entry S.files S.faults store.old store.new result }
+    ensures refused { HandedRefused plan.now limit base.now inverted.entry S.files S.faults
+        store.old store.new result }
 {
     let Inverted {
         text_bytes,

@@ -16,9 +16,12 @@ use std::alloc::Global;
 
 /// Writes the root of one sum.
 fn put_root<S: Store>(w: &mut PageWriter<'_>, store: &mut S, sum: u64) -> Result<(), PutErr>
-    ensures bytes { IsSome (S.files store.old) → OnOk result (put_to w.new (S.files store.new) ≡ put_to w.old (S.files store.old) ++ four (root sum)) }
+    ensures bytes { IsSome (S.files store.old) →
+        OnOk result (put_to w.new (S.files store.new) ≡ put_to w.old (S.files store.old)
+        ++ four (root sum)) }
     ensures name { w.new.name ≡ w.old.name }
-    ensures wrote { WroteTo w.old.name (S.files store.old) (S.files store.new) (S.reads store.old) (S.reads store.new) }
+    ensures wrote { WroteTo w.old.name (S.files store.old) (S.files store.new) (S.reads store.old)
+        (S.reads store.new) }
     ensures cause { HasPutCause (S.faults store.old) (S.faults store.new) result }
 {
     w.put_all(store, &four_bytes(isqrt(sum)))
@@ -31,8 +34,10 @@ pub(crate) fn write_weights<S: Store>(
     base: &str,
     sums: &[u64],
 ) -> Result<(), PutErr>
-    ensures bytes { IsSome (S.files store.old) → OnOk result (WeightsAreRoots (S.files store.new) base.now sums.now) }
-    ensures wrote { WroteTo (full_name base.now part.Weights) (S.files store.old) (S.files store.new) (S.reads store.old) (S.reads store.new) }
+    ensures bytes { IsSome (S.files store.old) →
+        OnOk result (WeightsAreRoots (S.files store.new) base.now sums.now) }
+    ensures wrote { WroteTo (full_name base.now part.Weights) (S.files store.old)
+        (S.files store.new) (S.reads store.old) (S.reads store.new) }
     ensures cause { HasPutCause (S.faults store.old) (S.faults store.new) result }
 {
     let file = FileRef {

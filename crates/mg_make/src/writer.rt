@@ -88,16 +88,20 @@ impl<'a> SetWriter<'a> {
     /// of the plan.
     #[inline]
     pub fn take<S: Store>(&mut self, store: &mut S, byte: u8) -> Result<(), Fault>
-        requires put { (fed : List ℕ) × HasPut self.old (S.files store.old) fed × (length fed < 2 ^ 32 - 1) }
-        ensures put { OnOk result ((fed : List ℕ) → HasPut self.old (S.files store.old) fed → HasPut self.new (S.files store.new) (fed ++ byte ∷ [])) }
+        requires put { (fed : List ℕ) × HasPut self.old (S.files store.old) fed
+            × (length fed < 2 ^ 32 - 1) }
+        ensures put { OnOk result ((fed : List ℕ) → HasPut self.old (S.files store.old) fed →
+            HasPut self.new (S.files store.new) (fed ++ byte ∷ [])) }
         ensures base { self.new.base ≡ self.old.base }
         ensures plan { self.new.plan ≡ self.old.plan }
         ensures limit { self.new.limit ≡ self.old.limit }
-        ensures head { IsSome (S.files store.old) → file_at (S.files store.new) (full_name self.old.base part.Head) ≡ Some [] }
+        ensures head { IsSome (S.files store.old) →
+            file_at (S.files store.new) (full_name self.old.base part.Head) ≡ Some [] }
         ensures others { OthersSame self.old.base (S.files store.old) (S.files store.new) }
         ensures plain { S.reads store.old part.Plain ≤ S.reads store.new part.Plain }
         ensures later { S.faults store.old ≤ S.faults store.new }
-        ensures refused { NextRefused self.old (λ more. byte ∷ more) S.files S.faults store.old store.new result }
+        ensures refused { NextRefused self.old (λ more. byte ∷ more) S.files S.faults store.old
+            store.new result }
     {
         if self.scanner.goes_on(byte) {
             self.size += 1;
@@ -108,16 +112,20 @@ impl<'a> SetWriter<'a> {
 
     /// Writes what a byte makes that may end a piece, or begin or end a document.
     fn take_other<S: Store>(&mut self, store: &mut S, byte: u8) -> Result<(), Fault>
-        requires put { (fed : List ℕ) × HasPut self.old (S.files store.old) fed × (length fed < 2 ^ 32 - 1) }
-        ensures put { OnOk result ((fed : List ℕ) → HasPut self.old (S.files store.old) fed → HasPut self.new (S.files store.new) (fed ++ byte ∷ [])) }
+        requires put { (fed : List ℕ) × HasPut self.old (S.files store.old) fed
+            × (length fed < 2 ^ 32 - 1) }
+        ensures put { OnOk result ((fed : List ℕ) → HasPut self.old (S.files store.old) fed →
+            HasPut self.new (S.files store.new) (fed ++ byte ∷ [])) }
         ensures base { self.new.base ≡ self.old.base }
         ensures plan { self.new.plan ≡ self.old.plan }
         ensures limit { self.new.limit ≡ self.old.limit }
-        ensures head { IsSome (S.files store.old) → file_at (S.files store.new) (full_name self.old.base part.Head) ≡ Some [] }
+        ensures head { IsSome (S.files store.old) →
+            file_at (S.files store.new) (full_name self.old.base part.Head) ≡ Some [] }
         ensures others { OthersSame self.old.base (S.files store.old) (S.files store.new) }
         ensures reads { SameReads (S.reads store.old) (S.reads store.new) }
         ensures later { S.faults store.old ≤ S.faults store.new }
-        ensures refused { NextRefused self.old (λ more. byte ∷ more) S.files S.faults store.old store.new result }
+        ensures refused { NextRefused self.old (λ more. byte ∷ more) S.files S.faults store.old
+            store.new result }
     {
         self.scanner.take(byte);
         match self.pass.take(store, self.scanner.met()) {
@@ -131,12 +139,17 @@ impl<'a> SetWriter<'a> {
     // Writes all parts but the head, and makes the head that belongs to them, with the greatest use of the
     // pool.
     fn write_parts<S: Store>(self, alloc: Global, store: &mut S) -> Result<(Head, u64), Fault>
-        requires put { (fed : List ℕ) × HasPut self (S.files store.old) fed × (length fed < 2 ^ 32) }
-        ensures ready { ForPut self.entry (S.files store.old) (MakesReady self.entry (S.files store.new) result) }
+        requires put { (fed : List ℕ) × HasPut self (S.files store.old) fed
+            × (length fed < 2 ^ 32) }
+        ensures ready { ForPut self.entry (S.files store.old)
+            (MakesReady self.entry (S.files store.new) result) }
         ensures within { IfOk result (λ made. IsWithin (fields_of made.0)) }
-        ensures head { ForPut self.entry (S.files store.old) (HasHeadOf self.entry.plan self.entry.limit result) }
-        ensures peak { (fed : List ℕ) → HasPut self.entry (S.files store.old) fed → IsPlanOf self.entry.plan fed → HasPeakOf self.entry.limit result fed }
-        ensures gone { IsSome (S.files store.old) → file_at (S.files store.new) (full_name self.entry.base part.Head) ≡ Some [] }
+        ensures head { ForPut self.entry (S.files store.old)
+            (HasHeadOf self.entry.plan self.entry.limit result) }
+        ensures peak { (fed : List ℕ) → HasPut self.entry (S.files store.old) fed →
+            IsPlanOf self.entry.plan fed → HasPeakOf self.entry.limit result fed }
+        ensures gone { IsSome (S.files store.old) →
+            file_at (S.files store.new) (full_name self.entry.base part.Head) ≡ Some [] }
         ensures others { OthersSame self.entry.base (S.files store.old) (S.files store.new) }
         ensures reads { ReadRuns (S.reads store.old) (S.reads store.new) }
         ensures later { S.faults store.old ≤ S.faults store.new }
@@ -167,12 +180,18 @@ impl<'a> SetWriter<'a> {
     /// The store's faults, and want of memory. `Changed` and `Damaged` come only where the bytes are not those
     /// of the plan or the store does not tell its files.
     pub fn finish<S: Store>(self, alloc: Global, store: &mut S) -> Result<Summary, Fault>
-        requires put { (fed : List ℕ) × HasPut self (S.files store.old) fed × (length fed < 2 ^ 32) }
-        ensures stands { ForPut self.entry (S.files store.old) (MakesSet self.entry.limit (S.files store.new) self.entry.base result) }
-        ensures summary { ForPut self.entry (S.files store.old) (HasSummaryOf self.entry.limit result) }
-        ensures merge_a { ForPut self.entry (S.files store.old) (λ fed. OnOk result (IsEmptied (S.files store.new) self.entry.base part.MergeA)) }
-        ensures merge_b { ForPut self.entry (S.files store.old) (λ fed. OnOk result (IsEmptied (S.files store.new) self.entry.base part.MergeB)) }
-        ensures left { ForPut self.entry (S.files store.old) (StandsForNoOther (S.files store.new) self.entry.base) }
+        requires put { (fed : List ℕ) × HasPut self (S.files store.old) fed
+            × (length fed < 2 ^ 32) }
+        ensures stands { ForPut self.entry (S.files store.old)
+            (MakesSet self.entry.limit (S.files store.new) self.entry.base result) }
+        ensures summary { ForPut self.entry (S.files store.old)
+            (HasSummaryOf self.entry.limit result) }
+        ensures merge_a { ForPut self.entry (S.files store.old)
+            (λ fed. OnOk result (IsEmptied (S.files store.new) self.entry.base part.MergeA)) }
+        ensures merge_b { ForPut self.entry (S.files store.old)
+            (λ fed. OnOk result (IsEmptied (S.files store.new) self.entry.base part.MergeB)) }
+        ensures left { ForPut self.entry (S.files store.old)
+            (StandsForNoOther (S.files store.new) self.entry.base) }
         ensures others { OthersSame self.entry.base (S.files store.old) (S.files store.new) }
         ensures plain { S.reads store.old part.Plain ≤ S.reads store.new part.Plain }
         ensures later { S.faults store.old ≤ S.faults store.new }
@@ -193,14 +212,17 @@ impl<'a> SetWriter<'a> {
 
 /// A set whose head is empty stands for no collection.
 pub fn empty_heads_stand_for_none()
-    ensures { (base : List ℕ) (now : Option Files) → file_at now (full_name base part.Head) ≡ Some [] → StandsForNone now base }
+    ensures { (base : List ℕ) (now : Option Files) → file_at now (full_name base part.Head)
+        ≡ Some [] → StandsForNone now base }
 {}
 
 /// Parts that are ready stand for their collection once their head is appended; with no more than a part of it
 /// they stand for none, or for this one.
 pub fn heads_make_sets()
-    ensures whole { WhereHeadLacks (λ base collection cap code before now. now ≡ with_head before base cap code collection →
+    ensures whole { WhereHeadLacks (λ base collection cap code before now.
+        now ≡ with_head before base cap code collection →
         StandsIn 2 cap now base collection) }
-    ensures left { WhereHeadLacks (λ base collection cap code before now. GrewByHead before now base cap code collection →
+    ensures left { WhereHeadLacks (λ base collection cap code before now.
+        GrewByHead before now base cap code collection →
         StandsForNoOther now base collection) }
 {}

@@ -31,7 +31,8 @@ pub keep-before : (ps : List PlannedFailure) (call n : ℕ) (before : Option ℕ
 keep-before [] call n before earlier = refl
 keep-before (p ∷ ps) call n before earlier = by_test (below call p) refl (λ k. keep-before ps call n k earlier)
   where
-    by_test : (b : Bool) → below call p ≡ b → ((k : Option ℕ) → fold (keep_of n) k (filter (below call) ps) ≡ fold (keep_of n) k ps) → fold (keep_of n) before (cond b (p ∷ filter (below call) ps) (filter (below call) ps)) ≡ fold (keep_of n) (keep_of n before p) ps
+    by_test : (b : Bool) → below call p ≡ b → ((k : Option ℕ) → fold (keep_of n) k (filter (below call) ps) ≡ fold (keep_of n) k ps) →
+        fold (keep_of n) before (cond b (p ∷ filter (below call) ps) (filter (below call) ps)) ≡ fold (keep_of n) (keep_of n before p) ps
     by_test true e more = more (keep_of n before p)
     by_test false e more =
         let late : call ≤ p.call = grind (arith, nat_tests, e) in
@@ -42,7 +43,8 @@ pub keep-after : (ps : List PlannedFailure) (call n : ℕ) (before : Option ℕ)
 keep-after [] call n before later = refl
 keep-after (p ∷ ps) call n before later = by_test (below call p) refl (λ k. keep-after ps call n k later)
   where
-    by_test : (b : Bool) → below call p ≡ b → ((k : Option ℕ) → fold (keep_of n) k (filter (below call) ps) ≡ k) → fold (keep_of n) before (cond b (p ∷ filter (below call) ps) (filter (below call) ps)) ≡ before
+    by_test : (b : Bool) → below call p ≡ b → ((k : Option ℕ) → fold (keep_of n) k (filter (below call) ps) ≡ k) →
+        fold (keep_of n) before (cond b (p ∷ filter (below call) ps) (filter (below call) ps)) ≡ before
     by_test true e more =
         let early : p.call < call = grind (arith, nat_tests, e) in
         more (keep_of n before p) ∙ keep_of-other n before p (omega arith)

@@ -26,11 +26,13 @@ sink_plan sink = sink.plan
 
 -- where the plan says of the next call how much it keeps, so much of the piece was added to the file; `files` tells those of the store
 abbrev pub AppendKept : (MemStore → Option Files) → MemStore → MemStore → List ℕ → List ℕ → Type 0
-AppendKept files before now name piece = IfSome (next_keep (store_plan before)) (λ count. files now ≡ kept (files before) name (take count piece))
+AppendKept files before now name piece = IfSome (next_keep (store_plan before))
+    (λ count. files now ≡ kept (files before) name (take count piece))
 
 -- where the plan says of the next put how much it keeps, so much of the piece was added; `written` tells what the sink holds
 abbrev pub PutKept : (MemSink → Option (List ℕ)) → MemSink → MemSink → List ℕ → Type 0
-PutKept written before now piece = IfSome (next_keep (sink_plan before)) (λ count. written now ≡ appended (written before) (take count piece))
+PutKept written before now piece = IfSome (next_keep (sink_plan before))
+    (λ count. written now ≡ appended (written before) (take count piece))
 
 -- how many calls of the store there were
 abbrev pub store_calls : SureStore → ℕ

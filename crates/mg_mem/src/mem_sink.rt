@@ -47,7 +47,8 @@ impl MemSink {
     pub fn fail_at(&mut self, call: u64, keep: u64) -> Result<(), AllocError>
         ensures ok { OnOk result (FailsAt (sink_plan self.old) (sink_plan self.new) call keep) }
         ensures err { OnErr result (SamePlan (sink_plan self.old) (sink_plan self.new)) }
-        ensures written { ⟦<MemSink as Sink>⟧.written self.new ≡ ⟦<MemSink as Sink>⟧.written self.old }
+        ensures written { ⟦<MemSink as Sink>⟧.written self.new
+            ≡ ⟦<MemSink as Sink>⟧.written self.old }
         ensures faults { ⟦<MemSink as Sink>⟧.faults self.new ≡ ⟦<MemSink as Sink>⟧.faults self.old }
         ensures lacks { ⟦<MemSink as Sink>⟧.lacks self.new ≡ ⟦<MemSink as Sink>⟧.lacks self.old }
     {
@@ -66,16 +67,23 @@ impl Sink for MemSink {
     /// Where the put is to fail and there is no memory for the bytes that it keeps, it answers
     /// `Memory` and keeps none.
     fn put(&mut self, piece: &[u8]) -> Result<(), PutErr>
-        ensures content { AfterPut (⟦<MemSink as Sink>⟧.written self.old) (⟦<MemSink as Sink>⟧.written self.new) piece.now result }
-        ensures cause { HasPutCause (⟦<MemSink as Sink>⟧.faults self.old) (⟦<MemSink as Sink>⟧.faults self.new) result }
-        ensures lack { HasLack (⟦<MemSink as Sink>⟧.lacks self.old) (⟦<MemSink as Sink>⟧.lacks self.new) result }
+        ensures content { AfterPut (⟦<MemSink as Sink>⟧.written self.old)
+            (⟦<MemSink as Sink>⟧.written self.new) piece.now result }
+        ensures cause { HasPutCause (⟦<MemSink as Sink>⟧.faults self.old)
+            (⟦<MemSink as Sink>⟧.faults self.new) result }
+        ensures lack { HasLack (⟦<MemSink as Sink>⟧.lacks self.old)
+            (⟦<MemSink as Sink>⟧.lacks self.new) result }
         ensures refused { IsSome (next_keep (sink_plan self.old)) → IsErr result }
         ensures failed { IsErrOf result PutErr.Failed → IsSome (next_keep (sink_plan self.old)) }
-        ensures kept { IsErrOf result PutErr.Failed → PutKept ⟦<MemSink as Sink>⟧.written self.old self.new piece.now }
-        ensures memory { IsErrOf result PutErr.Memory → ⟦<MemSink as Sink>⟧.written self.new ≡ ⟦<MemSink as Sink>⟧.written self.old }
+        ensures kept { IsErrOf result PutErr.Failed →
+            PutKept ⟦<MemSink as Sink>⟧.written self.old self.new piece.now }
+        ensures memory { IsErrOf result PutErr.Memory → ⟦<MemSink as Sink>⟧.written self.new
+            ≡ ⟦<MemSink as Sink>⟧.written self.old }
         ensures counted { AfterCall (sink_plan self.old) (sink_plan self.new) }
-        ensures calm { result ≢ Err PutErr.Failed → ⟦<MemSink as Sink>⟧.faults self.new ≡ ⟦<MemSink as Sink>⟧.faults self.old }
-        ensures ample { result ≢ Err PutErr.Memory → ⟦<MemSink as Sink>⟧.lacks self.new ≡ ⟦<MemSink as Sink>⟧.lacks self.old }
+        ensures calm { result ≢ Err PutErr.Failed → ⟦<MemSink as Sink>⟧.faults self.new
+            ≡ ⟦<MemSink as Sink>⟧.faults self.old }
+        ensures ample { result ≢ Err PutErr.Memory → ⟦<MemSink as Sink>⟧.lacks self.new
+            ≡ ⟦<MemSink as Sink>⟧.lacks self.old }
     {
         match self.plan.begin() {
             None => self.inner.put(piece),

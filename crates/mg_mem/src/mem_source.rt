@@ -24,7 +24,8 @@ impl MemSource {
     /// A source of these bytes, of which each read gives at most `step` and none is to fail.
     pub fn new(alloc: Global, bytes: &[u8], step: usize) -> Result<Self, AllocError>
         requires { 1 ≤ step }
-        ensures left { IfOk result (λ source. ⟦<MemSource as Source>⟧.left source ≡ Some bytes.now) }
+        ensures left { IfOk result (λ source. ⟦<MemSource as Source>⟧.left source
+            ≡ Some bytes.now) }
         ensures faults { IfOk result (λ source. ⟦<MemSource as Source>⟧.faults source ≡ 0) }
         ensures step { IfOk result (λ source. mem_step source ≡ step) }
         ensures calls { IfOk result (λ source. calls_of (source_plan source) ≡ 0) }
@@ -41,8 +42,10 @@ impl MemSource {
     pub fn fail_at(&mut self, call: u64) -> Result<(), AllocError>
         ensures ok { OnOk result (FailsAt (source_plan self.old) (source_plan self.new) call 0) }
         ensures err { OnErr result (SamePlan (source_plan self.old) (source_plan self.new)) }
-        ensures left { ⟦<MemSource as Source>⟧.left self.new ≡ ⟦<MemSource as Source>⟧.left self.old }
-        ensures faults { ⟦<MemSource as Source>⟧.faults self.new ≡ ⟦<MemSource as Source>⟧.faults self.old }
+        ensures left { ⟦<MemSource as Source>⟧.left self.new
+            ≡ ⟦<MemSource as Source>⟧.left self.old }
+        ensures faults { ⟦<MemSource as Source>⟧.faults self.new
+            ≡ ⟦<MemSource as Source>⟧.faults self.old }
         ensures step { mem_step self.new ≡ mem_step self.old }
     {
         self.plan.fail_at(call, 0)
@@ -56,12 +59,16 @@ impl Source for MemSource {
 
     fn read(&mut self, buf: &mut [u8]) -> Result<usize, Failed>
         ensures bound { ReadsAtMost result buf.new }
-        ensures bytes { AfterRead (⟦<MemSource as Source>⟧.left self.old) (⟦<MemSource as Source>⟧.left self.new) buf.new result }
-        ensures cause { HasCause (⟦<MemSource as Source>⟧.faults self.old) (⟦<MemSource as Source>⟧.faults self.new) result }
+        ensures bytes { AfterRead (⟦<MemSource as Source>⟧.left self.old)
+            (⟦<MemSource as Source>⟧.left self.new) buf.new result }
+        ensures cause { HasCause (⟦<MemSource as Source>⟧.faults self.old)
+            (⟦<MemSource as Source>⟧.faults self.new) result }
         ensures planned { IsErr result ↔ IsSome (next_keep (source_plan self.old)) }
         ensures counted { AfterCall (source_plan self.old) (source_plan self.new) }
-        ensures calm { OnOk result (⟦<MemSource as Source>⟧.faults self.new ≡ ⟦<MemSource as Source>⟧.faults self.old) }
-        ensures count { GivesStep (mem_step self.old) (⟦<MemSource as Source>⟧.left self.old) buf.new result }
+        ensures calm { OnOk result (⟦<MemSource as Source>⟧.faults self.new
+            ≡ ⟦<MemSource as Source>⟧.faults self.old) }
+        ensures count { GivesStep (mem_step self.old) (⟦<MemSource as Source>⟧.left self.old)
+            buf.new result }
         ensures step { mem_step self.new ≡ mem_step self.old }
     {
         if self.plan.begin().is_some() {

@@ -40,10 +40,14 @@ impl MemStore {
 
     /// Sets one file. After want of memory nothing changed.
     pub fn put_file(&mut self, name: &str, bytes: &[u8]) -> Result<(), AllocError>
-        ensures ok { OnOk result (⟦<MemStore as Store>⟧.files self.new ≡ written (⟦<MemStore as Store>⟧.files self.old) name.now bytes.now) }
-        ensures err { OnErr result (⟦<MemStore as Store>⟧.files self.new ≡ ⟦<MemStore as Store>⟧.files self.old) }
-        ensures faults { ⟦<MemStore as Store>⟧.faults self.new ≡ ⟦<MemStore as Store>⟧.faults self.old }
-        ensures reads { SameReads (⟦<MemStore as Store>⟧.reads self.old) (⟦<MemStore as Store>⟧.reads self.new) }
+        ensures ok { OnOk result (⟦<MemStore as Store>⟧.files self.new
+            ≡ written (⟦<MemStore as Store>⟧.files self.old) name.now bytes.now) }
+        ensures err { OnErr result (⟦<MemStore as Store>⟧.files self.new
+            ≡ ⟦<MemStore as Store>⟧.files self.old) }
+        ensures faults { ⟦<MemStore as Store>⟧.faults self.new
+            ≡ ⟦<MemStore as Store>⟧.faults self.old }
+        ensures reads { SameReads (⟦<MemStore as Store>⟧.reads self.old)
+            (⟦<MemStore as Store>⟧.reads self.new) }
         ensures plan { store_plan self.new ≡ store_plan self.old }
     {
         self.inner.put_file(name, bytes)
@@ -61,9 +65,12 @@ impl MemStore {
     pub fn fail_at(&mut self, call: u64, keep: u64) -> Result<(), AllocError>
         ensures ok { OnOk result (FailsAt (store_plan self.old) (store_plan self.new) call keep) }
         ensures err { OnErr result (SamePlan (store_plan self.old) (store_plan self.new)) }
-        ensures files { ⟦<MemStore as Store>⟧.files self.new ≡ ⟦<MemStore as Store>⟧.files self.old }
-        ensures faults { ⟦<MemStore as Store>⟧.faults self.new ≡ ⟦<MemStore as Store>⟧.faults self.old }
-        ensures reads { SameReads (⟦<MemStore as Store>⟧.reads self.old) (⟦<MemStore as Store>⟧.reads self.new) }
+        ensures files { ⟦<MemStore as Store>⟧.files self.new
+            ≡ ⟦<MemStore as Store>⟧.files self.old }
+        ensures faults { ⟦<MemStore as Store>⟧.faults self.new
+            ≡ ⟦<MemStore as Store>⟧.faults self.old }
+        ensures reads { SameReads (⟦<MemStore as Store>⟧.reads self.old)
+            (⟦<MemStore as Store>⟧.reads self.new) }
     {
         self.plan.fail_at(call, keep)
     }
@@ -71,9 +78,12 @@ impl MemStore {
     /// Makes each call from this number on fail, and keep nothing.
     pub fn fail_from(&mut self, call: u64)
         ensures plan { FailsFrom (store_plan self.old) (store_plan self.new) call }
-        ensures files { ⟦<MemStore as Store>⟧.files self.new ≡ ⟦<MemStore as Store>⟧.files self.old }
-        ensures faults { ⟦<MemStore as Store>⟧.faults self.new ≡ ⟦<MemStore as Store>⟧.faults self.old }
-        ensures reads { SameReads (⟦<MemStore as Store>⟧.reads self.old) (⟦<MemStore as Store>⟧.reads self.new) }
+        ensures files { ⟦<MemStore as Store>⟧.files self.new
+            ≡ ⟦<MemStore as Store>⟧.files self.old }
+        ensures faults { ⟦<MemStore as Store>⟧.faults self.new
+            ≡ ⟦<MemStore as Store>⟧.faults self.old }
+        ensures reads { SameReads (⟦<MemStore as Store>⟧.reads self.old)
+            (⟦<MemStore as Store>⟧.reads self.new) }
     {
         self.plan.fail_from(call);
     }
@@ -113,12 +123,16 @@ impl Store for MemStore {
 
     fn size(&mut self, file: &FileRef<'_>) -> Result<Option<u64>, Failed>
         ensures answer { IsSize (⟦<MemStore as Store>⟧.files self.old) (file_name file.now) result }
-        ensures files { ⟦<MemStore as Store>⟧.files self.new ≡ ⟦<MemStore as Store>⟧.files self.old }
-        ensures reads { SameReads (⟦<MemStore as Store>⟧.reads self.old) (⟦<MemStore as Store>⟧.reads self.new) }
-        ensures cause { HasCause (⟦<MemStore as Store>⟧.faults self.old) (⟦<MemStore as Store>⟧.faults self.new) result }
+        ensures files { ⟦<MemStore as Store>⟧.files self.new
+            ≡ ⟦<MemStore as Store>⟧.files self.old }
+        ensures reads { SameReads (⟦<MemStore as Store>⟧.reads self.old)
+            (⟦<MemStore as Store>⟧.reads self.new) }
+        ensures cause { HasCause (⟦<MemStore as Store>⟧.faults self.old)
+            (⟦<MemStore as Store>⟧.faults self.new) result }
         ensures planned { IsErr result ↔ IsSome (next_keep (store_plan self.old)) }
         ensures counted { AfterCall (store_plan self.old) (store_plan self.new) }
-        ensures calm { OnOk result (⟦<MemStore as Store>⟧.faults self.new ≡ ⟦<MemStore as Store>⟧.faults self.old) }
+        ensures calm { OnOk result (⟦<MemStore as Store>⟧.faults self.new
+            ≡ ⟦<MemStore as Store>⟧.faults self.old) }
     {
         if self.plan.begin().is_some() {
             return Err(self.failed());
@@ -128,13 +142,18 @@ impl Store for MemStore {
 
     fn read_at(&mut self, file: &FileRef<'_>, at: u64, buf: &mut [u8]) -> Result<usize, Failed>
         ensures bound { ReadsAtMost result buf.new }
-        ensures bytes { IsRead (⟦<MemStore as Store>⟧.files self.old) (file_name file.now) at buf.new result }
-        ensures files { ⟦<MemStore as Store>⟧.files self.new ≡ ⟦<MemStore as Store>⟧.files self.old }
-        ensures reads { OneRead (⟦<MemStore as Store>⟧.reads self.old) (⟦<MemStore as Store>⟧.reads self.new) file.now.part }
-        ensures cause { HasCause (⟦<MemStore as Store>⟧.faults self.old) (⟦<MemStore as Store>⟧.faults self.new) result }
+        ensures bytes { IsRead (⟦<MemStore as Store>⟧.files self.old) (file_name file.now) at
+            buf.new result }
+        ensures files { ⟦<MemStore as Store>⟧.files self.new
+            ≡ ⟦<MemStore as Store>⟧.files self.old }
+        ensures reads { OneRead (⟦<MemStore as Store>⟧.reads self.old)
+            (⟦<MemStore as Store>⟧.reads self.new) file.now.part }
+        ensures cause { HasCause (⟦<MemStore as Store>⟧.faults self.old)
+            (⟦<MemStore as Store>⟧.faults self.new) result }
         ensures planned { IsErr result ↔ IsSome (next_keep (store_plan self.old)) }
         ensures counted { AfterCall (store_plan self.old) (store_plan self.new) }
-        ensures calm { OnOk result (⟦<MemStore as Store>⟧.faults self.new ≡ ⟦<MemStore as Store>⟧.faults self.old) }
+        ensures calm { OnOk result (⟦<MemStore as Store>⟧.faults self.new
+            ≡ ⟦<MemStore as Store>⟧.faults self.old) }
     {
         if self.plan.begin().is_some() {
             self.inner.count_failed_read(file.part);
@@ -144,13 +163,18 @@ impl Store for MemStore {
     }
 
     fn reset(&mut self, file: &FileRef<'_>) -> Result<(), PutErr>
-        ensures content { AfterReset (⟦<MemStore as Store>⟧.files self.old) (⟦<MemStore as Store>⟧.files self.new) (file_name file.now) result }
-        ensures reads { SameReads (⟦<MemStore as Store>⟧.reads self.old) (⟦<MemStore as Store>⟧.reads self.new) }
-        ensures cause { HasPutCause (⟦<MemStore as Store>⟧.faults self.old) (⟦<MemStore as Store>⟧.faults self.new) result }
+        ensures content { AfterReset (⟦<MemStore as Store>⟧.files self.old)
+            (⟦<MemStore as Store>⟧.files self.new) (file_name file.now) result }
+        ensures reads { SameReads (⟦<MemStore as Store>⟧.reads self.old)
+            (⟦<MemStore as Store>⟧.reads self.new) }
+        ensures cause { HasPutCause (⟦<MemStore as Store>⟧.faults self.old)
+            (⟦<MemStore as Store>⟧.faults self.new) result }
         ensures planned { IsErrOf result PutErr.Failed ↔ IsSome (next_keep (store_plan self.old)) }
-        ensures err { OnErr result (⟦<MemStore as Store>⟧.files self.new ≡ ⟦<MemStore as Store>⟧.files self.old) }
+        ensures err { OnErr result (⟦<MemStore as Store>⟧.files self.new
+            ≡ ⟦<MemStore as Store>⟧.files self.old) }
         ensures counted { AfterCall (store_plan self.old) (store_plan self.new) }
-        ensures calm { result ≢ Err PutErr.Failed → ⟦<MemStore as Store>⟧.faults self.new ≡ ⟦<MemStore as Store>⟧.faults self.old }
+        ensures calm { result ≢ Err PutErr.Failed → ⟦<MemStore as Store>⟧.faults self.new
+            ≡ ⟦<MemStore as Store>⟧.faults self.old }
     {
         if self.plan.begin().is_some() {
             self.failed();
@@ -162,15 +186,22 @@ impl Store for MemStore {
     /// Where the append is to fail and there is no memory for the bytes that it keeps, it answers
     /// `Memory` and keeps none.
     fn append(&mut self, file: &FileRef<'_>, piece: &[u8]) -> Result<(), PutErr>
-        ensures content { AfterAppend (⟦<MemStore as Store>⟧.files self.old) (⟦<MemStore as Store>⟧.files self.new) (file_name file.now) piece.now result }
-        ensures reads { SameReads (⟦<MemStore as Store>⟧.reads self.old) (⟦<MemStore as Store>⟧.reads self.new) }
-        ensures cause { HasPutCause (⟦<MemStore as Store>⟧.faults self.old) (⟦<MemStore as Store>⟧.faults self.new) result }
+        ensures content { AfterAppend (⟦<MemStore as Store>⟧.files self.old)
+            (⟦<MemStore as Store>⟧.files self.new) (file_name file.now) piece.now result }
+        ensures reads { SameReads (⟦<MemStore as Store>⟧.reads self.old)
+            (⟦<MemStore as Store>⟧.reads self.new) }
+        ensures cause { HasPutCause (⟦<MemStore as Store>⟧.faults self.old)
+            (⟦<MemStore as Store>⟧.faults self.new) result }
         ensures refused { IsSome (next_keep (store_plan self.old)) → IsErr result }
         ensures failed { IsErrOf result PutErr.Failed → IsSome (next_keep (store_plan self.old)) }
-        ensures kept { IsErrOf result PutErr.Failed → AppendKept ⟦<MemStore as Store>⟧.files self.old self.new (file_name file.now) piece.now }
-        ensures memory { IsErrOf result PutErr.Memory → ⟦<MemStore as Store>⟧.files self.new ≡ ⟦<MemStore as Store>⟧.files self.old }
+        ensures kept { IsErrOf result PutErr.Failed →
+            AppendKept ⟦<MemStore as Store>⟧.files self.old self.new (file_name file.now)
+            piece.now }
+        ensures memory { IsErrOf result PutErr.Memory → ⟦<MemStore as Store>⟧.files self.new
+            ≡ ⟦<MemStore as Store>⟧.files self.old }
         ensures counted { AfterCall (store_plan self.old) (store_plan self.new) }
-        ensures calm { result ≢ Err PutErr.Failed → ⟦<MemStore as Store>⟧.faults self.new ≡ ⟦<MemStore as Store>⟧.faults self.old }
+        ensures calm { result ≢ Err PutErr.Failed → ⟦<MemStore as Store>⟧.faults self.new
+            ≡ ⟦<MemStore as Store>⟧.faults self.old }
     {
         match self.plan.begin() {
             None => self.inner.append(file, piece),

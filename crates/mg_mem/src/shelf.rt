@@ -77,7 +77,8 @@ impl Shelf {
 
     /// The file has these bytes. After want of memory nothing changed.
     pub fn set(&mut self, file: &FileRef<'_>, bytes: Vec<u8>) -> Result<(), AllocError>
-        ensures ok { OnOk result (files_of self.new.files.items ≡ put (files_of self.old.files.items) (file_name file.now) bytes.items) }
+        ensures ok { OnOk result (files_of self.new.files.items
+            ≡ put (files_of self.old.files.items) (file_name file.now) bytes.items) }
         ensures err { OnErr result (files_of self.new.files.items ≡ files_of self.old.files.items) }
     {
         match self.find(file) {
@@ -94,7 +95,8 @@ impl Shelf {
 
     /// The file has grown by the piece. After want of memory nothing changed.
     pub fn extend(&mut self, file: &FileRef<'_>, piece: &[u8]) -> Result<(), AllocError>
-        ensures ok { OnOk result (Some (files_of self.new.files.items) ≡ grown (Some (files_of self.old.files.items)) (file_name file.now) piece.now) }
+        ensures ok { OnOk result (Some (files_of self.new.files.items)
+            ≡ grown (Some (files_of self.old.files.items)) (file_name file.now) piece.now) }
         ensures err { OnErr result (files_of self.new.files.items ≡ files_of self.old.files.items) }
     {
         match self.find(file) {

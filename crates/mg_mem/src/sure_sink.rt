@@ -43,12 +43,17 @@ impl Sink for SureSink {
     ghost lacks = { λ s. s.lacks };
 
     fn put(&mut self, piece: &[u8]) -> Result<(), PutErr>
-        ensures content { AfterPut (⟦<SureSink as Sink>⟧.written self.old) (⟦<SureSink as Sink>⟧.written self.new) piece.now result }
-        ensures cause { HasPutCause (⟦<SureSink as Sink>⟧.faults self.old) (⟦<SureSink as Sink>⟧.faults self.new) result }
-        ensures lack { HasLack (⟦<SureSink as Sink>⟧.lacks self.old) (⟦<SureSink as Sink>⟧.lacks self.new) result }
+        ensures content { AfterPut (⟦<SureSink as Sink>⟧.written self.old)
+            (⟦<SureSink as Sink>⟧.written self.new) piece.now result }
+        ensures cause { HasPutCause (⟦<SureSink as Sink>⟧.faults self.old)
+            (⟦<SureSink as Sink>⟧.faults self.new) result }
+        ensures lack { HasLack (⟦<SureSink as Sink>⟧.lacks self.old)
+            (⟦<SureSink as Sink>⟧.lacks self.new) result }
         ensures sure { result ≢ Err PutErr.Failed }
-        ensures calm { OnOk result (⟦<SureSink as Sink>⟧.lacks self.new ≡ ⟦<SureSink as Sink>⟧.lacks self.old) }
-        ensures err { OnErr result (⟦<SureSink as Sink>⟧.written self.new ≡ ⟦<SureSink as Sink>⟧.written self.old) }
+        ensures calm { OnOk result (⟦<SureSink as Sink>⟧.lacks self.new
+            ≡ ⟦<SureSink as Sink>⟧.lacks self.old) }
+        ensures err { OnErr result (⟦<SureSink as Sink>⟧.written self.new
+            ≡ ⟦<SureSink as Sink>⟧.written self.old) }
     {
         match self.bytes.extend_from_slice(piece) {
             Ok(()) => Ok(()),

@@ -20,7 +20,8 @@ impl SureSource {
     /// A source of these bytes.
     pub fn new(alloc: Global, bytes: &[u8], step: usize) -> Result<Self, AllocError>
         requires { 1 ≤ step }
-        ensures left { IfOk result (λ source. ⟦<SureSource as Source>⟧.left source ≡ Some bytes.now) }
+        ensures left { IfOk result (λ source. ⟦<SureSource as Source>⟧.left source
+            ≡ Some bytes.now) }
         ensures step { IfOk result (λ source. sure_step source ≡ step) }
     {
         let bytes = bytes.to_vec(alloc)?;
@@ -43,10 +44,13 @@ impl Source for SureSource {
 
     fn read(&mut self, buf: &mut [u8]) -> Result<usize, Failed>
         ensures bound { ReadsAtMost result buf.new }
-        ensures bytes { AfterRead (⟦<SureSource as Source>⟧.left self.old) (⟦<SureSource as Source>⟧.left self.new) buf.new result }
-        ensures cause { HasCause (⟦<SureSource as Source>⟧.faults self.old) (⟦<SureSource as Source>⟧.faults self.new) result }
+        ensures bytes { AfterRead (⟦<SureSource as Source>⟧.left self.old)
+            (⟦<SureSource as Source>⟧.left self.new) buf.new result }
+        ensures cause { HasCause (⟦<SureSource as Source>⟧.faults self.old)
+            (⟦<SureSource as Source>⟧.faults self.new) result }
         ensures sure { IsOk result }
-        ensures count { GivesStep (sure_step self.old) (⟦<SureSource as Source>⟧.left self.old) buf.new result }
+        ensures count { GivesStep (sure_step self.old) (⟦<SureSource as Source>⟧.left self.old)
+            buf.new result }
         ensures step { sure_step self.new ≡ sure_step self.old }
     {
         let rest = self.rest();

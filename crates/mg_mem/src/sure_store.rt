@@ -39,9 +39,12 @@ impl SureStore {
 
     /// Sets one file. After want of memory nothing changed.
     pub fn put_file(&mut self, name: &str, bytes: &[u8]) -> Result<(), AllocError>
-        ensures ok { OnOk result (⟦<SureStore as Store>⟧.files self.new ≡ written (⟦<SureStore as Store>⟧.files self.old) name.now bytes.now) }
-        ensures err { OnErr result (⟦<SureStore as Store>⟧.files self.new ≡ ⟦<SureStore as Store>⟧.files self.old) }
-        ensures reads { SameReads (⟦<SureStore as Store>⟧.reads self.old) (⟦<SureStore as Store>⟧.reads self.new) }
+        ensures ok { OnOk result (⟦<SureStore as Store>⟧.files self.new
+            ≡ written (⟦<SureStore as Store>⟧.files self.old) name.now bytes.now) }
+        ensures err { OnErr result (⟦<SureStore as Store>⟧.files self.new
+            ≡ ⟦<SureStore as Store>⟧.files self.old) }
+        ensures reads { SameReads (⟦<SureStore as Store>⟧.reads self.old)
+            (⟦<SureStore as Store>⟧.reads self.new) }
         ensures calls { store_calls self.new ≡ store_calls self.old }
     {
         let file = whole(name);
@@ -72,8 +75,10 @@ impl SureStore {
 
     // Counts a read that is not made.
     pub(crate) fn count_failed_read(&mut self, part: Part)
-        ensures files { ⟦<SureStore as Store>⟧.files self.new ≡ ⟦<SureStore as Store>⟧.files self.old }
-        ensures reads { OneRead (⟦<SureStore as Store>⟧.reads self.old) (⟦<SureStore as Store>⟧.reads self.new) part }
+        ensures files { ⟦<SureStore as Store>⟧.files self.new
+            ≡ ⟦<SureStore as Store>⟧.files self.old }
+        ensures reads { OneRead (⟦<SureStore as Store>⟧.reads self.old)
+            (⟦<SureStore as Store>⟧.reads self.new) part }
     {
         count_read(&mut self.reads, part);
     }
@@ -93,7 +98,8 @@ fn whole(name: &str) -> FileRef<'_>
 // As many bytes from a place on as there are and the buffer takes.
 fn read_from(bytes: Option<&[u8]>, at: u64, buf: &mut [u8]) -> usize
     ensures bound { result ≤ length buf.new }
-    ensures bytes { take result buf.new ≡ take (length buf.new) (drop at (unwrap_or (option_copied bytes.entry) [])) }
+    ensures bytes { take result buf.new ≡ take (length buf.new)
+        (drop at (unwrap_or (option_copied bytes.entry) [])) }
 {
     let all = bytes.unwrap_or(&[]);
     let rest = all.get(at as usize..).unwrap_or(&[]);
@@ -111,10 +117,14 @@ impl Store for SureStore {
     ghost reads = { λ s p. slice_index s.reads (number p) };
 
     fn size(&mut self, file: &FileRef<'_>) -> Result<Option<u64>, Failed>
-        ensures answer { IsSize (⟦<SureStore as Store>⟧.files self.old) (file_name file.now) result }
-        ensures files { ⟦<SureStore as Store>⟧.files self.new ≡ ⟦<SureStore as Store>⟧.files self.old }
-        ensures reads { SameReads (⟦<SureStore as Store>⟧.reads self.old) (⟦<SureStore as Store>⟧.reads self.new) }
-        ensures cause { HasCause (⟦<SureStore as Store>⟧.faults self.old) (⟦<SureStore as Store>⟧.faults self.new) result }
+        ensures answer { IsSize (⟦<SureStore as Store>⟧.files self.old) (file_name file.now)
+            result }
+        ensures files { ⟦<SureStore as Store>⟧.files self.new
+            ≡ ⟦<SureStore as Store>⟧.files self.old }
+        ensures reads { SameReads (⟦<SureStore as Store>⟧.reads self.old)
+            (⟦<SureStore as Store>⟧.reads self.new) }
+        ensures cause { HasCause (⟦<SureStore as Store>⟧.faults self.old)
+            (⟦<SureStore as Store>⟧.faults self.new) result }
         ensures sure { IsOk result }
         ensures calls { store_calls self.new ≡ min (store_calls self.old + 1) (2 ^ 64 - 1) }
     {
@@ -124,10 +134,14 @@ impl Store for SureStore {
 
     fn read_at(&mut self, file: &FileRef<'_>, at: u64, buf: &mut [u8]) -> Result<usize, Failed>
         ensures bound { ReadsAtMost result buf.new }
-        ensures bytes { IsRead (⟦<SureStore as Store>⟧.files self.old) (file_name file.now) at buf.new result }
-        ensures files { ⟦<SureStore as Store>⟧.files self.new ≡ ⟦<SureStore as Store>⟧.files self.old }
-        ensures reads { OneRead (⟦<SureStore as Store>⟧.reads self.old) (⟦<SureStore as Store>⟧.reads self.new) file.now.part }
-        ensures cause { HasCause (⟦<SureStore as Store>⟧.faults self.old) (⟦<SureStore as Store>⟧.faults self.new) result }
+        ensures bytes { IsRead (⟦<SureStore as Store>⟧.files self.old) (file_name file.now) at
+            buf.new result }
+        ensures files { ⟦<SureStore as Store>⟧.files self.new
+            ≡ ⟦<SureStore as Store>⟧.files self.old }
+        ensures reads { OneRead (⟦<SureStore as Store>⟧.reads self.old)
+            (⟦<SureStore as Store>⟧.reads self.new) file.now.part }
+        ensures cause { HasCause (⟦<SureStore as Store>⟧.faults self.old)
+            (⟦<SureStore as Store>⟧.faults self.new) result }
         ensures sure { IsOk result }
         ensures calls { store_calls self.new ≡ min (store_calls self.old + 1) (2 ^ 64 - 1) }
     {
@@ -137,11 +151,15 @@ impl Store for SureStore {
     }
 
     fn reset(&mut self, file: &FileRef<'_>) -> Result<(), PutErr>
-        ensures content { AfterReset (⟦<SureStore as Store>⟧.files self.old) (⟦<SureStore as Store>⟧.files self.new) (file_name file.now) result }
-        ensures reads { SameReads (⟦<SureStore as Store>⟧.reads self.old) (⟦<SureStore as Store>⟧.reads self.new) }
-        ensures cause { HasPutCause (⟦<SureStore as Store>⟧.faults self.old) (⟦<SureStore as Store>⟧.faults self.new) result }
+        ensures content { AfterReset (⟦<SureStore as Store>⟧.files self.old)
+            (⟦<SureStore as Store>⟧.files self.new) (file_name file.now) result }
+        ensures reads { SameReads (⟦<SureStore as Store>⟧.reads self.old)
+            (⟦<SureStore as Store>⟧.reads self.new) }
+        ensures cause { HasPutCause (⟦<SureStore as Store>⟧.faults self.old)
+            (⟦<SureStore as Store>⟧.faults self.new) result }
         ensures sure { result ≢ Err PutErr.Failed }
-        ensures err { OnErr result (⟦<SureStore as Store>⟧.files self.new ≡ ⟦<SureStore as Store>⟧.files self.old) }
+        ensures err { OnErr result (⟦<SureStore as Store>⟧.files self.new
+            ≡ ⟦<SureStore as Store>⟧.files self.old) }
         ensures calls { store_calls self.new ≡ min (store_calls self.old + 1) (2 ^ 64 - 1) }
     {
         self.calls = self.calls.saturating_add(1);
@@ -151,11 +169,15 @@ impl Store for SureStore {
     }
 
     fn append(&mut self, file: &FileRef<'_>, piece: &[u8]) -> Result<(), PutErr>
-        ensures content { AfterAppend (⟦<SureStore as Store>⟧.files self.old) (⟦<SureStore as Store>⟧.files self.new) (file_name file.now) piece.now result }
-        ensures reads { SameReads (⟦<SureStore as Store>⟧.reads self.old) (⟦<SureStore as Store>⟧.reads self.new) }
-        ensures cause { HasPutCause (⟦<SureStore as Store>⟧.faults self.old) (⟦<SureStore as Store>⟧.faults self.new) result }
+        ensures content { AfterAppend (⟦<SureStore as Store>⟧.files self.old)
+            (⟦<SureStore as Store>⟧.files self.new) (file_name file.now) piece.now result }
+        ensures reads { SameReads (⟦<SureStore as Store>⟧.reads self.old)
+            (⟦<SureStore as Store>⟧.reads self.new) }
+        ensures cause { HasPutCause (⟦<SureStore as Store>⟧.faults self.old)
+            (⟦<SureStore as Store>⟧.faults self.new) result }
         ensures sure { result ≢ Err PutErr.Failed }
-        ensures err { OnErr result (⟦<SureStore as Store>⟧.files self.new ≡ ⟦<SureStore as Store>⟧.files self.old) }
+        ensures err { OnErr result (⟦<SureStore as Store>⟧.files self.new
+            ≡ ⟦<SureStore as Store>⟧.files self.old) }
         ensures calls { store_calls self.new ≡ min (store_calls self.old + 1) (2 ^ 64 - 1) }
     {
         self.calls = self.calls.saturating_add(1);

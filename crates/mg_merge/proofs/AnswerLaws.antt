@@ -40,8 +40,10 @@ module _ {T : Type 0} (first second new : List ℕ) (store store_now : StoreAt) 
     (same : (new ≡ first) ⊎ (new ≡ second) → r ≡ Err SameName)
     (missing : IsSome store.files → new ≢ first → new ≢ second → HasNoHead store.files first ⊎ HasNoHead store.files second → RefusedFor r NotBuilt)
     (large : (size : ℕ) → IsSome store.files → new ≢ first → new ≢ second → IsSizeByHeads store.files first second size → most_bytes < size → RefusedFor r (TooLarge size most_bytes))
-    (documents : (a b : List ℕ) → BothStand store.files first second a b → new ≢ first → new ≢ second → length (join a b) ≤ most_bytes → PassesFirst version_2 (join a b) start → RefusedFor r TooManyDocuments)
-    (pieces : (a b : List ℕ) (stream : Stream) (word : List ℕ) → BothStand store.files first second a b → new ≢ first → new ≢ second → length (join a b) ≤ most_bytes → PassesFirst version_2 (join a b) (piece stream word) → RefusedFor r (TooManyPieces stream))
+    (documents : (a b : List ℕ) → BothStand store.files first second a b → new ≢ first → new ≢ second → length (join a b) ≤ most_bytes →
+    PassesFirst version_2 (join a b) start → RefusedFor r TooManyDocuments)
+    (pieces : (a b : List ℕ) (stream : Stream) (word : List ℕ) → BothStand store.files first second a b → new ≢ first → new ≢ second →
+    length (join a b) ≤ most_bytes → PassesFirst version_2 (join a b) (piece stream word) → RefusedFor r (TooManyPieces stream))
     (complete : (a b : List ℕ) → BothStand store.files first second a b → new ≢ first → new ≢ second → IsWithinLimits 2 (join a b) → ¬ StoreRose store store_now → IsDone r) where
   pub joined_by : Joined first second new store store_now (status_of r)
   joined_by = record {

@@ -16,7 +16,8 @@ one_more fed bytes i byte is = append_assoc fed (take i bytes) (byte ∷ []) ∙
 
 -- and the others behind it
 pub others_behind : (fed bytes : List ℕ) (i byte : ℕ) → take (i + 1) bytes ≡ take i bytes ++ byte ∷ [] → ((fed ++ take i bytes) ++ byte ∷ []) ++ drop (i + 1) bytes ≡ fed ++ bytes
-others_behind fed bytes i byte is = ap (λ t. t ++ drop (i + 1) bytes) (one_more fed bytes i byte is) ∙ append_assoc fed (take (i + 1) bytes) (drop (i + 1) bytes) ∙ ap (λ t. fed ++ t) (take-append-drop (i + 1) bytes)
+others_behind fed bytes i byte is = ap (λ t. t ++ drop (i + 1) bytes) (one_more fed bytes i byte is)
+    ∙ append_assoc fed (take (i + 1) bytes) (drop (i + 1) bytes) ∙ ap (λ t. fed ++ t) (take-append-drop (i + 1) bytes)
 
 -- with more bytes behind these
 pub more_behind : (fed bytes more : List ℕ) (i byte : ℕ) → take (i + 1) bytes ≡ take i bytes ++ byte ∷ [] → (fed ++ take i bytes) ++ byte ∷ (drop (i + 1) bytes ++ more) ≡ fed ++ (bytes ++ more)
@@ -29,13 +30,15 @@ more_behind fed bytes more i byte is =
 pub given_nothing : (t : TwoTexts) (files : Option Files) (left : ℕ) → left ≡ t.size → AreGiven t files 0 left []
 given_nothing t files left is = record { size = omega (arith, is); told = λ collection stand. given_none collection }
 
-pub first_next : (t : TwoTexts) (files : Option Files) (collection fed held : List ℕ) (i left : ℕ) → TextsFit t files → i < t.all → AreGiven t files i left fed → TextsStand t files collection → held ≡ closed_document (i + 1) collection → AreFirst (i + 1) (fed ++ held) collection
+pub first_next : (t : TwoTexts) (files : Option Files) (collection fed held : List ℕ) (i left : ℕ) → TextsFit t files → i < t.all →
+    AreGiven t files i left fed → TextsStand t files collection → held ≡ closed_document (i + 1) collection → AreFirst (i + 1) (fed ++ held) collection
 first_next t files collection fed held i left fits more given stand is =
     let count = documents_of_texts t files collection fits stand in
     given_next collection fed held i (omega (arith, more, count)) is (given.told collection stand)
 
 -- one document more was given
-pub given_one_more : (t : TwoTexts) (files : Option Files) (fed held : List ℕ) (i left found : ℕ) → TextsFit t files → i < t.all → AreGiven t files i left fed → ((collection : List ℕ) → TextsStand t files collection → held ≡ closed_document (i + 1) collection) → found ≡ length held → found ≤ left
+pub given_one_more : (t : TwoTexts) (files : Option Files) (fed held : List ℕ) (i left found : ℕ) → TextsFit t files → i < t.all → AreGiven t files i left fed →
+    ((collection : List ℕ) → TextsStand t files collection → held ≡ closed_document (i + 1) collection) → found ≡ length held → found ≤ left
     → AreGiven t files (i + 1) (left - found) (fed ++ held)
 given_one_more t files fed held i left found fits more given is count within = record {
   size = omega (arith, given.size, length-append fed held, count, within);
@@ -43,7 +46,8 @@ given_one_more t files fed held i left found fits more given is count within = r
 }
 
 -- a document has no more bytes than are left
-pub short_next : (t : TwoTexts) (files : Option Files) (collection fed : List ℕ) (i left : ℕ) → TextsFit t files → i < t.all → AreGiven t files i left fed → TextsStand t files collection → length (numbered (i + 1) collection) ≤ left
+pub short_next : (t : TwoTexts) (files : Option Files) (collection fed : List ℕ) (i left : ℕ) → TextsFit t files → i < t.all → AreGiven t files i left fed →
+    TextsStand t files collection → length (numbered (i + 1) collection) ≤ left
 short_next t files collection fed i left fits more given stand =
     let doc = numbered (i + 1) collection in
     let closing = close (is_closed (i + 1) (length (documents collection)) (has_open_end collection)) in
@@ -52,7 +56,8 @@ short_next t files collection fed i left fits more given stand =
     omega (arith, whole, length-append (fed ++ (doc ++ closing)) rest, length-append fed (doc ++ closing), length-append doc closing, given.size, stand.size)
 
 -- a document is no longer than what is left
-pub too_much : (t : TwoTexts) (files : Option Files) (collection fed held : List ℕ) (i left : ℕ) → TextsFit t files → i < t.all → AreGiven t files i left fed → TextsStand t files collection → held ≡ closed_document (i + 1) collection → left < length held → ⊥
+pub too_much : (t : TwoTexts) (files : Option Files) (collection fed held : List ℕ) (i left : ℕ) → TextsFit t files → i < t.all → AreGiven t files i left fed →
+    TextsStand t files collection → held ≡ closed_document (i + 1) collection → left < length held → ⊥
 too_much t files collection fed held i left fits more given stand is long =
     let rest = joined (drop (i + 1) (documents collection)) (has_open_end collection) in
     let whole : length ((fed ++ held) ++ rest) ≡ length collection = ap length (first_next t files collection fed held i left fits more given stand is) in
@@ -66,7 +71,8 @@ given_each t files fed i left fits all given = record {
 }
 
 -- and then nothing is left
-pub too_little : (t : TwoTexts) (files : Option Files) (collection fed : List ℕ) (i left : ℕ) → TextsFit t files → t.all ≤ i → AreGiven t files i left fed → TextsStand t files collection → 0 < left → ⊥
+pub too_little : (t : TwoTexts) (files : Option Files) (collection fed : List ℕ) (i left : ℕ) → TextsFit t files → t.all ≤ i → AreGiven t files i left fed →
+    TextsStand t files collection → 0 < left → ⊥
 too_little t files collection fed i left fits all given stand some =
     let whole = ap length ((given_each t files fed i left fits all given).told collection stand) in
     omega (arith, whole, given.size, stand.size, some)

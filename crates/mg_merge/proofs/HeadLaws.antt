@@ -25,7 +25,8 @@ pub head_there : (bytes : List ℕ) (loaded : Option layout.Head) (head : layout
 head_there bytes loaded head is answer = no_empty_head bytes (fields_of head) (some_head bytes loaded head is answer)
 
 -- a missing head is not refused as bad
-pub missing_refused : {T : Type 0} (bytes : List ℕ) (refusal : PartErr) (told : Fault) → told ≡ fault_of_part refusal → AnswersHead 1 2 bytes (Err refusal) → bytes ≡ [] → RefusedFor {T = T} (Err told) fault.NotBuilt
+pub missing_refused : {T : Type 0} (bytes : List ℕ) (refusal : PartErr) (told : Fault) → told ≡ fault_of_part refusal → AnswersHead 1 2 bytes (Err refusal) →
+    bytes ≡ [] → RefusedFor {T = T} (Err told) fault.NotBuilt
 missing_refused bytes Device told is answer missing = inr (inl (ap Err is))
 missing_refused bytes Memory told is answer missing = inr (inr (ap Err is))
 missing_refused bytes (Bad bad) told is answer missing = absurd (answer.0 missing)

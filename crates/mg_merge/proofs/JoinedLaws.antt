@@ -23,7 +23,8 @@ pub given_none : (collection : List ℕ) → AreFirst 0 [] collection
 given_none collection = (documents_split collection).whole
 
 -- one document more was given
-pub given_next : (collection bytes held : List ℕ) (i : ℕ) → i < length (documents collection) → held ≡ closed_document (i + 1) collection → AreFirst i bytes collection → AreFirst (i + 1) (bytes ++ held) collection
+pub given_next : (collection bytes held : List ℕ) (i : ℕ) → i < length (documents collection) → held ≡ closed_document (i + 1) collection →
+    AreFirst i bytes collection → AreFirst (i + 1) (bytes ++ held) collection
 given_next collection bytes held i more is whole = ap (λ h. (bytes ++ h) ++ joined (drop (i + 1) docs) e) is
     ∙ append_assoc bytes (closed_document (i + 1) collection) (joined rest e) ∙ ap (λ n. bytes ++ ((get_or docs n [] ++ close (is_closed (i + 1) (length docs) e)) ++ joined rest e)) place
     ∙ ap (λ t. bytes ++ t) (sym (joined_next (get_or docs i []) rest e (i + 1) (length docs) long)) ∙ ap (λ l. bytes ++ joined l e) (sym cut) ∙ whole

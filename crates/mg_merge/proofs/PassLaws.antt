@@ -44,7 +44,8 @@ count_stops_on fed more cause.InputTooLong stop = absurd stop
 count_stops_on fed more cause.SameName stop = absurd stop
 count_stops_on fed more (cause.TooManyRotations count) stop = absurd stop
 
-pub counting_stops : (now : Type 0) (stands : List ℕ → Type 0) (fed : List ℕ) (fault : Fault) → ((collection : List ℕ) → stands collection → (rest : List ℕ) × (fed ++ rest ≡ collection)) → CountStops fed fault → CountingStops now stands fault
+pub counting_stops : (now : Type 0) (stands : List ℕ → Type 0) (fed : List ℕ) (fault : Fault) →
+    ((collection : List ℕ) → stands collection → (rest : List ℕ) × (fed ++ rest ≡ collection)) → CountStops fed fault → CountingStops now stands fault
 counting_stops now stands fed cause.Usage all stop = absurd stop
 counting_stops now stands fed cause.StoreFault all stop = absurd stop
 counting_stops now stands fed cause.ReadFault all stop = absurd stop
@@ -54,7 +55,8 @@ counting_stops now stands fed (cause.Damaged bad) all stop = absurd stop
 counting_stops now stands fed cause.NoCollection all stop = absurd stop
 counting_stops now stands fed (cause.TooLarge bytes most) all stop = absurd stop
 counting_stops now stands fed cause.TooManyDocuments all stop = λ collection stand. let rest = all collection stand in subst (λ bytes. PassesFirst version_2 bytes start) rest.1 (stop rest.0)
-counting_stops now stands fed (cause.TooManyPieces kind) all stop = λ collection stand. let rest = all collection stand in (stop.0, subst (λ bytes. PassesFirst version_2 bytes (piece kind stop.0)) rest.1 (stop.1 rest.0))
+counting_stops now stands fed (cause.TooManyPieces kind) all stop = λ collection stand. let rest = all collection stand in
+    (stop.0, subst (λ bytes. PassesFirst version_2 bytes (piece kind stop.0)) rest.1 (stop.1 rest.0))
 counting_stops now stands fed (cause.Changed what one two) all stop = absurd stop
 counting_stops now stands fed cause.Memory all stop = tt
 counting_stops now stands fed (cause.NameClash part) all stop = absurd stop
@@ -62,7 +64,8 @@ counting_stops now stands fed cause.InputTooLong all stop = absurd stop
 counting_stops now stands fed cause.SameName all stop = absurd stop
 counting_stops now stands fed (cause.TooManyRotations count) all stop = absurd stop
 
-pub end_stops : (now : Type 0) (stands : List ℕ → Type 0) (fed : List ℕ) (fault : Fault) → ((collection : List ℕ) → stands collection → fed ≡ collection) → EndStops fed fault → CountingStops now stands fault
+pub end_stops : (now : Type 0) (stands : List ℕ → Type 0) (fed : List ℕ) (fault : Fault) → ((collection : List ℕ) → stands collection → fed ≡ collection) →
+    EndStops fed fault → CountingStops now stands fault
 end_stops now stands fed cause.Usage all stop = absurd stop
 end_stops now stands fed cause.StoreFault all stop = absurd stop
 end_stops now stands fed cause.ReadFault all stop = absurd stop
@@ -80,7 +83,9 @@ end_stops now stands fed cause.InputTooLong all stop = absurd stop
 end_stops now stands fed cause.SameName all stop = absurd stop
 end_stops now stands fed (cause.TooManyRotations count) all stop = absurd stop
 
-pub end_stops_all : {T : Type 0} (r : Result T Fault) (P : List ℕ → Type 0) (now : Type 0) (stands : List ℕ → Type 0) (fed : List ℕ) → ((collection : List ℕ) → stands collection → fed ≡ collection) → P fed → IfErr r (λ fault. (x : List ℕ) → P x → EndStops x fault) → IfErr r (CountingStops now stands)
+pub end_stops_all : {T : Type 0} (r : Result T Fault) (P : List ℕ → Type 0) (now : Type 0) (stands : List ℕ → Type 0) (fed : List ℕ) →
+    ((collection : List ℕ) → stands collection → fed ≡ collection) → P fed → IfErr r (λ fault. (x : List ℕ) → P x → EndStops x fault) →
+    IfErr r (CountingStops now stands)
 end_stops_all (Ok value) P now stands fed all counted stop = tt
 end_stops_all (Err fault) P now stands fed all counted stop = end_stops now stands fed fault all (stop fed counted)
 
@@ -164,7 +169,8 @@ told_same : (now whole : Type 0) (fault told : Fault) → told ≡ fault → Rea
 told_same now whole fault told same stop = subst (ReadStops now whole) (sym same) stop
 
 -- bytes that are not written, whatever follows them
-pub put_stops : (rose now whole : Type 0) (plan : Plan) (f : List ℕ → List ℕ) (fault told : Fault) → (rose → now) → length (f []) < 2 ^ 32 → (whole → (rest : List ℕ) × (length (f rest) < 2 ^ 32) × IsPlanOf plan (f rest)) → IsRetold fault told
+pub put_stops : (rose now whole : Type 0) (plan : Plan) (f : List ℕ → List ℕ) (fault told : Fault) → (rose → now) → length (f []) < 2 ^ 32 →
+    (whole → (rest : List ℕ) × (length (f rest) < 2 ^ 32) × IsPlanOf plan (f rest)) → IsRetold fault told
     → ((more : List ℕ) → length (f more) < 2 ^ 32 → SecondStops rose (IsPlanOf plan (f more)) fault) → ReadStops now whole told
 put_stops rose now whole plan f cause.Usage told grows short all is stop = absurd (stop [] short)
 put_stops rose now whole plan f cause.StoreFault told grows short all is stop = told_same now whole cause.StoreFault told is (grows (stop [] short))
@@ -224,6 +230,7 @@ pub rose_before : (a b c : ℕ) → b ≤ c → Rose a b → Rose a c
 rose_before a b c up rose = omega (arith, up, rose)
 
 -- what a start that was refused leaves
-pub left_by_start : (base collection : List ℕ) (before now : Option Files) → IsSome before → (file_at now (full_name base Head) ≡ Some [] → StandsForNone now base) → IsUnbuilt base before now → Left base before now collection
+pub left_by_start : (base collection : List ℕ) (before now : Option Files) → IsSome before →
+    (file_at now (full_name base Head) ≡ Some [] → StandsForNone now base) → IsUnbuilt base before now → Left base before now collection
 left_by_start base collection before now told none (inl same) = inl same
 left_by_start base collection before now told none (inr gone) = inr (inl (none (gone told)))

@@ -7,12 +7,15 @@ use Rattle.mg_merge.specs.Passes.{AreApart}
 use Rattle.mg_merge.specs.Texts.{SameTexts, TextsFit, TextsStand, TwoTexts}
 
 -- both texts stand, and so do they later
-pub texts_stay : (base : List ℕ) (t now : TwoTexts) (files files_now : Option Files) (collection : List ℕ) → AreApart base t → SameTexts t now → OthersSame base files files_now → TextsStand t files collection → TextsStand now files_now collection
+pub texts_stay : (base : List ℕ) (t now : TwoTexts) (files files_now : Option Files) (collection : List ℕ) → AreApart base t → SameTexts t now →
+    OthersSame base files files_now → TextsStand t files collection → TextsStand now files_now collection
 texts_stay base t now files files_now collection apart same others stand = record {
   a = stand.a;
   b = stand.b;
-  first = text_stays t.first now.first files files_now stand.a same.first others.told (others.others t.first.text.name apart.first_text) (others.others t.first.places.name apart.first_places) stand.first;
-  second = text_stays t.second now.second files files_now stand.b same.second others.told (others.others t.second.text.name apart.second_text) (others.others t.second.places.name apart.second_places) stand.second;
+  first = text_stays t.first now.first files files_now stand.a same.first others.told (others.others t.first.text.name apart.first_text)
+      (others.others t.first.places.name apart.first_places) stand.first;
+  second = text_stays t.second now.second files files_now stand.b same.second others.told (others.others t.second.text.name apart.second_text)
+      (others.others t.second.places.name apart.second_places) stand.second;
   open_end = same.open_end ∙ stand.open_end;
   joins = stand.joins;
   size = same.size ∙ stand.size;

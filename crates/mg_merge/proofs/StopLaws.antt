@@ -66,7 +66,8 @@ heads_of_both files first second a b both = (
   record { first_is = own_head files first a both.first_stands; second_is = own_head files second b both.second_stands },
 )
 
-pub heads_only : (rose : Type 0) (files : Option Files) (first second : List ℕ) (a b : defs.Head) (fault : Fault) → IsSome files → AreHeads files first second a b → HeadStops rose files first second fault → OnlyFails rose fault
+pub heads_only : (rose : Type 0) (files : Option Files) (first second : List ℕ) (a b : defs.Head) (fault : Fault) → IsSome files →
+    AreHeads files first second a b → HeadStops rose files first second fault → OnlyFails rose fault
 heads_only rose files first second a b cause.Usage told are stop = absurd stop
 heads_only rose files first second a b cause.StoreFault told are stop = inl (refl, stop)
 heads_only rose files first second a b cause.ReadFault told are stop = absurd stop
@@ -84,7 +85,8 @@ heads_only rose files first second a b cause.InputTooLong told are stop = absurd
 heads_only rose files first second a b cause.SameName told are stop = absurd stop
 heads_only rose files first second a b (cause.TooManyRotations count) told are stop = absurd stop
 
-pub heads_cause : (rose now : Type 0) (files : Option Files) (first second new : List ℕ) (fault : Fault) → (rose → now) → HeadStops rose files first second fault → MergeStops now files first second new fault
+pub heads_cause : (rose now : Type 0) (files : Option Files) (first second new : List ℕ) (fault : Fault) → (rose → now) →
+    HeadStops rose files first second fault → MergeStops now files first second new fault
 heads_cause rose now files first second new cause.Usage grows stop = absurd stop
 heads_cause rose now files first second new cause.StoreFault grows stop = grows stop
 heads_cause rose now files first second new cause.ReadFault grows stop = absurd stop
@@ -122,7 +124,8 @@ read_only rose whole cause.InputTooLong is stop = absurd stop
 read_only rose whole cause.SameName is stop = absurd stop
 read_only rose whole (cause.TooManyRotations count) is stop = absurd stop
 
-pub read_cause : (rose now whole : Type 0) (files : Option Files) (first second new : List ℕ) (fault : Fault) → (rose → now) → ((a b : List ℕ) → BothStand files first second a b → whole) → ReadStops rose whole fault → MergeStops now files first second new fault
+pub read_cause : (rose now whole : Type 0) (files : Option Files) (first second new : List ℕ) (fault : Fault) → (rose → now) →
+    ((a b : List ℕ) → BothStand files first second a b → whole) → ReadStops rose whole fault → MergeStops now files first second new fault
 read_cause rose now whole files first second new cause.Usage grows is stop = absurd stop
 read_cause rose now whole files first second new cause.StoreFault grows is stop = grows stop
 read_cause rose now whole files first second new cause.ReadFault grows is stop = absurd stop
@@ -181,7 +184,8 @@ read_late rose whole (cause.TooManyRotations count) stop early = early
 -- ---- counting
 
 -- what is read with no document counted
-pub read_counts : (rose now whole : Type 0) (stands : List ℕ → Type 0) (fault : Fault) → (rose → now) → ((collection : List ℕ) → stands collection → whole) → ReadStops rose whole fault → CountingStops now stands fault
+pub read_counts : (rose now whole : Type 0) (stands : List ℕ → Type 0) (fault : Fault) → (rose → now) → ((collection : List ℕ) → stands collection → whole) →
+    ReadStops rose whole fault → CountingStops now stands fault
 read_counts rose now whole stands cause.Usage grows is stop = absurd stop
 read_counts rose now whole stands cause.StoreFault grows is stop = grows stop
 read_counts rose now whole stands cause.ReadFault grows is stop = absurd stop
@@ -200,7 +204,8 @@ read_counts rose now whole stands cause.SameName grows is stop = absurd stop
 read_counts rose now whole stands (cause.TooManyRotations count) grows is stop = absurd stop
 
 -- where documents pass a limit first, it is refused for them
-pub counting_documents : {T : Type 0} (rose : Type 0) (stands : List ℕ → Type 0) (collection : List ℕ) (fault : Fault) → stands collection → PassesFirst version_2 collection start → CountingStops rose stands fault → RefusedFor {T = T} (Err fault) cause.TooManyDocuments
+pub counting_documents : {T : Type 0} (rose : Type 0) (stands : List ℕ → Type 0) (collection : List ℕ) (fault : Fault) → stands collection →
+    PassesFirst version_2 collection start → CountingStops rose stands fault → RefusedFor {T = T} (Err fault) cause.TooManyDocuments
 counting_documents rose stands collection cause.Usage stand first stop = absurd stop
 counting_documents rose stands collection cause.StoreFault stand first stop = inr (inl refl)
 counting_documents rose stands collection cause.ReadFault stand first stop = absurd stop
@@ -219,7 +224,9 @@ counting_documents rose stands collection cause.SameName stand first stop = absu
 counting_documents rose stands collection (cause.TooManyRotations count) stand first stop = absurd stop
 
 -- where a piece passes a limit first, it is refused for its stream
-pub counting_pieces : {T : Type 0} (rose : Type 0) (stands : List ℕ → Type 0) (collection : List ℕ) (stream : Stream) (x : List ℕ) (fault : Fault) → stands collection → PassesFirst version_2 collection (piece stream x) → CountingStops rose stands fault → RefusedFor {T = T} (Err fault) (cause.TooManyPieces stream)
+pub counting_pieces : {T : Type 0} (rose : Type 0) (stands : List ℕ → Type 0) (collection : List ℕ) (stream : Stream) (x : List ℕ) (fault : Fault) →
+    stands collection → PassesFirst version_2 collection (piece stream x) → CountingStops rose stands fault →
+    RefusedFor {T = T} (Err fault) (cause.TooManyPieces stream)
 counting_pieces rose stands collection stream x cause.Usage stand first stop = absurd stop
 counting_pieces rose stands collection stream x cause.StoreFault stand first stop = inr (inl refl)
 counting_pieces rose stands collection stream x cause.ReadFault stand first stop = absurd stop
@@ -229,7 +236,8 @@ counting_pieces rose stands collection stream x (cause.Damaged bad) stand first 
 counting_pieces rose stands collection stream x cause.NoCollection stand first stop = absurd stop
 counting_pieces rose stands collection stream x (cause.TooLarge bytes most) stand first stop = absurd stop
 counting_pieces rose stands collection stream x cause.TooManyDocuments stand first stop = absurd (not_both collection stream x (stop collection stand) first)
-counting_pieces rose stands collection stream x (cause.TooManyPieces kind) stand first stop = let found = stop collection stand in inl (ap (λ s. Err (cause.TooManyPieces s)) (same_kind collection kind stream found.0 x found.1 first))
+counting_pieces rose stands collection stream x (cause.TooManyPieces kind) stand first stop = let found = stop collection stand in
+    inl (ap (λ s. Err (cause.TooManyPieces s)) (same_kind collection kind stream found.0 x found.1 first))
 counting_pieces rose stands collection stream x (cause.Changed what one two) stand first stop = absurd stop
 counting_pieces rose stands collection stream x cause.Memory stand first stop = inr (inr refl)
 counting_pieces rose stands collection stream x (cause.NameClash part) stand first stop = absurd stop
@@ -238,7 +246,8 @@ counting_pieces rose stands collection stream x cause.SameName stand first stop 
 counting_pieces rose stands collection stream x (cause.TooManyRotations count) stand first stop = absurd stop
 
 -- a collection within the limits is counted, unless the store fails or memory lacks
-pub counting_only : (rose : Type 0) (stands : List ℕ → Type 0) (collection : List ℕ) (fault : Fault) → stands collection → IsWithinLimits 2 collection → CountingStops rose stands fault → OnlyFails rose fault
+pub counting_only : (rose : Type 0) (stands : List ℕ → Type 0) (collection : List ℕ) (fault : Fault) → stands collection → IsWithinLimits 2 collection →
+    CountingStops rose stands fault → OnlyFails rose fault
 counting_only rose stands collection cause.Usage stand limits stop = absurd stop
 counting_only rose stands collection cause.StoreFault stand limits stop = inl (refl, stop)
 counting_only rose stands collection cause.ReadFault stand limits stop = absurd stop
@@ -256,7 +265,8 @@ counting_only rose stands collection cause.InputTooLong stand limits stop = absu
 counting_only rose stands collection cause.SameName stand limits stop = absurd stop
 counting_only rose stands collection (cause.TooManyRotations count) stand limits stop = absurd stop
 
-pub counting_cause : (rose now : Type 0) (stands : List ℕ → Type 0) (files : Option Files) (first second new : List ℕ) (fault : Fault) → (rose → now) → ((a b : List ℕ) → BothStand files first second a b → stands (join a b)) → CountingStops rose stands fault → MergeStops now files first second new fault
+pub counting_cause : (rose now : Type 0) (stands : List ℕ → Type 0) (files : Option Files) (first second new : List ℕ) (fault : Fault) → (rose → now) →
+    ((a b : List ℕ) → BothStand files first second a b → stands (join a b)) → CountingStops rose stands fault → MergeStops now files first second new fault
 counting_cause rose now stands files first second new cause.Usage grows is stop = absurd stop
 counting_cause rose now stands files first second new cause.StoreFault grows is stop = grows stop
 counting_cause rose now stands files first second new cause.ReadFault grows is stop = absurd stop
@@ -275,7 +285,8 @@ counting_cause rose now stands files first second new cause.SameName grows is st
 counting_cause rose now stands files first second new (cause.TooManyRotations count) grows is stop = absurd stop
 
 -- the same, later
-pub counting_wider : (rose now : Type 0) (stands less : List ℕ → Type 0) (fault : Fault) → (rose → now) → ((collection : List ℕ) → less collection → stands collection) → CountingStops rose stands fault → CountingStops now less fault
+pub counting_wider : (rose now : Type 0) (stands less : List ℕ → Type 0) (fault : Fault) → (rose → now) →
+    ((collection : List ℕ) → less collection → stands collection) → CountingStops rose stands fault → CountingStops now less fault
 counting_wider rose now stands less cause.Usage grows back stop = absurd stop
 counting_wider rose now stands less cause.StoreFault grows back stop = grows stop
 counting_wider rose now stands less cause.ReadFault grows back stop = absurd stop

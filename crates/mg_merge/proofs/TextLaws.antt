@@ -38,7 +38,8 @@ text_more a b c one two = record {
 
 -- what stands for a reader does so for what the reader became, while no file changes
 pub stands_on : (r now : TextReading) (files files_now : Option Files) (collection : List ℕ) → SameText r now → files_now ≡ files → TextStands r files collection → TextStands now files_now collection
-stands_on r now files files_now collection same stay stands = text_stays r now files files_now collection same (ap is_some stay) (ap (λ f. file_at f r.text.name) stay) (ap (λ f. file_at f r.places.name) stay) stands
+stands_on r now files files_now collection same stay stands = text_stays r now files files_now collection same (ap is_some stay)
+    (ap (λ f. file_at f r.text.name) stay) (ap (λ f. file_at f r.places.name) stay) stands
 
 pub fits_on : (r : TextReading) (files files_now : Option Files) → files_now ≡ files → TextFits r files → TextFits r files_now
 fits_on r files files_now stay fits = subst (TextFits r) (sym stay) fits
@@ -59,7 +60,8 @@ texts_more s t u one two = record {
 }
 
 -- both texts stand, and so do they later, while no file changes
-pub texts_stand_on : (t now : TwoTexts) (files files_now : Option Files) (collection : List ℕ) → SameTexts t now → files_now ≡ files → TextsStand t files collection → TextsStand now files_now collection
+pub texts_stand_on : (t now : TwoTexts) (files files_now : Option Files) (collection : List ℕ) → SameTexts t now → files_now ≡ files →
+    TextsStand t files collection → TextsStand now files_now collection
 texts_stand_on t now files files_now collection same stay stand = record {
   a = stand.a;
   b = stand.b;
@@ -82,12 +84,14 @@ end_of_texts t files collection stand = stand.open_end ∙ sym (ap has_open_end 
 -- ---- a document
 
 -- the document of a number that is one of the first text, and of one that is behind them
-pub document_ahead : (t : TwoTexts) (files : Option Files) (collection : List ℕ) (number : ℕ) → TextsFit t files → 1 ≤ number → number ≤ t.ahead → (stand : TextsStand t files collection) → get_or (documents stand.a) (number - 1) [] ≡ numbered number collection
+pub document_ahead : (t : TwoTexts) (files : Option Files) (collection : List ℕ) (number : ℕ) → TextsFit t files → 1 ≤ number → number ≤ t.ahead →
+    (stand : TextsStand t files collection) → get_or (documents stand.a) (number - 1) [] ≡ numbered number collection
 document_ahead t files collection number fits low high stand =
     let few : number ≤ length (documents stand.a) = omega (arith, high, fits.ahead, stand.first.documents) in
     sym (ap (numbered number) stand.joins ∙ numbered_first stand.a stand.b number low few)
 
-pub document_behind : (t : TwoTexts) (files : Option Files) (collection : List ℕ) (number : ℕ) → TextsFit t files → t.ahead < number → (stand : TextsStand t files collection) → get_or (documents stand.b) (number - t.ahead - 1) [] ≡ numbered number collection
+pub document_behind : (t : TwoTexts) (files : Option Files) (collection : List ℕ) (number : ℕ) → TextsFit t files → t.ahead < number →
+    (stand : TextsStand t files collection) → get_or (documents stand.b) (number - t.ahead - 1) [] ≡ numbered number collection
 document_behind t files collection number fits high stand =
     let low : 1 ≤ number - t.ahead = omega (arith, high) in
     let place : number ≡ length (documents stand.a) + (number - t.ahead) = omega (arith, high, fits.ahead, stand.first.documents) in
@@ -124,7 +128,9 @@ with_close closed doc is = ap (λ c. doc ++ close c) (sym is)
 pub without_close : (closed : Bool) (doc : List ℕ) → closed ≡ false → doc ≡ doc ++ close closed
 without_close closed doc is = sym (append-nil doc) ∙ ap (λ c. doc ++ close c) (sym is)
 
-pub closes : (t : TwoTexts) (files : Option Files) (collection held now : List ℕ) (closed : Bool) (number : ℕ) → TextsFit t files → closed ≡ is_closed number t.all t.open_end → held ≡ numbered number collection → now ≡ held ++ close closed → TextsStand t files collection → now ≡ closed_document number collection
+pub closes : (t : TwoTexts) (files : Option Files) (collection held now : List ℕ) (closed : Bool) (number : ℕ) → TextsFit t files →
+    closed ≡ is_closed number t.all t.open_end → held ≡ numbered number collection → now ≡ held ++ close closed → TextsStand t files collection →
+    now ≡ closed_document number collection
 closes t files collection held now closed number fits is held_is now_is stand =
     now_is ∙ ap (λ h. h ++ close closed) held_is ∙ ap (λ c. numbered number collection ++ close c)
     (is ∙ ap (λ n. is_closed number n t.open_end) (documents_of_texts t files collection fits stand) ∙ ap (is_closed number (length (documents collection))) (end_of_texts t files collection stand))
@@ -132,7 +138,8 @@ closes t files collection held now closed number fits is held_is now_is stand =
 -- ---- heads
 
 -- their heads tell the bytes of both in one
-pub size_of_sets : (files : Option Files) (first second a b : List ℕ) (one other : layout.Head) → AreSetsBy one other files first second a b → joined_size (fields_of one) (fields_of other) ≡ length (join a b)
+pub size_of_sets : (files : Option Files) (first second a b : List ℕ) (one other : layout.Head) → AreSetsBy one other files first second a b →
+    joined_size (fields_of one) (fields_of other) ≡ length (join a b)
 size_of_sets files first second a b one other sets =
     let left : fields_of one ≡ head_of one.version one.cap sets.first_code a = sets.first_stands.head_is in
     let right : fields_of other ≡ head_of other.version other.cap sets.second_code b = sets.second_stands.head_is in

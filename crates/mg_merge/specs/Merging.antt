@@ -50,9 +50,12 @@ abbrev pub MergeStops : Type 0 → Option Files → List ℕ → List ℕ → Li
 MergeStops store_rose files first second new StoreFault = store_rose
 MergeStops store_rose files first second new NotBuilt = IsSome files → HasNoHead files first ⊎ HasNoHead files second
 MergeStops store_rose files first second new (Damaged bad) = (a b : List ℕ) → BothStand files first second a b → ⊥
-MergeStops store_rose files first second new (TooLarge size most) = (most ≡ most_bytes) × (most < size) × (IsSome files → IsSizeByHeads files first second size)
-MergeStops store_rose files first second new TooManyDocuments = (a b : List ℕ) → BothStand files first second a b → PassesFirst version_2 (join a b) start
-MergeStops store_rose files first second new (TooManyPieces stream) = (a b : List ℕ) → BothStand files first second a b → (bytes : List ℕ) × PassesFirst version_2 (join a b) (piece stream bytes)
+MergeStops store_rose files first second new (TooLarge size most) = (most ≡ most_bytes) × (most < size)
+    × (IsSome files → IsSizeByHeads files first second size)
+MergeStops store_rose files first second new TooManyDocuments = (a b : List ℕ) → BothStand files first second a b →
+    PassesFirst version_2 (join a b) start
+MergeStops store_rose files first second new (TooManyPieces stream) = (a b : List ℕ) →
+    BothStand files first second a b → (bytes : List ℕ) × PassesFirst version_2 (join a b) (piece stream bytes)
 MergeStops store_rose files first second new Memory = Unit {0}
 MergeStops store_rose files first second new SameName = (new ≡ first) ⊎ (new ≡ second)
 MergeStops store_rose files first second new _ = ⊥
@@ -61,4 +64,5 @@ MergeStops store_rose files first second new _ = ⊥
 
 -- this is so of the cap and of the collections in one, for each two collections that the sets of these bases stand for
 abbrev pub ForBoth : Option Files → List ℕ → List ℕ → (ℕ → List ℕ → Type 0) → Type 0
-ForBoth files first second holds = (version cap : ℕ) (a b : List ℕ) → StandsIn version cap files first a → Stands files second b → holds cap (join a b)
+ForBoth files first second holds = (version cap : ℕ) (a b : List ℕ) → StandsIn version cap files first a →
+    Stands files second b → holds cap (join a b)

@@ -29,4 +29,5 @@ ArePlanned plan t files = (collection : List ℕ) × TextsStand t files collecti
 
 -- this is so of each collection that the texts stand for and whose plan this is
 abbrev pub ForPlanned : Plan → TwoTexts → Option Files → (List ℕ → Type 0) → Type 0
-ForPlanned plan t files holds = (collection : List ℕ) → TextsStand t files collection → IsPlanOf plan collection → holds collection
+ForPlanned plan t files holds = (collection : List ℕ) → TextsStand t files collection → IsPlanOf plan collection →
+    holds collection

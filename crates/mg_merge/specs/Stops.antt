@@ -27,7 +27,8 @@ pub record AreHeads (files : Option Files) (first second : List ℕ) (a b : head
 abbrev pub HeadStops : Type 0 → Option Files → List ℕ → List ℕ → Fault → Type 0
 HeadStops store_rose files first second StoreFault = store_rose
 HeadStops store_rose files first second NotBuilt = IsSome files → HasNoHead files first ⊎ HasNoHead files second
-HeadStops store_rose files first second (Damaged bad) = IsSome files → (a b : heads.Head) → AreHeads files first second a b → ⊥
+HeadStops store_rose files first second (Damaged bad) = IsSome files → (a b : heads.Head) →
+    AreHeads files first second a b → ⊥
 HeadStops store_rose files first second Memory = Unit {0}
 HeadStops store_rose files first second _ = ⊥
 
@@ -54,8 +55,10 @@ IsToldFirst store_rose files second (part.Bad bad) _ = ⊥
 abbrev pub CountingStops : Type 0 → (List ℕ → Type 0) → Fault → Type 0
 CountingStops store_rose stands StoreFault = store_rose
 CountingStops store_rose stands (Damaged bad) = (collection : List ℕ) → stands collection → ⊥
-CountingStops store_rose stands TooManyDocuments = (collection : List ℕ) → stands collection → PassesFirst version_2 collection start
-CountingStops store_rose stands (TooManyPieces stream) = (collection : List ℕ) → stands collection → (bytes : List ℕ) × PassesFirst version_2 collection (piece stream bytes)
+CountingStops store_rose stands TooManyDocuments = (collection : List ℕ) → stands collection →
+    PassesFirst version_2 collection start
+CountingStops store_rose stands (TooManyPieces stream) = (collection : List ℕ) → stands collection →
+    (bytes : List ℕ) × PassesFirst version_2 collection (piece stream bytes)
 CountingStops store_rose stands Memory = Unit {0}
 CountingStops store_rose stands _ = ⊥
 

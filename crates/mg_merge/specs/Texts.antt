@@ -78,7 +78,8 @@ numbered n collection = get_or (documents collection) (n - 1) []
 
 -- document n of a collection, from 1, with the byte that closes it
 abbrev pub closed_document : ℕ → List ℕ → List ℕ
-closed_document n collection = numbered n collection ++ close (is_closed n (length (documents collection)) (has_open_end collection))
+closed_document n collection = numbered n collection
+    ++ close (is_closed n (length (documents collection)) (has_open_end collection))
 
 -- the texts stand for this collection, whose document n has at most so many bytes
 pub record HaveShort (t : TwoTexts) (files : Option Files) (n most : ℕ) (collection : List ℕ) : Type 0 where
@@ -105,7 +106,8 @@ AreSomeSets heads files first second = AreSomeSetsBy heads.0 heads.1 files first
 
 -- this is so of the collections in one, for each two collections that the files of two bases stand for by these heads
 abbrev pub ForSetsBy : layout.Head → layout.Head → Option Files → List ℕ → List ℕ → (List ℕ → Type 0) → Type 0
-ForSetsBy one other files first second holds = (a b : List ℕ) → AreSetsBy one other files first second a b → holds (join a b)
+ForSetsBy one other files first second holds = (a b : List ℕ) → AreSetsBy one other files first second a b →
+    holds (join a b)
 
 -- the text of a collection is read by what was loaded
 abbrev pub LoadsText : {E : Type 0} → Option Files → Result TextReading E → TextCode → List ℕ → Type 0

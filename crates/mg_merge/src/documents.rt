@@ -61,7 +61,8 @@ pub(crate) trait Documents<'a, S: Store> {
         ensures fits { TextsFit (texts self.new) (S.files store.new) }
         ensures same { SameTexts (texts self.old) (texts self.new) }
         ensures held { ForShort (texts self.old) (S.files store.old) number most
-            (λ collection. OnOk result ((texts self.new).held ≡ closed_document number collection)) }
+            (λ collection. OnOk result ((texts self.new).held
+            ≡ closed_document number collection)) }
         ensures short { OnOk result (length (texts self.new).held ≤ most + 1) }
         ensures files { S.files store.new ≡ S.files store.old }
         ensures later { S.faults store.old ≤ S.faults store.new }

@@ -20,7 +20,8 @@ pub(crate) fn load_heads<S: Store>(
     second: &str,
 ) -> Result<(Head, Head), Fault>
     ensures heads { IsSome (S.files store.old) →
-        IfOk result (λ heads. AreHeads (S.files store.old) first.now second.now (fields_of heads.0) (fields_of heads.1)) }
+        IfOk result (λ heads. AreHeads (S.files store.old) first.now second.now (fields_of heads.0)
+        (fields_of heads.1)) }
     ensures first { IfOk result (λ heads. IsWithin (fields_of heads.0)) }
     ensures second { IfOk result (λ heads. IsWithin (fields_of heads.1)) }
     ensures missing { IsSome (S.files store.old) → IsOneMissing

@@ -36,7 +36,8 @@ pub first_of_read : (buf bytes : List ℕ) (n m at : ℕ) → take n buf ≡ tak
 first_of_read buf bytes n m at is low within = sym (take-take m n buf low) ∙ ap (take m) is ∙ take-take m (length buf) (drop at bytes) (omega (arith, low, within))
 
 -- what an append of bytes that were read leaves
-pub appended_here : (before read now : Option Files) (to piece more : List ℕ) → read ≡ before → IsSome before → now ≡ grown read to piece → piece ≡ more → file_at now to ≡ Some (bytes_at before to ++ more)
+pub appended_here : (before read now : Option Files) (to piece more : List ℕ) → read ≡ before → IsSome before → now ≡ grown read to piece → piece ≡ more →
+    file_at now to ≡ Some (bytes_at before to ++ more)
 appended_here before read now to piece more same told grew is =
     ap (λ f. file_at f to) grew ∙ file_at-written read to (bytes_at read to ++ piece) (subst (λ f. IsSome f) (sym same) told)
     ∙ ap (λ f. Some (bytes_at f to ++ piece)) same ∙ ap (λ x. Some (bytes_at before to ++ x)) is
@@ -69,7 +70,8 @@ module _ (from to : List ℕ) (before loop now : Option Files) (at : ℕ) (alone
   pub from_here : bytes_at loop from ≡ bytes_at before from
   from_here = ap (λ (file : Option (List ℕ)). unwrap_or file []) (alone.others from apart)
 
-  pub copied_more : (n : ℕ) → IsSome before → bytes_at loop to ≡ take at (bytes_at before from) → (IsSome loop → file_at now to ≡ Some (bytes_at loop to ++ take n (drop at (bytes_at loop from)))) → bytes_at now to ≡ take (at + n) (bytes_at before from)
+  pub copied_more : (n : ℕ) → IsSome before → bytes_at loop to ≡ take at (bytes_at before from) →
+      (IsSome loop → file_at now to ≡ Some (bytes_at loop to ++ take n (drop at (bytes_at loop from)))) → bytes_at now to ≡ take (at + n) (bytes_at before from)
   copied_more n told so_far more =
       ap (λ (file : Option (List ℕ)). unwrap_or file []) (more (told_here told)) ∙ ap (λ x. x ++ take n (drop at (bytes_at loop from))) so_far
       ∙ ap (λ x. take at (bytes_at before from) ++ take n (drop at x)) from_here ∙ sym (take-add at n (bytes_at before from))

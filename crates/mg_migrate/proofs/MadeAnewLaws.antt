@@ -28,13 +28,15 @@ stopped : (f : Fault) → Stopped f ≡ Done → ⊥
 stopped f end = cc
 
 -- it is done, or memory lacks, where the set stands
-done_if : (r : Result ℕ Fault) (rose : Type 0) (files : Option Files) (name new collection : List ℕ) → Stands files name collection → new ≢ name → (rose → ⊥) → IfErr r (MigrateStops rose files name new) → IsDone r
+done_if : (r : Result ℕ Fault) (rose : Type 0) (files : Option Files) (name new collection : List ℕ) → Stands files name collection → new ≢ name → (rose → ⊥) →
+    IfErr r (MigrateStops rose files name new) → IsDone r
 done_if (Ok count) rose files name new collection stands apart calm stops = tt
 done_if (Err f) rose files name new collection stands apart calm stops = made_or_lacks f rose files name new collection stands apart calm stops
 
 -- ---- nothing was written
 
-pub nothing_made : (name new : List ℕ) (store store_now : StoreAt) (f : Fault) → KeptFiles store store_now → MigrateStops (StoreRose store store_now) store.files name new f → (new ≡ name → f ≡ fault.SameName)
+pub nothing_made : (name new : List ℕ) (store store_now : StoreAt) (f : Fault) → KeptFiles store store_now →
+    MigrateStops (StoreRose store store_now) store.files name new f → (new ≡ name → f ≡ fault.SameName)
     → (IsSome store.files → new ≢ name → HasNoHead store.files name → StoppedFor (Stopped f) fault.NotBuilt) → MadeAnew name new store store_now (Stopped f)
 nothing_made name new store store_now f kept cause same not_built = record {
   done = λ version cap c is_in end. absurd (stopped f end);
@@ -81,8 +83,10 @@ never_first (Err f) rose whole g stops first end = late g first (subst (λ x. Re
     late fault.InputTooLong first stops = first
     late (fault.TooManyRotations count) first stops = first
 
-module _ (name new : List ℕ) (store store_now : StoreAt) (head : layout.Head) (loaded : Option Files) (r : Result ℕ Fault) (same : loaded ≡ store.files) (sized : IsSome store.files → IsSized (fields_of head) store.files name) (apart : new ≢ name)
-    (made : MadeFrom head name new loaded store_now.files (status_of r)) (late : (g : Fault) → ComesFirst g → status_of r ≡ Stopped g → ⊥) (cause : IfErr r (MigrateStops (StoreRose store store_now) store.files name new)) where
+module _ (name new : List ℕ) (store store_now : StoreAt) (head : layout.Head) (loaded : Option Files) (r : Result ℕ Fault) (same : loaded ≡ store.files)
+    (sized : IsSome store.files → IsSized (fields_of head) store.files name) (apart : new ≢ name)
+    (made : MadeFrom head name new loaded store_now.files (status_of r)) (late : (g : Fault) → ComesFirst g → status_of r ≡ Stopped g → ⊥)
+    (cause : IfErr r (MigrateStops (StoreRose store store_now) store.files name new)) where
   from : MadeFrom head name new store.files store_now.files (status_of r)
   from = subst (λ f. MadeFrom head name new f store_now.files (status_of r)) same made
 

@@ -39,7 +39,8 @@ module _ (head : layout.Head) (name new : List ℕ) (f : Fault) where
   }
 
   -- or there is no head yet
-  pub from_unbuilt : (before now : Option Files) → ((base : List ℕ) (files : Option Files) → file_at files (full_name base Head) ≡ Some [] → StandsForNone files base) → IsUnbuilt new before now → OthersSame new before now
+  pub from_unbuilt : (before now : Option Files) → ((base : List ℕ) (files : Option Files) → file_at files (full_name base Head) ≡ Some [] →
+      StandsForNone files base) → IsUnbuilt new before now → OthersSame new before now
       → MadeFrom head name new before now (Stopped f)
   from_unbuilt before now none unbuilt others = record {
     done = λ code c stands end. absurd (not_done f end);
@@ -88,7 +89,8 @@ module _ (head : layout.Head) (name new : List ℕ) (before middle now : Option 
   }
 
   -- the whole head was appended
-  pub from_whole : ((base collection : List ℕ) (cap : ℕ) (code : TextCode) (old new : Option Files) → LacksOnlyHead base collection cap code old → new ≡ with_head old base cap code collection → StandsIn 2 cap new base collection)
+  pub from_whole : ((base collection : List ℕ) (cap : ℕ) (code : TextCode) (old new : Option Files) → LacksOnlyHead base collection cap code old →
+      new ≡ with_head old base cap code collection → StandsIn 2 cap new base collection)
       → now ≡ grown middle (full_name new Head) (head_bytes (wide_of (fields_of head))) → MadeFrom head name new before now Done
   from_whole whole grew =
       let alone : ChangedAlone (full_name new Head) middle now = append_alone {E = PutErr} middle middle now (full_name new Head) bytes (Ok tt) refl grew in
@@ -112,7 +114,8 @@ module _ (head : layout.Head) (name new : List ℕ) (before middle now : Option 
       stands_too code c stands = whole new c head.cap code middle now (ready code c stands) (wide_grown new head code name c before middle now stands grew)
 
   -- a part of it, or nothing, was appended
-  pub from_part : (f : Fault) → ((base collection : List ℕ) (cap : ℕ) (code : TextCode) (old new : Option Files) → LacksOnlyHead base collection cap code old → GrewByHead old new base cap code collection → StandsForNoOther new base collection)
+  pub from_part : (f : Fault) → ((base collection : List ℕ) (cap : ℕ) (code : TextCode) (old new : Option Files) → LacksOnlyHead base collection cap code old →
+      GrewByHead old new base cap code collection → StandsForNoOther new base collection)
       → GrewInPart middle now (full_name new Head) (head_bytes (wide_of (fields_of head))) → MadeFrom head name new before now (Stopped f)
   from_part f left grew = record {
     done = λ code c stands end. absurd (not_done f end);

@@ -69,17 +69,23 @@ pub part_stays : (new : List ℕ) (p q : Part) (before now : Option Files) → q
 part_stays new p q before now apart alone = alone.others (full_name new q) (λ same. apart (same_part_of_name new q p same))
 
 -- a part of another base
-pub old_stays : (name new : List ℕ) (p : Part) (before now : Option Files) → ((a b : List ℕ) (p q : Part) → p ≢ Plain → q ≢ Plain → full_name a p ≡ full_name b q → (a ≡ b) × (p ≡ q)) → new ≢ name → p ≢ Plain → OthersSame new before now
+pub old_stays : (name new : List ℕ) (p : Part) (before now : Option Files) →
+    ((a b : List ℕ) (p q : Part) → p ≢ Plain → q ≢ Plain → full_name a p ≡ full_name b q → (a ≡ b) × (p ≡ q)) → new ≢ name → p ≢ Plain →
+    OthersSame new before now
     → file_at now (full_name name p) ≡ file_at before (full_name name p)
 old_stays name new p before now names apart own same = same.others (full_name name p) (λ q set e. apart (sym (names name new p q own set e).0))
 
 -- one part more is copied
-pub copied_one_more : (name new : List ℕ) (before loop now : Option Files) (index : ℕ) → index < 9 → ((a b : List ℕ) (p q : Part) → p ≢ Plain → q ≢ Plain → full_name a p ≡ full_name b q → (a ≡ b) × (p ≡ q)) → new ≢ name
+pub copied_one_more : (name new : List ℕ) (before loop now : Option Files) (index : ℕ) → index < 9 →
+    ((a b : List ℕ) (p q : Part) → p ≢ Plain → q ≢ Plain → full_name a p ≡ full_name b q → (a ≡ b) × (p ≡ q)) → new ≢ name
     → OthersSame new before loop → ChangedAlone (full_name new (copied_part index)) loop now → IsCopied name new loop now (copied_part index)
     → ((k : ℕ) → k < index → IsCopied name new before loop (copied_part k)) → (k : ℕ) → k < index + 1 → IsCopied name new before now (copied_part k)
 copied_one_more name new before loop now index within names apart same alone here so_far k less = elim (cases_lt k index) [
   | inl early ↦ bytes loop now (full_name new (copied_part k)) (part_stays new (copied_part index) (copied_part k) loop now (apart_parts k index early within) alone) ∙ so_far k early
-  | inr late ↦ let e : index ≡ k = omega (arith, late, less) in subst (λ j. IsCopied name new before now (copied_part j)) e (here ∙ bytes before loop (full_name name (copied_part index)) (old_stays name new (copied_part index) before loop names apart (own_part index within) same))
+  | inr late ↦ let e : index ≡ k = omega (arith, late, less) in
+      subst (λ j. IsCopied name new before now (copied_part j)) e
+      (here ∙ bytes before loop (full_name name (copied_part index))
+      (old_stays name new (copied_part index) before loop names apart (own_part index within) same))
 ]
   where
     bytes : (f g : Option Files) (n : List ℕ) → file_at g n ≡ file_at f n → bytes_at g n ≡ bytes_at f n
@@ -90,13 +96,16 @@ copied_one_more name new before loop now index within names apart same alone her
 own_of_set : (p : Part) → number p ≤ 10 → p ≢ Plain
 own_of_set p few same = omega (arith, few, ap number same)
 
-pub same_set : (name new : List ℕ) (before now : Option Files) → ((a b : List ℕ) (p q : Part) → p ≢ Plain → q ≢ Plain → full_name a p ≡ full_name b q → (a ≡ b) × (p ≡ q)) → new ≢ name → OthersSame new before now → SameSet name before now
+pub same_set : (name new : List ℕ) (before now : Option Files) →
+    ((a b : List ℕ) (p q : Part) → p ≢ Plain → q ≢ Plain → full_name a p ≡ full_name b q → (a ≡ b) × (p ≡ q)) → new ≢ name → OthersSame new before now →
+    SameSet name before now
 same_set name new before now names apart same = record {
   told = same.told;
   each = λ p few. old_stays name new p before now names apart (own_of_set p few) same;
 }
 
-pub stands_too : (head : layout.Head) (code : TextCode) (name collection : List ℕ) (before now : Option Files) → is_some now ≡ is_some before → parts_at now name ≡ parts_at before name → StandsBy head code before name collection → StandsBy head code now name collection
+pub stands_too : (head : layout.Head) (code : TextCode) (name collection : List ℕ) (before now : Option Files) → is_some now ≡ is_some before →
+    parts_at now name ≡ parts_at before name → StandsBy head code before name collection → StandsBy head code now name collection
 stands_too head code name collection before now told same stands = record {
   told = told ∙ stands.told;
   head_is = stands.head_is;
@@ -118,7 +127,8 @@ wider_limits version collection (inr is) within = subst (λ v. IsWithinLimits v 
 
 -- ---- all parts but the head
 
-module _ (name new : List ℕ) (head : layout.Head) (code : TextCode) (collection : List ℕ) (emptied placed now : Option Files) (stands : StandsBy head code placed name collection) (told : IsSome now) (empty : AreEmptied emptied new)
+module _ (name new : List ℕ) (head : layout.Head) (code : TextCode) (collection : List ℕ) (emptied placed now : Option Files)
+    (stands : StandsBy head code placed name collection) (told : IsSome now) (empty : AreEmptied emptied new)
     (alone : ChangedAlone (full_name new Places) emptied placed) (places_are : bytes_at placed (full_name new Places) ≡ places_part 2 code collection) (copied : AreCopied name new placed now)
     (kept : (p : Part) → IsMadeAnew p → file_at now (full_name new p) ≡ file_at placed (full_name new p)) where
   still : (p : Part) → IsMadeAnew p → p ≢ Places → file_at now (full_name new p) ≡ file_at emptied (full_name new p)
@@ -153,7 +163,8 @@ module _ (name new : List ℕ) (head : layout.Head) (code : TextCode) (collectio
 -- ---- what is taken over, whatever it means
 
 -- what is copied as it is now was so before
-module _ (name new : List ℕ) (before middle now : Option Files) (names : (a b : List ℕ) (p q : Part) → p ≢ Plain → q ≢ Plain → full_name a p ≡ full_name b q → (a ≡ b) × (p ≡ q)) (apart : new ≢ name) (others : OthersSame new before middle) where
+module _ (name new : List ℕ) (before middle now : Option Files) (names : (a b : List ℕ) (p q : Part) → p ≢ Plain → q ≢ Plain → full_name a p ≡ full_name b q →
+    (a ≡ b) × (p ≡ q)) (apart : new ≢ name) (others : OthersSame new before middle) where
   pub copied_then : (p : Part) → p ≢ Plain → IsCopied name new middle now p → IsCopied name new before now p
   copied_then p own is = is ∙ ap (λ (file : Option (List ℕ)). unwrap_or file []) (old_stays name new p before middle names apart own others)
 
@@ -171,16 +182,21 @@ module _ (name new : List ℕ) (before middle now : Option Files) (names : (a b 
   }
 
 -- the places are made behind the emptied head, and the copies behind them
-module _ (head : defs.Head) (name new : List ℕ) (before emptied placed now : Option Files) (names : (a b : List ℕ) (p q : Part) → p ≢ Plain → q ≢ Plain → full_name a p ≡ full_name b q → (a ≡ b) × (p ≡ q)) (apart : new ≢ name)
-    (others : OthersSame new before emptied) (alone : ChangedAlone (full_name new Places) emptied placed) (kept : (p : Part) → IsMadeAnew p → file_at now (full_name new p) ≡ file_at placed (full_name new p)) where
+module _ (head : defs.Head) (name new : List ℕ) (before emptied placed now : Option Files)
+    (names : (a b : List ℕ) (p q : Part) → p ≢ Plain → q ≢ Plain → full_name a p ≡ full_name b q → (a ≡ b) × (p ≡ q)) (apart : new ≢ name)
+    (others : OthersSame new before emptied) (alone : ChangedAlone (full_name new Places) emptied placed)
+    (kept : (p : Part) → IsMadeAnew p → file_at now (full_name new p) ≡ file_at placed (full_name new p)) where
   pub lacks_head : AreEmptied emptied new → (head.version ≡ 2 → IsCopied name new emptied placed Places) → AreCopied name new placed now → LacksHead head name new before now
   lacks_head empty places copied = record {
     gone = kept Head tt ∙ part_stays new Places Head emptied placed (λ same. omega (arith, ap number same)) alone ∙ empty.head;
     copied = all_copied_then name new before placed now names apart (others_of_part new Places before emptied placed (λ same. omega (arith, ap number same)) others alone) copied;
-    places = λ is. ap (λ (file : Option (List ℕ)). unwrap_or file []) (kept Places tt) ∙ copied_then name new before emptied placed names apart others Places (λ same. omega (arith, ap number same)) (places is);
+    places = λ is. ap (λ (file : Option (List ℕ)). unwrap_or file []) (kept Places tt) ∙ copied_then name new before emptied placed names apart others Places
+        (λ same. omega (arith, ap number same)) (places is);
   }
 
 -- ---- where there is no head yet
 
-pub unbuilt_still : (new : List ℕ) (before middle now : Option Files) → is_some middle ≡ is_some before → IsUnbuilt new before middle → (file_at now (full_name new Head) ≡ file_at middle (full_name new Head)) → (IsSome before → file_at middle (full_name new Head) ≡ Some []) → IsUnbuilt new before now
+pub unbuilt_still : (new : List ℕ) (before middle now : Option Files) → is_some middle ≡ is_some before → IsUnbuilt new before middle →
+    (file_at now (full_name new Head) ≡ file_at middle (full_name new Head)) → (IsSome before → file_at middle (full_name new Head) ≡ Some []) →
+    IsUnbuilt new before now
 unbuilt_still new before middle now told unbuilt same gone = inr (λ is. same ∙ gone is)

@@ -47,7 +47,8 @@ head_refused fault.SameName rose files name new stops = absurd stops
 head_refused (fault.TooManyRotations count) rose files name new stops = stops
 
 -- a part of another size than follows from a head that was loaded
-pub size_refused : (refusal : PartErr) (head : Head) (s t u : ℕ) (before loaded : Option Files) (name : List ℕ) → s ≤ t → loaded ≡ before → HasPartCause {T = Unit {0}} t u (Err refusal) → (IsSome loaded → AnswersSizesOf (fields_of head) loaded name (Err refusal))
+pub size_refused : (refusal : PartErr) (head : Head) (s t u : ℕ) (before loaded : Option Files) (name : List ℕ) → s ≤ t → loaded ≡ before →
+    HasPartCause {T = Unit {0}} t u (Err refusal) → (IsSome loaded → AnswersSizesOf (fields_of head) loaded name (Err refusal))
     → ((collection : List ℕ) → Stands before name collection → (code : TextCode) × StandsBy head code loaded name collection) → DecodeStops (Rose s u) ⊥ before name (fault_of_part refusal)
 size_refused Device head s t u before loaded name up same cause answer by = rose_behind s t u up cause.device
 size_refused Memory head s t u before loaded name up same cause answer by = tt
@@ -57,7 +58,8 @@ size_refused (Bad bad) head s t u before loaded name up same cause answer by = �
 
 -- a set whose parts were not made
 pub set_refused : (refusal : Fault) (head : Head) (s t u : ℕ) (before middle : Option Files) (name new : List ℕ) → s ≤ t
-    → ((collection : List ℕ) → Stands before name collection → (code : TextCode) × StandsBy head code middle name collection) → ReadStops (Rose t u) (IsSetBy head middle name) refusal → MigrateStops (Rose s u) before name new refusal
+    → ((collection : List ℕ) → Stands before name collection → (code : TextCode) × StandsBy head code middle name collection) →
+    ReadStops (Rose t u) (IsSetBy head middle name) refusal → MigrateStops (Rose s u) before name new refusal
 set_refused fault.Usage head s t u before middle name new up by stops = absurd stops
 set_refused fault.StoreFault head s t u before middle name new up by stops = rose_behind s t u up stops
 set_refused fault.ReadFault head s t u before middle name new up by stops = absurd stops
@@ -76,7 +78,8 @@ set_refused fault.SameName head s t u before middle name new up by stops = absur
 set_refused (fault.TooManyRotations count) head s t u before middle name new up by stops = absurd stops
 
 -- a set that stands is made anew where no device fails and memory does not lack
-pub made_or_lacks : (refusal : Fault) (rose : Type 0) (files : Option Files) (name new collection : List ℕ) → Stands files name collection → new ≢ name → (rose → ⊥) → MigrateStops rose files name new refusal → IsDone {T = ℕ} (Err refusal)
+pub made_or_lacks : (refusal : Fault) (rose : Type 0) (files : Option Files) (name new collection : List ℕ) → Stands files name collection → new ≢ name →
+    (rose → ⊥) → MigrateStops rose files name new refusal → IsDone {T = ℕ} (Err refusal)
 made_or_lacks fault.Usage rose files name new collection stands apart calm stops = stops
 made_or_lacks fault.StoreFault rose files name new collection stands apart calm stops = calm stops
 made_or_lacks fault.ReadFault rose files name new collection stands apart calm stops = stops
@@ -99,7 +102,8 @@ made_or_lacks (fault.TooManyRotations count) rose files name new collection stan
 pub in_stands : (version cap : ℕ) (files : Option Files) (name collection : List ℕ) → StandsIn version cap files name collection → Stands files name collection
 in_stands version cap files name collection is = record { told = is.told; stand = record { version = version; cap = cap; code = is.code; are = is.are } }
 
-pub cap_is : (version cap : ℕ) (files : Option Files) (name collection : List ℕ) (head : Head) → StandsIn version cap files name collection → IsHead 1 2 (bytes_at files (full_name name part.Head)) (fields_of head) → head.cap ≡ cap
+pub cap_is : (version cap : ℕ) (files : Option Files) (name collection : List ℕ) (head : Head) → StandsIn version cap files name collection →
+    IsHead 1 2 (bytes_at files (full_name name part.Head)) (fields_of head) → head.cap ≡ cap
 cap_is version cap files name collection head is loaded =
     let own : IsHead 1 2 (bytes_at files (full_name name part.Head)) (head_of version cap is.code collection) = (stand-tells version cap is.code (parts_at files name) collection is.are).head in
     ap (λ (h : defs.Head). h.cap) (one_head (fields_of head) (head_of version cap is.code collection) loaded.within own.within (sym loaded.bytes_are ∙ own.bytes_are))

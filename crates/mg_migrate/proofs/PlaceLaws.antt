@@ -25,13 +25,20 @@ text_is code collection = text-long code collection ∙ ap (sum_by (coded_size c
 -- the places of a text are not above its length
 small_places : (most : ℕ) (code : TextCode) (collection : List ℕ) → length (text_part code collection) < most → All (λ place. place < most) (places code collection)
 small_places most code collection short = All-from_get_or (λ place. place < most) (places code collection) 0
-    (λ i inside. omega (arith, places-at code collection i (omega (arith, inside, places-long code collection)), sum_by-take-le (coded_size code) (documents collection) i, text_is code collection, short))
+    (λ i inside. omega (
+      arith,
+      places-at code collection i (omega (arith, inside, places-long code collection)),
+      sum_by-take-le (coded_size code) (documents collection) i,
+      text_is code collection,
+      short,
+    ))
 
 -- the text of version 1 is short
 short_text : (head : Head) → head.version ≡ 1 → IsWithin (fields_of head) → (fields_of head).text_bytes < 2 ^ 32
 short_text head is within = subst (λ (v : ℕ). (fields_of head).text_bytes < (if v == 1 then 2 ^ 32 else 2 ^ 64)) is within.text_bytes
 
-pub narrow_places : (head : Head) (code : TextCode) (collection base : List ℕ) (files : Option Files) → head.version ≡ 1 → IsWithin (fields_of head) → StandsBy head code files base collection → AreNarrow (places code collection) (bytes_at files (full_name base Places)) (head.documents + 1)
+pub narrow_places : (head : Head) (code : TextCode) (collection base : List ℕ) (files : Option Files) → head.version ≡ 1 → IsWithin (fields_of head) →
+    StandsBy head code files base collection → AreNarrow (places code collection) (bytes_at files (full_name base Places)) (head.documents + 1)
 narrow_places head code collection base files is within stands = record {
   bytes_are = stands.are.places ∙ ap (λ v. places_part v code collection) is;
   small = small_places (2 ^ 32) code collection (subst (λ (h : defs.Head). h.text_bytes < 2 ^ 32) stands.head_is (short_text head is within));

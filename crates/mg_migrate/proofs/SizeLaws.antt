@@ -41,7 +41,8 @@ place_long version place = either (version == 1)
     either false = refl
 
 places_long : (version : ℕ) (code : TextCode) (collection : List ℕ) → length (places_part version code collection) ≡ place_width version * (length (documents collection) + 1)
-places_long version code collection = all_long (place_bytes version) (place_width version) (place_long version) (places code collection) ∙ ap (λ n. place_width version * n) (places-long code collection)
+places_long version code collection = all_long (place_bytes version) (place_width version) (place_long version) (places code collection)
+    ∙ ap (λ n. place_width version * n) (places-long code collection)
 
 weights_long : (collection : List ℕ) → length (weights_part collection) ≡ 4 * length (documents collection)
 weights_long collection = all_long four 4 four_long (map weight (documents collection)) ∙ ap (λ n. 4 * n) (length-map (documents collection) weight)

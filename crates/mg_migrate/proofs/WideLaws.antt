@@ -68,15 +68,19 @@ module _ (new : List ℕ) (head : layout.Head) (code : TextCode) (name collectio
   wide_in_part grew = subst (λ bytes. GrewInPart middle now (full_name new Head) bytes) wide_bytes grew
 
 -- a working part stays where the head is appended
-pub merge_a_stays : (new : List ℕ) (before now : Option Files) → ChangedAlone (full_name new Head) before now → file_at before (full_name new MergeA) ≡ Some [] → file_at now (full_name new MergeA) ≡ Some []
+pub merge_a_stays : (new : List ℕ) (before now : Option Files) → ChangedAlone (full_name new Head) before now →
+    file_at before (full_name new MergeA) ≡ Some [] → file_at now (full_name new MergeA) ≡ Some []
 merge_a_stays new before now alone is = part_stays new Head MergeA before now (λ same. omega (arith, ap number same)) alone ∙ is
 
-pub merge_b_stays : (new : List ℕ) (before now : Option Files) → ChangedAlone (full_name new Head) before now → file_at before (full_name new MergeB) ≡ Some [] → file_at now (full_name new MergeB) ≡ Some []
+pub merge_b_stays : (new : List ℕ) (before now : Option Files) → ChangedAlone (full_name new Head) before now →
+    file_at before (full_name new MergeB) ≡ Some [] → file_at now (full_name new MergeB) ≡ Some []
 merge_b_stays new before now alone is = part_stays new Head MergeB before now (λ same. omega (arith, ap number same)) alone ∙ is
 
 -- ---- what is left
 
-pub left_unbuilt : (new collection : List ℕ) (before now : Option Files) → IsSome before → ((base : List ℕ) (files : Option Files) → file_at files (full_name base Head) ≡ Some [] → StandsForNone files base) → IsUnbuilt new before now → Left new before now collection
+pub left_unbuilt : (new collection : List ℕ) (before now : Option Files) → IsSome before →
+    ((base : List ℕ) (files : Option Files) → file_at files (full_name base Head) ≡ Some [] → StandsForNone files base) → IsUnbuilt new before now →
+    Left new before now collection
 left_unbuilt new collection before now told none (inl same) = inl same
 left_unbuilt new collection before now told none (inr gone) = inr (inl (none new now (gone told)))
 

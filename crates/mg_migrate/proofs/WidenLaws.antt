@@ -20,7 +20,8 @@ unfolding four
 four_long n = refl
 
 -- a number in a buffer that was filled
-pub filled_number : (whole : Bool) (buf bytes : List ℕ) (at index number n m : ℕ) → whole ≡ true → IsFilled whole buf at bytes → length buf ≡ 4 → at ≡ 4 * index → HasFour bytes index number → n ≡ four_at buf 0 → m ≡ n → m ≡ number
+pub filled_number : (whole : Bool) (buf bytes : List ℕ) (at index number n m : ℕ) → whole ≡ true → IsFilled whole buf at bytes → length buf ≡ 4 →
+    at ≡ 4 * index → HasFour bytes index number → n ≡ four_at buf 0 → m ≡ n → m ≡ number
 filled_number false buf bytes at index number n m is filled long here has told same = absurd cc
 filled_number true buf bytes at index number n m is filled long here has told same =
     let e : buf ≡ four number ++ [] = filled ∙ ap (λ k. take k (drop at bytes)) long ∙ ap (λ q. take 4 (drop q bytes)) here ∙ has.here ∙ sym (append-nil (four number)) in
@@ -60,7 +61,8 @@ has_four numbers bytes count index are within = record {
 one_behind : (f : ℕ → List ℕ) (numbers : List ℕ) (index : ℕ) → index < length numbers → flat_map f (take index numbers) ++ f (get_or numbers index 0) ≡ flat_map f (take (suc index) numbers)
 one_behind f [] index within = absurd (omega (arith, within))
 one_behind f (n ∷ numbers) zero within = sym (append-nil (f n))
-one_behind f (n ∷ numbers) (suc index) within = append_assoc (f n) (flat_map f (take index numbers)) (f (get_or numbers index 0)) ∙ ap (λ r. f n ++ r) (one_behind f numbers index (omega (arith, within)))
+one_behind f (n ∷ numbers) (suc index) within = append_assoc (f n) (flat_map f (take index numbers)) (f (get_or numbers index 0))
+    ∙ ap (λ r. f n ++ r) (one_behind f numbers index (omega (arith, within)))
 
 pub one_more : (f : ℕ → List ℕ) (numbers : List ℕ) (index : ℕ) → index < length numbers → flat_map f (take index numbers) ++ f (get_or numbers index 0) ≡ flat_map f (take (index + 1) numbers)
 one_more f numbers index within = let e : suc index ≡ index + 1 = omega arith in one_behind f numbers index within ∙ ap (λ k. flat_map f (take k numbers)) e
@@ -74,7 +76,8 @@ narrow_long numbers bytes count are = omega (arith, ap length are.bytes_are, nar
 
 -- ---- why numbers are not widened
 
-pub size_stops : (refusal : PartErr) (a b n count : ℕ) (bytes : List ℕ) (told : Type 0) → n ≡ count → (told → AnswersSize Places (4 * n) bytes (Err refusal)) → IsCaused {T = Unit {0}} a b (Err refusal)
+pub size_stops : (refusal : PartErr) (a b n count : ℕ) (bytes : List ℕ) (told : Type 0) → n ≡ count → (told → AnswersSize Places (4 * n) bytes (Err refusal)) →
+    IsCaused {T = Unit {0}} a b (Err refusal)
     → ReadStops (Rose a b) (told × (numbers : List ℕ) × AreNarrow numbers bytes count) (fault_of_part refusal)
 size_stops Device a b n count bytes told same answer caused = caused
 size_stops Memory a b n count bytes told same answer caused = tt

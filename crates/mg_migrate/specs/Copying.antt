@@ -32,7 +32,8 @@ pub record HasFour (bytes : List ℕ) (index number : ℕ) : Type 0 where
 -- so many bytes of one file, from a place on, were added to another
 abbrev pub HasCopied : FileRef → FileRef → ℕ → Option Files → Option Files → ℕ → Type 0
 HasCopied from to at files files_now count =
-    file_at files_now (full_name to.base.now to.part) ≡ Some (file_bytes to files ++ take count (drop at (file_bytes from files)))
+    file_at files_now (full_name to.base.now to.part)
+    ≡ Some (file_bytes to files ++ take count (drop at (file_bytes from files)))
 
 -- the eight bytes of a number were put
 abbrev pub PutsEight : {T E : Type 0} → Writing → Writing → Option Files → Option Files → Result T E → ℕ → Type 0
@@ -40,7 +41,8 @@ PutsEight w w_now files files_now result number = OnOk result (put_to w_now file
 
 -- where the store tells its files, this is so of the number whose four bytes stand at an index of a file
 abbrev pub ForNumberAt : Option Files → List ℕ → ℕ → (ℕ → Type 0) → Type 0
-ForNumberAt files name index holds = IsSome files → (number : ℕ) → HasFour (bytes_at files name) index number → holds number
+ForNumberAt files name index holds = IsSome files → (number : ℕ) → HasFour (bytes_at files name) index number →
+    holds number
 
 -- the store tells its files, and there is such a number
 abbrev pub HasSomeFour : Option Files → List ℕ → ℕ → Type 0
@@ -48,11 +50,13 @@ HasSomeFour files name index = IsSome files × (number : ℕ) × HasFour (bytes_
 
 -- where the store tells its files, this is so of the numbers, so many, whose four bytes each the places of a base are
 abbrev pub ForNarrow : Option Files → List ℕ → ℕ → (List ℕ → Type 0) → Type 0
-ForNarrow files base count holds = IsSome files → (numbers : List ℕ) → AreNarrow numbers (part_bytes base Places files) count → holds numbers
+ForNarrow files base count holds = IsSome files → (numbers : List ℕ) →
+    AreNarrow numbers (part_bytes base Places files) count → holds numbers
 
 -- the store tells its files, and there are such numbers
 abbrev pub AreSomeNarrow : Option Files → List ℕ → ℕ → Type 0
-AreSomeNarrow files base count = IsSome files × (numbers : List ℕ) × AreNarrow numbers (part_bytes base Places files) count
+AreSomeNarrow files base count = IsSome files × (numbers : List ℕ) ×
+    AreNarrow numbers (part_bytes base Places files) count
 
 -- the places of a base are these numbers in eight bytes each
 abbrev pub AreWide : Option Files → List ℕ → List ℕ → Type 0

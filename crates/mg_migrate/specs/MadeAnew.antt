@@ -35,7 +35,8 @@ pub record MadeAnew (name new : List ℕ) (store store_now : StoreAt) (status : 
   -- after the statuses 16 and 5 no file has changed
   pub unchanged : (fault : Fault) → ComesFirst fault → status ≡ Stopped fault → KeptFiles store store_now
   -- every status: all files are as before, or the new set stands for none, or for this collection; no file but its own changes
-  pub left : (collection : List ℕ) → Stands store.files name collection → Left new store.files store_now.files collection
+  pub left : (collection : List ℕ) → Stands store.files name collection →
+      Left new store.files store_now.files collection
   pub others : OthersSame new store.files store_now.files
   -- every status, whatever the old set's bytes mean: all files are as before, or the new head was begun
   pub begun : IsSome store.files → KeptFiles store store_now ⊎ BeginsHead name new store store_now

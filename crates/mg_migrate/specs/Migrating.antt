@@ -103,7 +103,8 @@ ComesFirst _ = ⊥
 
 -- this is so of each collection that the files of a base stand for, in either version, and of its cap
 abbrev pub ForSetIn : Option Files → List ℕ → (ℕ → List ℕ → Type 0) → Type 0
-ForSetIn files base holds = (version cap : ℕ) (collection : List ℕ) → StandsIn version cap files base collection → holds cap collection
+ForSetIn files base holds = (version cap : ℕ) (collection : List ℕ) → StandsIn version cap files base collection →
+    holds cap collection
 
 -- when it is done, only the head of a base is to come
 abbrev pub ReadyForHead : {T E : Type 0} → List ℕ → ℕ → Option Files → Result T E → TextCode → List ℕ → Type 0

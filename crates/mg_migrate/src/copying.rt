@@ -21,12 +21,16 @@ fn copy_block<S: Store>(
 ) -> Result<u64, Fault>
     requires room { 1 ≤ length block.old }
     requires rest { 1 ≤ rest }
-    ensures bytes { IsSome (S.files store.old) → IfOk result (λ n. HasCopied from.now to.now at (S.files store.old) (S.files store.new) n) }
-    ensures some { IsSome (S.files store.old) → at < length (file_bytes from.now (S.files store.old)) → IfOk result (λ n. 1 ≤ n) }
+    ensures bytes { IsSome (S.files store.old) →
+        IfOk result (λ n. HasCopied from.now to.now at (S.files store.old) (S.files store.new) n) }
+    ensures some { IsSome (S.files store.old) →
+        at < length (file_bytes from.now (S.files store.old)) → IfOk result (λ n. 1 ≤ n) }
     ensures within { IfOk result (λ n. n ≤ rest) }
-    ensures alone { ChangedAlone (full_name to.now.base.now to.now.part) (S.files store.old) (S.files store.new) }
+    ensures alone { ChangedAlone (full_name to.now.base.now to.now.part) (S.files store.old)
+        (S.files store.new) }
     ensures room { length block.new ≡ length block.old }
-    ensures refused { IfErr result (ReadStops (Rose (S.faults store.old) (S.faults store.new)) (Unit {0})) }
+    ensures refused { IfErr result (ReadStops (Rose (S.faults store.old) (S.faults store.new))
+        (Unit {0})) }
     ensures later { S.faults store.old ≤ S.faults store.new }
 {
     let read = match store.read_at(from, at, block) {
@@ -51,10 +55,12 @@ pub(crate) fn copy_part<S: Store>(
     requires apart { new.now ≢ name.now }
     requires own { part ≢ Plain }
     requires room { 1 ≤ length block.old }
-    ensures copied { IsSome (S.files store.old) → OnOk result (IsCopied name.now new.now (S.files store.old) (S.files store.new) part) }
+    ensures copied { IsSome (S.files store.old) →
+        OnOk result (IsCopied name.now new.now (S.files store.old) (S.files store.new) part) }
     ensures alone { ChangedAlone (full_name new.now part) (S.files store.old) (S.files store.new) }
     ensures room { length block.new ≡ length block.old }
-    ensures refused { IfErr result (ReadStops (Rose (S.faults store.old) (S.faults store.new)) (IsSome (S.files store.old))) }
+    ensures refused { IfErr result (ReadStops (Rose (S.faults store.old) (S.faults store.new))
+        (IsSome (S.files store.old))) }
     ensures later { S.faults store.old ≤ S.faults store.new }
 {
     let from = FileRef { base: name, part };

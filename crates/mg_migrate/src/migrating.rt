@@ -58,7 +58,8 @@ pub fn migrate<S: Store>(alloc: Global, store: &mut S, name: &str, new: &str) ->
     ensures made_anew { BetweenMoments S.files S.reads S.faults store.old store.new
         (λ before now. MadeAnew name.now new.now before now (status_of result)) }
     // At `Ok` it answers how many documents the collection has.
-    ensures documents { (collection : List ℕ) → Stands (S.files store.old) name.now collection → IfOk result (λ count. count ≡ length (documents collection)) }
+    ensures documents { (collection : List ℕ) → Stands (S.files store.old) name.now collection →
+        IfOk result (λ count. count ≡ length (documents collection)) }
     ensures later { S.faults store.old ≤ S.faults store.new }
 {
     if new == name {
@@ -78,11 +79,14 @@ pub fn migrate<S: Store>(alloc: Global, store: &mut S, name: &str, new: &str) ->
 fn copy_parts<S: Store>(store: &mut S, name: &str, new: &str, block: &mut [u8]) -> Result<(), Fault>
     requires apart { new.now ≢ name.now }
     requires room { 1 ≤ length block.old }
-    ensures copied { IsSome (S.files store.old) → OnOk result (AreCopied name.now new.now (S.files store.old) (S.files store.new)) }
+    ensures copied { IsSome (S.files store.old) →
+        OnOk result (AreCopied name.now new.now (S.files store.old) (S.files store.new)) }
     ensures others { OthersSame new.now (S.files store.old) (S.files store.new) }
-    ensures kept { (p : AnyPart) → IsMadeAnew p → file_at (S.files store.new) (full_name new.now p) ≡ file_at (S.files store.old) (full_name new.now p) }
+    ensures kept { (p : AnyPart) → IsMadeAnew p → file_at (S.files store.new) (full_name new.now p)
+        ≡ file_at (S.files store.old) (full_name new.now p) }
     ensures room { length block.new ≡ length block.old }
-    ensures refused { IfErr result (ReadStops (Rose (S.faults store.old) (S.faults store.new)) (IsSome (S.files store.old))) }
+    ensures refused { IfErr result (ReadStops (Rose (S.faults store.old) (S.faults store.new))
+        (IsSome (S.files store.old))) }
     ensures later { S.faults store.old ≤ S.faults store.new }
 {
     // By this law no part of one base is a part of the other.
@@ -110,12 +114,17 @@ fn copy_places<S: Store>(
     requires apart { new.now ≢ name.now }
     requires within { IsWithin (fields_of head.now) }
     requires room { 1 ≤ length block.old }
-    ensures places { ForSetBy head.now (S.files store.old) name.now (λ code collection. OnOk result (HasWidePlaces (S.files store.new) new.now code collection)) }
+    ensures places { ForSetBy head.now (S.files store.old) name.now
+        (λ code collection. OnOk result
+        (HasWidePlaces (S.files store.new) new.now code collection)) }
     ensures copied { IsSome (S.files store.old) → head.now.version ≡ 2 →
-        OnOk result (IsCopied name.now new.now (S.files store.old) (S.files store.new) part.Places) }
-    ensures alone { ChangedAlone (full_name new.now part.Places) (S.files store.old) (S.files store.new) }
+        OnOk result (IsCopied name.now new.now (S.files store.old) (S.files store.new)
+        part.Places) }
+    ensures alone { ChangedAlone (full_name new.now part.Places) (S.files store.old)
+        (S.files store.new) }
     ensures room { length block.new ≡ length block.old }
-    ensures refused { IfErr result (ReadStops (Rose (S.faults store.old) (S.faults store.new)) (IsSetBy head.now (S.files store.old) name.now)) }
+    ensures refused { IfErr result (ReadStops (Rose (S.faults store.old) (S.faults store.new))
+        (IsSetBy head.now (S.files store.old) name.now)) }
     ensures later { S.faults store.old ≤ S.faults store.new }
 {
     if head.version == 1 {
@@ -127,10 +136,12 @@ fn copy_places<S: Store>(
 // Empties the head first, and the working parts.
 #[tactic(auto, using(mg_dev::specs::Laws::file_laws))]
 fn empty_parts<S: Store>(store: &mut S, new: &str) -> Result<(), Fault>
-    ensures emptied { IsSome (S.files store.old) → OnOk result (AreEmptied (S.files store.new) new.now) }
+    ensures emptied { IsSome (S.files store.old) →
+        OnOk result (AreEmptied (S.files store.new) new.now) }
     ensures unbuilt { IsUnbuilt new.now (S.files store.old) (S.files store.new) }
     ensures others { OthersSame new.now (S.files store.old) (S.files store.new) }
-    ensures refused { IfErr result (ReadStops (Rose (S.faults store.old) (S.faults store.new)) (Unit {0})) }
+    ensures refused { IfErr result (ReadStops (Rose (S.faults store.old) (S.faults store.new))
+        (Unit {0})) }
     ensures later { S.faults store.old ≤ S.faults store.new }
 {
     let head = FileRef {
@@ -171,12 +182,15 @@ fn make_parts<S: Store>(
     requires apart { new.now ≢ name.now }
     requires within { IsWithin (fields_of head.now) }
     requires room { 1 ≤ length block.old }
-    ensures ready { ForSetBy head.now (S.files store.old) name.now (ReadyForHead new.now head.now.cap (S.files store.new) result) }
+    ensures ready { ForSetBy head.now (S.files store.old) name.now
+        (ReadyForHead new.now head.now.cap (S.files store.new) result) }
     ensures lacks { IsSome (S.files store.old) →
-        OnOk result (LacksHead (fields_of head.now) name.now new.now (S.files store.old) (S.files store.new)) }
+        OnOk result (LacksHead (fields_of head.now) name.now new.now (S.files store.old)
+        (S.files store.new)) }
     ensures unbuilt { IsUnbuilt new.now (S.files store.old) (S.files store.new) }
     ensures others { OthersSame new.now (S.files store.old) (S.files store.new) }
-    ensures refused { IfErr result (ReadStops (Rose (S.faults store.old) (S.faults store.new)) (IsSetBy head.now (S.files store.old) name.now)) }
+    ensures refused { IfErr result (ReadStops (Rose (S.faults store.old) (S.faults store.new))
+        (IsSetBy head.now (S.files store.old) name.now)) }
     ensures later { S.faults store.old ≤ S.faults store.new }
 {
     // By these laws the set under the other base stays as it is.
@@ -203,8 +217,10 @@ fn make_set<S: Store>(
 ) -> Result<(), Fault>
     requires apart { new.now ≢ name.now }
     requires within { IsWithin (fields_of head.now) }
-    ensures made { MadeFrom head.now name.now new.now (S.files store.old) (S.files store.new) (status_of result) }
-    ensures refused { IfErr result (ReadStops (Rose (S.faults store.old) (S.faults store.new)) (IsSetBy head.now (S.files store.old) name.now)) }
+    ensures made { MadeFrom head.now name.now new.now (S.files store.old) (S.files store.new)
+        (status_of result) }
+    ensures refused { IfErr result (ReadStops (Rose (S.faults store.old) (S.faults store.new))
+        (IsSetBy head.now (S.files store.old) name.now)) }
     ensures later { S.faults store.old ≤ S.faults store.new }
 {
     // By these laws a set stands with its whole head, and with an empty one for no collection.

@@ -63,7 +63,8 @@ pub(crate) fn load_sized<S: Store>(store: &mut S, base: &str) -> Result<Head, Fa
     ensures within { IfOk result (λ head. IsWithin (fields_of head)) }
     ensures sized { IsSome (S.files store.old) →
         IfOk result (λ head. IsSized (fields_of head) (S.files store.old) base.now) }
-    ensures cause { IfErr result (DecodeStops (Rose (S.faults store.old) (S.faults store.new)) ⊥ (S.files store.old) base.now) }
+    ensures cause { IfErr result (DecodeStops (Rose (S.faults store.old) (S.faults store.new)) ⊥
+        (S.files store.old) base.now) }
     ensures not_built { IsSome (S.files store.old) → HasNoHead (S.files store.old) base.now →
         RefusedFor result fault.NotBuilt }
     ensures files { S.files store.new ≡ S.files store.old }

@@ -28,7 +28,8 @@ fn widen_one<S: Store>(
     ensures file { SameFile places.old places.new }
     ensures name { wide.new.name ≡ wide.old.name }
     ensures alone { ChangedAlone wide.old.name (S.files store.old) (S.files store.new) }
-    ensures refused { IfErr result (ReadStops (Fails S.faults store.old store.new) (HasSomeFour (S.files store.old) places.old.name index)) }
+    ensures refused { IfErr result (ReadStops (Fails S.faults store.old store.new)
+        (HasSomeFour (S.files store.old) places.old.name index)) }
     ensures later { S.faults store.old ≤ S.faults store.new }
 {
     let mut bytes = [0u8; 4];
@@ -62,9 +63,12 @@ pub(crate) fn widen_places<S: Store>(
     count: u32,
 ) -> Result<(), Fault>
     requires apart { new.now ≢ name.now }
-    ensures widened { ForNarrow (S.files store.old) name.now count (λ numbers. OnOk result (AreWide (S.files store.new) new.now numbers)) }
-    ensures alone { ChangedAlone (full_name new.now Places) (S.files store.old) (S.files store.new) }
-    ensures refused { IfErr result (ReadStops (Fails S.faults store.old store.new) (AreSomeNarrow (S.files store.old) name.now count)) }
+    ensures widened { ForNarrow (S.files store.old) name.now count
+        (λ numbers. OnOk result (AreWide (S.files store.new) new.now numbers)) }
+    ensures alone { ChangedAlone (full_name new.now Places) (S.files store.old)
+        (S.files store.new) }
+    ensures refused { IfErr result (ReadStops (Fails S.faults store.old store.new)
+        (AreSomeNarrow (S.files store.old) name.now count)) }
     ensures later { S.faults store.old ≤ S.faults store.new }
 {
     let from = FileRef {

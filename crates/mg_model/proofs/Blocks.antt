@@ -32,7 +32,9 @@ piece-same long more entry is =
     let same : 15 < get_or entry 0 0 → long_piece (long ++ more) entry ≡ long_piece long entry = λ h. part-same (get_or entry 0 0) (four_at entry 1) long more (is.within h) in
     by same (leb_tells (get_or entry 0 0) 15)
   where
-    by : (15 < get_or entry 0 0 → long_piece (long ++ more) entry ≡ long_piece long entry) → ((leb (get_or entry 0 0) 15 ≡ true) × (get_or entry 0 0 ≤ 15)) ⊎ ((leb (get_or entry 0 0) 15 ≡ false) × (15 < get_or entry 0 0)) → piece_of (long ++ more) entry ≡ piece_of long entry
+    by : (15 < get_or entry 0 0 → long_piece (long ++ more) entry ≡ long_piece long entry) →
+        ((leb (get_or entry 0 0) 15 ≡ true) × (get_or entry 0 0 ≤ 15)) ⊎ ((leb (get_or entry 0 0) 15 ≡ false) × (15 < get_or entry 0 0)) →
+        piece_of (long ++ more) entry ≡ piece_of long entry
     by same (inl h) = piece-is_short (long ++ more) entry h.1 ∙ sym (piece-is_short long entry h.1)
     by same (inr h) = piece-is_long (long ++ more) entry h.1 ∙ same h.1 ∙ sym (piece-is_long long entry h.1)
 
@@ -55,9 +57,12 @@ pub record IsLong (size : ℕ) (entry piece : List ℕ) : Type 0 where
   pub place : four_at entry 1 ≡ size
 
 -- one longer piece more
-pub pieces-add_long : (long entry piece : List ℕ) (entries : List (List ℕ)) → AllByRecursion (IsPieceEntry (length long)) entries → IsLong (length long) entry piece → map (piece_of (long ++ piece)) (entries ++ entry ∷ []) ≡ map (piece_of long) entries ++ piece ∷ []
+pub pieces-add_long : (long entry piece : List ℕ) (entries : List (List ℕ)) → AllByRecursion (IsPieceEntry (length long)) entries →
+    IsLong (length long) entry piece → map (piece_of (long ++ piece)) (entries ++ entry ∷ []) ≡ map (piece_of long) entries ++ piece ∷ []
 pieces-add_long long entry piece entries all t =
-    let one : piece_of (long ++ piece) entry ≡ piece = piece-is_long (long ++ piece) entry (omega (arith, t.count, t.many)) ∙ ap (λ n. take n (drop (four_at entry 1) (long ++ piece))) t.count ∙ ap (λ n. take (length piece) (drop n (long ++ piece))) t.place ∙ behind long piece in
+    let one : piece_of (long ++ piece) entry ≡ piece = piece-is_long (long ++ piece) entry (omega (arith, t.count, t.many))
+    ∙ ap (λ n. take n (drop (four_at entry 1) (long ++ piece))) t.count ∙ ap (λ n. take (length piece) (drop n (long ++ piece))) t.place
+    ∙ behind long piece in
     map-more (long ++ piece) entry entries ∙ ap (λ p. map (piece_of (long ++ piece)) entries ++ p ∷ []) one ∙ ap (λ ps. ps ++ piece ∷ []) (pieces-same long piece entries all)
 
 pub length-pieces : (long : List ℕ) (entries : List (List ℕ)) → length (map (piece_of long) entries) ≡ length entries

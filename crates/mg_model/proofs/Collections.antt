@@ -24,7 +24,8 @@ there-within (y ∷ ys) (suc i) x h = omega (arith, there-within ys i x h)
 under : (m n : ℕ) → m < n → ltb m n ≡ true
 under m n h = grind (arith, nat_tests)
 
-pub symbol-is : (pieces : List (List ℕ)) (symbol : ℕ) (piece : List ℕ) → IsStrictlySortedBy (slice_cmp nat_cmp) pieces → slice_get pieces symbol ≡ Some piece → position (bytes_eq piece) pieces ≡ Some symbol
+pub symbol-is : (pieces : List (List ℕ)) (symbol : ℕ) (piece : List ℕ) → IsStrictlySortedBy (slice_cmp nat_cmp) pieces → slice_get pieces symbol ≡ Some piece →
+    position (bytes_eq piece) pieces ≡ Some symbol
 symbol-is pieces symbol piece rising there =
     let within = there-within pieces symbol piece there in
     let number : number_of pieces piece ≡ symbol = ap (number_of pieces) (sym (there-or pieces symbol piece [] there)) ∙ number-at pieces symbol [] rising within in
@@ -41,7 +42,9 @@ has-place : (pieces : List (List ℕ)) (piece : List ℕ) → position_or_len (b
 has-place [] piece h = absurd (omega arith)
 has-place (p ∷ pieces) piece h = by (bytes_eq piece p) refl (has-place pieces piece)
   where
-    by : (b : Bool) → bytes_eq piece p ≡ b → (position_or_len (bytes_eq piece) pieces < length pieces → slice_get pieces (position_or_len (bytes_eq piece) pieces) ≡ Some piece) → slice_get (p ∷ pieces) (position_or_len (bytes_eq piece) (p ∷ pieces)) ≡ Some piece
+    by : (b : Bool) → bytes_eq piece p ≡ b → (position_or_len (bytes_eq piece) pieces < length pieces →
+        slice_get pieces (position_or_len (bytes_eq piece) pieces) ≡ Some piece) → slice_get (p ∷ pieces) (position_or_len (bytes_eq piece) (p ∷ pieces))
+        ≡ Some piece
     by true is later =
         let first : position_or_len (bytes_eq piece) (p ∷ pieces) ≡ 0 = ap (λ b. cond (not b) (1 + position_or_len (bytes_eq piece) pieces) 0) is in
         ap (slice_get (p ∷ pieces)) first ∙ ap Some (sym (same-is piece p is))

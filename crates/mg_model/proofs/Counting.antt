@@ -34,19 +34,23 @@ some-counted piece (e ∷ es) h = by (bytes_eq piece e.0) (some-counted piece es
     by true rest = (omega arith, h.1)
     by false rest = (h.0, rest)
 
-short-counted : (piece : List ℕ) (es : List (List ℕ × ℕ)) → length piece ≤ 255 → AllByRecursion (λ (e : List ℕ × ℕ). length e.0 ≤ 255) es → AllByRecursion (λ (e : List ℕ × ℕ). length e.0 ≤ 255) (counted piece es)
+short-counted : (piece : List ℕ) (es : List (List ℕ × ℕ)) → length piece ≤ 255 → AllByRecursion (λ (e : List ℕ × ℕ). length e.0 ≤ 255) es →
+    AllByRecursion (λ (e : List ℕ × ℕ). length e.0 ≤ 255) (counted piece es)
 short-counted piece [] short h = (short, tt)
 short-counted piece (e ∷ es) short h = by (bytes_eq piece e.0) (short-counted piece es short h.1)
   where
-    by : (b : Bool) → AllByRecursion (λ (e : List ℕ × ℕ). length e.0 ≤ 255) (counted piece es) → AllByRecursion (λ (e : List ℕ × ℕ). length e.0 ≤ 255) (if b then (e.0, e.1 + 1) ∷ es else e ∷ counted piece es)
+    by : (b : Bool) → AllByRecursion (λ (e : List ℕ × ℕ). length e.0 ≤ 255) (counted piece es) →
+        AllByRecursion (λ (e : List ℕ × ℕ). length e.0 ≤ 255) (if b then (e.0, e.1 + 1) ∷ es else e ∷ counted piece es)
     by true rest = h
     by false rest = (h.0, rest)
 
-apart-counted : (p piece : List ℕ) (es : List (List ℕ × ℕ)) → bytes_eq p piece ≡ false → AllByRecursion (λ q. bytes_eq p q ≡ false) (pieces_of es) → AllByRecursion (λ q. bytes_eq p q ≡ false) (pieces_of (counted piece es))
+apart-counted : (p piece : List ℕ) (es : List (List ℕ × ℕ)) → bytes_eq p piece ≡ false → AllByRecursion (λ q. bytes_eq p q ≡ false) (pieces_of es) →
+    AllByRecursion (λ q. bytes_eq p q ≡ false) (pieces_of (counted piece es))
 apart-counted p piece [] other h = (other, tt)
 apart-counted p piece (e ∷ es) other h = by (bytes_eq piece e.0) (apart-counted p piece es other h.1)
   where
-    by : (b : Bool) → AllByRecursion (λ q. bytes_eq p q ≡ false) (pieces_of (counted piece es)) → AllByRecursion (λ q. bytes_eq p q ≡ false) (pieces_of (if b then (e.0, e.1 + 1) ∷ es else e ∷ counted piece es))
+    by : (b : Bool) → AllByRecursion (λ q. bytes_eq p q ≡ false) (pieces_of (counted piece es)) →
+        AllByRecursion (λ q. bytes_eq p q ≡ false) (pieces_of (if b then (e.0, e.1 + 1) ∷ es else e ∷ counted piece es))
     by true rest = h
     by false rest = (h.0, rest)
 
@@ -60,7 +64,8 @@ distinct-counted piece (e ∷ es) h = by (bytes_eq piece e.0) refl (distinct-cou
     by false isnt rest = (apart-counted e.0 piece es (nat_list_eq_equiv.symm e.0 piece ∙ isnt) h.0, rest)
 
 -- a vocabulary stays one where the piece is there, or there is room for one more
-pub still : (piece : List ℕ) (es new : List (List ℕ × ℕ)) → IsVocabulary es → total es < 2 ^ 32 - 1 → length piece ≤ 255 → length es + cond (has_piece es piece) 0 1 ≤ 2 ^ 22 → new ≡ counted piece es → IsVocabulary new
+pub still : (piece : List ℕ) (es new : List (List ℕ × ℕ)) → IsVocabulary es → total es < 2 ^ 32 - 1 → length piece ≤ 255 →
+    length es + cond (has_piece es piece) 0 1 ≤ 2 ^ 22 → new ≡ counted piece es → IsVocabulary new
 still piece es new is few short room same = subst IsVocabulary (sym same) (record {
   distinct = distinct-counted piece es is.distinct;
   few = omega (arith, length-counted piece es, room);
@@ -92,7 +97,8 @@ found piece (e ∷ es) count is = by (bytes_eq piece e.0.items) refl is (found p
     sum : total (entries_of (e ∷ es)) ≡ e.1 + total (entries_of es)
     sum = sum_by-cons (λ (x : List ℕ × ℕ). x.1) (e.0.items, e.1) (entries_of es)
 
-    by : (b : Bool) → bytes_eq piece e.0.items ≡ b → cond b (Some e.1) (lookup (sought piece) es) ≡ Some count → (lookup (sought piece) es ≡ Some count → IsFound piece es count) → IsFound piece (e ∷ es) count
+    by : (b : Bool) → bytes_eq piece e.0.items ≡ b → cond b (Some e.1) (lookup (sought piece) es) ≡ Some count →
+        (lookup (sought piece) es ≡ Some count → IsFound piece es count) → IsFound piece (e ∷ es) count
     by true here is later =
         let same : e.1 ≡ count = cc in
         record {
@@ -117,7 +123,8 @@ not-found piece (e ∷ es) is = by (bytes_eq piece e.0.items) is (not-found piec
     by false is later = later is
 
 -- a piece that was not found is put in last
-pub counted-new : (piece : List ℕ) (es : List (Vec ℕ Global × ℕ)) (key : Vec ℕ Global) → lookup (sought piece) es ≡ None → key.items ≡ piece → entries_of (insert_entry same_bytes es key 1) ≡ counted piece (entries_of es)
+pub counted-new : (piece : List ℕ) (es : List (Vec ℕ Global × ℕ)) (key : Vec ℕ Global) → lookup (sought piece) es ≡ None → key.items ≡ piece →
+    entries_of (insert_entry same_bytes es key 1) ≡ counted piece (entries_of es)
 counted-new piece [] key is same = ap (λ p. (p, 1) ∷ []) same
 counted-new piece (e ∷ es) key is same = by (bytes_eq piece e.0.items) refl is (λ h. counted-new piece es key h same)
   where

@@ -30,7 +30,8 @@ counted-push ws w = by w (terms-push ws w)
     by (b ∷ bytes) e = ap vocabulary e ∙ vocabulary-push (terms_of_words ws) (folded (b ∷ bytes))
 
 -- one word more
-pub counted-more : (ws : List (List ℕ)) (i : ℕ) (w : List ℕ) (old new : List (List ℕ × ℕ)) → slice_get ws i ≡ Some w → old ≡ vocabulary (terms_of_words (take i ws)) → new ≡ counted_term w old → new ≡ vocabulary (terms_of_words (take (i + 1) ws))
+pub counted-more : (ws : List (List ℕ)) (i : ℕ) (w : List ℕ) (old new : List (List ℕ × ℕ)) → slice_get ws i ≡ Some w →
+    old ≡ vocabulary (terms_of_words (take i ws)) → new ≡ counted_term w old → new ≡ vocabulary (terms_of_words (take (i + 1) ws))
 counted-more ws i w old new there e f = f ∙ ap (counted_term w) e ∙ sym (counted-push (take i ws) w) ∙ ap (λ xs. vocabulary (terms_of_words xs)) (sym (take-there ws i w there))
 
 few-terms : (ws : List (List ℕ)) (i : ℕ) → length (terms_of_words (take i ws)) ≤ i
@@ -52,7 +53,8 @@ few-counted ws i es e =
     let some = length-total (vocabulary ts) (recursion_from_All (λ (x : List ℕ × ℕ). 1 ≤ x.1) (vocabulary ts) (counts-positive ts)) in
     (omega (arith, ap total e, all, few-terms ws i), omega (arith, ap length e, some, all, few-terms ws i))
 
-pub sorted-all : (ws : List (List ℕ)) (n : ℕ) (old new : List (List ℕ × ℕ)) → old ≡ vocabulary (terms_of_words (take n ws)) → length ws ≤ n → pieces_of new ≡ sorted_of old → pieces_of new ≡ sorted_distinct (terms_of_words ws)
+pub sorted-all : (ws : List (List ℕ)) (n : ℕ) (old new : List (List ℕ × ℕ)) → old ≡ vocabulary (terms_of_words (take n ws)) → length ws ≤ n →
+    pieces_of new ≡ sorted_of old → pieces_of new ≡ sorted_distinct (terms_of_words ws)
 sorted-all ws n old new e all s = s ∙ ap sorted_of (e ∙ ap (λ xs. vocabulary (terms_of_words xs)) (take-all ws n all)) ∙ sorted-of_vocabulary (terms_of_words ws)
 
 -- ---- numbers
@@ -61,7 +63,9 @@ has-term : (ws : List (List ℕ)) (i b : ℕ) (bytes : List ℕ) → slice_get w
 has-term [] i b bytes h = absurd cc
 has-term (w ∷ ws) zero b bytes h =
     let same : w ≡ b ∷ bytes = cc in
-    subst (λ v. list_any (bytes_eq (folded (b ∷ bytes))) (terms_of_words (v ∷ ws)) ≡ true) (sym same) (or_left (bytes_eq (folded (b ∷ bytes)) (folded (b ∷ bytes))) (list_any (bytes_eq (folded (b ∷ bytes))) (terms_of_words ws)) (same-refl (folded (b ∷ bytes))))
+    subst (λ v. list_any (bytes_eq (folded (b ∷ bytes))) (terms_of_words (v ∷ ws)) ≡ true) (sym same)
+    (or_left (bytes_eq (folded (b ∷ bytes)) (folded (b ∷ bytes))) (list_any (bytes_eq (folded (b ∷ bytes))) (terms_of_words ws))
+    (same-refl (folded (b ∷ bytes))))
 has-term ([] ∷ ws) (suc i) b bytes h = has-term ws i b bytes h
 has-term ((x ∷ xs) ∷ ws) (suc i) b bytes h = or_right (bytes_eq (folded (b ∷ bytes)) (folded (x ∷ xs))) (list_any (bytes_eq (folded (b ∷ bytes))) (terms_of_words ws)) (has-term ws i b bytes h)
 
@@ -76,14 +80,18 @@ place-is ws i (b ∷ bytes) there =
     let found = (number-found sorted (folded (b ∷ bytes)) (has-sorted (terms_of_words ws) (folded (b ∷ bytes)) ∙ has-term ws i b bytes there)).0 in
     ap (λ t. cond t (Some (number_of sorted (folded (b ∷ bytes)))) None) (under (number_of sorted (folded (b ∷ bytes))) (length sorted) found)
 
-pub numbers-more : (ws terms : List (List ℕ)) (i : ℕ) (w : List ℕ) (number : Option ℕ) (old new : List (Option ℕ)) → terms ≡ sorted_distinct (terms_of_words ws) → slice_get ws i ≡ Some w → number ≡ place_in terms w → old ≡ take i (map (term_in (sorted_distinct (terms_of_words ws))) ws) → new ≡ old ++ number ∷ [] → new ≡ take (i + 1) (map (term_in (sorted_distinct (terms_of_words ws))) ws)
+pub numbers-more : (ws terms : List (List ℕ)) (i : ℕ) (w : List ℕ) (number : Option ℕ) (old new : List (Option ℕ)) →
+    terms ≡ sorted_distinct (terms_of_words ws) → slice_get ws i ≡ Some w → number ≡ place_in terms w →
+    old ≡ take i (map (term_in (sorted_distinct (terms_of_words ws))) ws) → new ≡ old ++ number ∷ [] →
+    new ≡ take (i + 1) (map (term_in (sorted_distinct (terms_of_words ws))) ws)
 numbers-more ws terms i w number old new s there n e f =
     let term = term_in (sorted_distinct (terms_of_words ws)) in
     let is : number ≡ term_in (sorted_distinct (terms_of_words ws)) w = n ∙ ap (λ t. place_in t w) s ∙ place-is ws i w there in
     let at = slice_get-map term ws i ∙ ap (option_map term) there in
     f ∙ ap (λ t. t ++ number ∷ []) e ∙ ap (λ x. take i (map term ws) ++ x ∷ []) is ∙ sym (take-there (map term ws) i (term w) at)
 
-pub numbers-all : (ws : List (List ℕ)) (n : ℕ) (numbers : List (Option ℕ)) → numbers ≡ take n (map (term_in (sorted_distinct (terms_of_words ws))) ws) → length ws ≤ n → numbers ≡ map (term_in (sorted_distinct (terms_of_words ws))) ws
+pub numbers-all : (ws : List (List ℕ)) (n : ℕ) (numbers : List (Option ℕ)) → numbers ≡ take n (map (term_in (sorted_distinct (terms_of_words ws))) ws) →
+    length ws ≤ n → numbers ≡ map (term_in (sorted_distinct (terms_of_words ws))) ws
 numbers-all ws n numbers e all = e ∙ take-all (map (term_in (sorted_distinct (terms_of_words ws))) ws) n (omega (arith, length-map ws (term_in (sorted_distinct (terms_of_words ws))), all))
 
 -- ---- the term of a word

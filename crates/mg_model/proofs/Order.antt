@@ -46,7 +46,9 @@ count-sum p (e ∷ es) h =
           ap (λ b. cond b e.1 (entry_count es p)) is ∙ sym (sum ∙ ap (λ n. n + sum_by (λ (x : List ℕ × ℕ). cond (bytes_eq p x.0) x.1 0) es) here ∙ ap (λ n. e.1 + n) none ∙ add-zero e.1)
       | inr isnt ↦
           let here : cond (bytes_eq p e.0) e.1 0 ≡ 0 = ap (λ b. cond b e.1 0) isnt in
-          ap (λ b. cond b e.1 (entry_count es p)) isnt ∙ count-sum p es h.1 ∙ sym (sum ∙ ap (λ n. n + sum_by (λ (x : List ℕ × ℕ). cond (bytes_eq p x.0) x.1 0) es) here ∙ zero-add (sum_by (λ (x : List ℕ × ℕ). cond (bytes_eq p x.0) x.1 0) es))
+          ap (λ b. cond b e.1 (entry_count es p)) isnt ∙ count-sum p es h.1
+          ∙ sym (sum ∙ ap (λ n. n + sum_by (λ (x : List ℕ × ℕ). cond (bytes_eq p x.0) x.1 0) es) here
+          ∙ zero-add (sum_by (λ (x : List ℕ × ℕ). cond (bytes_eq p x.0) x.1 0) es))
     ]
   where
     same-apart : (p q : List ℕ) (ps : List (List ℕ)) → bytes_eq p q ≡ true → AllByRecursion (λ r. bytes_eq q r ≡ false) ps → AllByRecursion (λ r. bytes_eq p r ≡ false) ps
@@ -87,8 +89,10 @@ module _ (es fs : List (List ℕ × ℕ)) (moved : IsPermutation es fs) where
 
   pub sorted-counts : IsDistinct bytes_eq (pieces_of fs) → IsStrictlySortedBy (slice_cmp nat_cmp) (pieces_of fs) → entry_counts fs ≡ counts_of es
   sorted-counts distinct rising =
-      let before : IsDistinct bytes_eq (pieces_of es) = IsDistinct-IsPermutation bytes_eq same-sym (pieces_of fs) (pieces_of es) (IsPermutation-sym (pieces_of es) (pieces_of fs) keys-moved) distinct in
-      let agree : (p : List ℕ) → entry_count fs p ≡ entry_count es p = λ p. count-sum p fs distinct ∙ sum_by-IsPermutation (λ (e : List ℕ × ℕ). cond (bytes_eq p e.0) e.1 0) es fs moved ∙ sym (count-sum p es before) in
+      let before : IsDistinct bytes_eq (pieces_of es) = IsDistinct-IsPermutation bytes_eq same-sym (pieces_of fs) (pieces_of es)
+      (IsPermutation-sym (pieces_of es) (pieces_of fs) keys-moved) distinct in
+      let agree : (p : List ℕ) → entry_count fs p ≡ entry_count es p = λ p. count-sum p fs distinct
+      ∙ sum_by-IsPermutation (λ (e : List ℕ × ℕ). cond (bytes_eq p e.0) e.1 0) es fs moved ∙ sym (count-sum p es before) in
       own-counts fs distinct ∙ counts-agree (entry_count fs) (entry_count es) (pieces_of fs) agree ∙ ap (map (entry_count es)) (sorted-pieces rising)
 
   pub still-sorted : IsVocabulary es → IsVocabulary fs
@@ -97,7 +101,8 @@ module _ (es fs : List (List ℕ × ℕ)) (moved : IsPermutation es fs) where
     few = omega (arith, length_permutation es fs moved, is.few);
     total = omega (arith, sum_by-IsPermutation (λ (e : List ℕ × ℕ). e.1) es fs moved, is.total);
     counted = recursion_from_All (λ (e : List ℕ × ℕ). 1 ≤ e.1) fs (All-permutation (λ (e : List ℕ × ℕ). 1 ≤ e.1) es fs moved (All-from_recursion (λ (e : List ℕ × ℕ). 1 ≤ e.1) es is.counted));
-    short = recursion_from_All (λ (e : List ℕ × ℕ). length e.0 ≤ 255) fs (All-permutation (λ (e : List ℕ × ℕ). length e.0 ≤ 255) es fs moved (All-from_recursion (λ (e : List ℕ × ℕ). length e.0 ≤ 255) es is.short));
+    short = recursion_from_All (λ (e : List ℕ × ℕ). length e.0 ≤ 255) fs
+        (All-permutation (λ (e : List ℕ × ℕ). length e.0 ≤ 255) es fs moved (All-from_recursion (λ (e : List ℕ × ℕ). length e.0 ≤ 255) es is.short));
   }
 
 -- ---- pieces that are not above the next, and differ
@@ -127,4 +132,5 @@ distinct-rising (p ∷ ps) h = (heads ps h.0, distinct-rising ps h.1)
 pub sorted-long : (es : List (List ℕ × ℕ)) → IsDistinct bytes_eq (pieces_of es) → length (sorted_of es) ≡ length es
 sorted-long es distinct =
     let sorted = sorted_distinct (pieces_of es) in
-    sym (length-from_same_keys nat_list_eq_equiv (pieces_of es) sorted distinct (distinct-rising sorted (sorted-rising (pieces_of es))) (λ s. sym (has-sorted (pieces_of es) s))) ∙ length-map es (λ (e : List ℕ × ℕ). e.0)
+    sym (length-from_same_keys nat_list_eq_equiv (pieces_of es) sorted distinct (distinct-rising sorted (sorted-rising (pieces_of es)))
+    (λ s. sym (has-sorted (pieces_of es) s))) ∙ length-map es (λ (e : List ℕ × ℕ). e.0)

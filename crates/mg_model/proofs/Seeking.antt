@@ -54,7 +54,8 @@ between-all xs s n e = record { below = λ k h. absurd (omega arith); above = λ
 split : (m k : ℕ) → m ≤ k → (m ≡ k) ⊎ (m < k)
 split m k h = grind (arith, nat_tests)
 
-pub between-lower : (xs : List (List ℕ)) (s x : List ℕ) (low high middle : ℕ) → IsStrictlySortedBy (slice_cmp nat_cmp) xs → Between xs s low high → slice_get xs middle ≡ Some x → order s x ≡ Less → Between xs s low middle
+pub between-lower : (xs : List (List ℕ)) (s x : List ℕ) (low high middle : ℕ) → IsStrictlySortedBy (slice_cmp nat_cmp) xs → Between xs s low high →
+    slice_get xs middle ≡ Some x → order s x ≡ Less → Between xs s low middle
 between-lower xs s x low high middle rising b there less = record {
   below = b.below;
   above = λ k h l.
@@ -65,7 +66,8 @@ between-lower xs s x low high middle rising b there less = record {
       ];
 }
 
-pub between-higher : (xs : List (List ℕ)) (s x : List ℕ) (low high middle next : ℕ) → next ≡ middle + 1 → IsStrictlySortedBy (slice_cmp nat_cmp) xs → Between xs s low high → middle < length xs → slice_get xs middle ≡ Some x → order s x ≡ Greater → Between xs s next high
+pub between-higher : (xs : List (List ℕ)) (s x : List ℕ) (low high middle next : ℕ) → next ≡ middle + 1 → IsStrictlySortedBy (slice_cmp nat_cmp) xs →
+    Between xs s low high → middle < length xs → slice_get xs middle ≡ Some x → order s x ≡ Greater → Between xs s next high
 between-higher xs s x low high middle next e rising b within there more = record {
   below = λ k h.
       let here : order (get_or xs middle []) s ≡ Less = ap (λ y. order y s) (there-or xs middle x [] there) ∙ back s x more in
@@ -82,7 +84,8 @@ under m n h = grind (arith, nat_tests)
 itself : (n : ℕ) → ltb n n ≡ false
 itself n = grind (arith, nat_tests)
 
-pub found-at : (xs : List (List ℕ)) (s x : List ℕ) (middle : ℕ) → IsStrictlySortedBy (slice_cmp nat_cmp) xs → middle < length xs → slice_get xs middle ≡ Some x → order s x ≡ Equal → Some middle ≡ position (bytes_eq s) xs
+pub found-at : (xs : List (List ℕ)) (s x : List ℕ) (middle : ℕ) → IsStrictlySortedBy (slice_cmp nat_cmp) xs → middle < length xs →
+    slice_get xs middle ≡ Some x → order s x ≡ Equal → Some middle ≡ position (bytes_eq s) xs
 found-at xs s x middle rising within there equal =
     let same : s ≡ x = exact_bytes s x equal in
     let here : get_or xs middle [] ≡ s = there-or xs middle x [] there ∙ sym same in
@@ -128,14 +131,16 @@ rise-more xs i x y before one h g below = record { next = λ k within. by k (spl
     by k (inr early) = before.next k (omega arith)
     by k (inl last) =
         let n : k + 1 ≡ i = omega arith in
-        ap (λ m. order (get_or xs m []) (get_or xs (k + 1) [])) last ∙ ap (λ m. order (get_or xs (i - 1) []) (get_or xs m [])) n ∙ ap (λ z. order z (get_or xs i [])) (there-or xs (i - 1) x [] h) ∙ ap (order x) (there-or xs i y [] g) ∙ less-of (order x y) below
+        ap (λ m. order (get_or xs m []) (get_or xs (k + 1) [])) last ∙ ap (λ m. order (get_or xs (i - 1) []) (get_or xs m [])) n
+        ∙ ap (λ z. order z (get_or xs i [])) (there-or xs (i - 1) x [] h) ∙ ap (order x) (there-or xs i y [] g) ∙ less-of (order x y) below
 
 pub rise-from : (ys : List (List ℕ)) → ((k : ℕ) → k + 1 < length ys → order (get_or ys k []) (get_or ys (k + 1) []) ≡ Less) → IsStrictlySortedBy (slice_cmp nat_cmp) ys
 unfolding IsStrictlySortedBy
 rise-from [] up = tt
 rise-from (y ∷ []) up = (tt, tt)
 rise-from (y ∷ z ∷ ys) up =
-    let rest = rise-from (z ∷ ys) (λ k within. let n : suc k + 1 ≡ suc (k + 1) = omega arith in subst (λ m. order (get_or (z ∷ ys) k []) (get_or (y ∷ z ∷ ys) m []) ≡ Less) n (up (suc k) (omega (arith, within)))) in
+    let rest = rise-from (z ∷ ys) (λ k within. let n : suc k + 1 ≡ suc (k + 1) = omega arith in
+    subst (λ m. order (get_or (z ∷ ys) k []) (get_or (y ∷ z ∷ ys) m []) ≡ Less) n (up (suc k) (omega (arith, within)))) in
     let next : order y z ≡ Less = up 0 (omega arith) in
     ((next, all-above y z ys next rest.0), rest)
 
@@ -143,9 +148,11 @@ pub rise-all : (xs : List (List ℕ)) (n : ℕ) → RiseTo xs n → length xs �
 rise-all xs n h l = rise-from xs (λ k within. h.next k (omega arith))
 
 -- where a string is not below the next one, the strings do not rise
-pub rise-not : (xs : List (List ℕ)) (i : ℕ) (x y : List ℕ) → 1 ≤ i → i < length xs → slice_get xs (i - 1) ≡ Some x → slice_get xs i ≡ Some y → is_lt (order x y) ≡ false → IsStrictlySortedBy (slice_cmp nat_cmp) xs → ⊥
+pub rise-not : (xs : List (List ℕ)) (i : ℕ) (x y : List ℕ) → 1 ≤ i → i < length xs → slice_get xs (i - 1) ≡ Some x → slice_get xs i ≡ Some y →
+    is_lt (order x y) ≡ false → IsStrictlySortedBy (slice_cmp nat_cmp) xs → ⊥
 rise-not xs i x y one within h g not rising =
-    let less : order x y ≡ Less = ap (λ z. order z y) (sym (there-or xs (i - 1) x [] h)) ∙ ap (order (get_or xs (i - 1) [])) (sym (there-or xs i y [] g)) ∙ rising-at xs (i - 1) i [] rising (omega arith) within in
+    let less : order x y ≡ Less = ap (λ z. order z y) (sym (there-or xs (i - 1) x [] h)) ∙ ap (order (get_or xs (i - 1) [])) (sym (there-or xs i y [] g))
+    ∙ rising-at xs (i - 1) i [] rising (omega arith) within in
     false_is_not_true (sym not ∙ ap is_lt less)
   where
     false_is_not_true : false ≡ true → ⊥

@@ -15,7 +15,8 @@ pub entries-moved : (es fs : List (Vec ℕ Global × ℕ)) → IsPermutation es 
 entries-moved es fs moved = IsPermutation-map (λ (e : Vec ℕ Global × ℕ). (e.0.items, e.1)) es fs moved
 
 -- keys in order that differ rise
-pub rising-entries : (es : List (Vec ℕ Global × ℕ)) → IsSorted (λ a b. slice_cmp nat_cmp a.items b.items) (keys_of es) → IsDistinct bytes_eq (pieces_of (entries_of es)) → IsStrictlySortedBy (slice_cmp nat_cmp) (pieces_of (entries_of es))
+pub rising-entries : (es : List (Vec ℕ Global × ℕ)) → IsSorted (λ a b. slice_cmp nat_cmp a.items b.items) (keys_of es) →
+    IsDistinct bytes_eq (pieces_of (entries_of es)) → IsStrictlySortedBy (slice_cmp nat_cmp) (pieces_of (entries_of es))
 unfolding IsDistinct IsStrictlySortedBy
 rising-entries [] sorted apart = tt
 rising-entries (e ∷ []) sorted apart = (tt, tt)
@@ -27,5 +28,6 @@ rising-entries (e ∷ f ∷ es) sorted apart =
     keys : List (Vec ℕ Global)
     keys = keys_of (e ∷ f ∷ es)
 
-    shifted : (k : ℕ) (d : Vec ℕ Global) → is_lt (order (get_or keys (suc k + 1) d).items (get_or keys (suc k) d).items) ≡ false → is_lt (order (get_or (keys_of (f ∷ es)) (k + 1) d).items (get_or (keys_of (f ∷ es)) k d).items) ≡ false
+    shifted : (k : ℕ) (d : Vec ℕ Global) → is_lt (order (get_or keys (suc k + 1) d).items (get_or keys (suc k) d).items) ≡ false →
+        is_lt (order (get_or (keys_of (f ∷ es)) (k + 1) d).items (get_or (keys_of (f ∷ es)) k d).items) ≡ false
     shifted k d h = let n : suc k + 1 ≡ suc (k + 1) = omega arith in subst (λ m. is_lt (order (get_or keys m d).items (get_or (keys_of (f ∷ es)) k d).items) ≡ false) n h

@@ -39,9 +39,15 @@ two-each i before [] h = omega arith
 two-each i before (e ∷ es) h = by (i % 4 == 0) (two-each (i + 1) e.string es h.1)
   where
     by : (b : Bool) → 2 * length es ≤ length (front_from (i + 1) e.string es) →
-        2 * suc (length es) ≤ length (cond b (length e.string ∷ (e.string ++ e.field)) (shared before e.string ∷ (length e.string - shared before e.string) ∷ (drop (shared before e.string) e.string ++ e.field)) ++ front_from (i + 1) e.string es)
+        2 * suc (length es) ≤ length (cond b (length e.string ∷ (e.string ++ e.field)) (shared before e.string ∷ (length e.string - shared before e.string) ∷
+        (drop (shared before e.string) e.string ++ e.field)) ++ front_from (i + 1) e.string es)
     by true more = omega (arith, more, length-append (length e.string ∷ (e.string ++ e.field)) (front_from (i + 1) e.string es), length-append e.string e.field, h.0.field)
-    by false more = omega (arith, more, length-append (shared before e.string ∷ (length e.string - shared before e.string) ∷ (drop (shared before e.string) e.string ++ e.field)) (front_from (i + 1) e.string es))
+    by false more = omega (
+      arith,
+      more,
+      length-append (shared before e.string ∷ (length e.string - shared before e.string) ∷
+          (drop (shared before e.string) e.string ++ e.field)) (front_from (i + 1) e.string es),
+    )
 
 pub room-of : (count : ℕ) (bytes : List ℕ) (it : StreamCode) → IsPart count bytes it → 2 * count ≤ length bytes
 room-of count bytes it is = omega (arith, two-each 0 [] (piece_entries it) is.front.entries, ap length is.front.bytes_are, entries-long it.pieces it.lengths is.each, is.count_is)
@@ -98,21 +104,27 @@ pub no-damage : (at : Part) (count : ℕ) (bytes : List ℕ) (it : StreamCode) (
 no-damage at count bytes it bad is good (inl d) = omega (arith, d.short, room-of count bytes it is)
 no-damage at count bytes it bad is good (inr (room, inl (inl d))) = not-broken count bytes it is at bad d
 no-damage at count bytes it bad is good (inr (room, inl (inr d))) = no-more count bytes it is at bad d
-no-damage at count bytes it bad is good (inr (room, inr (inl d))) = good-lengths it.lengths d.symbol d.bits good (subst (λ (x : StreamCode). IsFirstBad x.lengths d.symbol d.bits) (one-part count bytes d.code it d.is is) d.first)
-no-damage at count bytes it bad is good (inr (room, inr (inr d))) = good-sum it.lengths d.sum good (subst (λ (x : StreamCode). IsUnfilled x.lengths d.sum) (one-part count bytes d.code it d.is is) d.unfilled)
+no-damage at count bytes it bad is good (inr (room, inr (inl d))) = good-lengths it.lengths d.symbol d.bits good
+    (subst (λ (x : StreamCode). IsFirstBad x.lengths d.symbol d.bits) (one-part count bytes d.code it d.is is) d.first)
+no-damage at count bytes it bad is good (inr (room, inr (inr d))) = good-sum it.lengths d.sum good
+    (subst (λ (x : StreamCode). IsUnfilled x.lengths d.sum) (one-part count bytes d.code it d.is is) d.unfilled)
 
-pub standing : (words others : ℕ) (files : Option Files) (base : List ℕ) (it : TextCode) (r : Result TextCode PartErr) → PartsStand files base it words others → AnswersLoad words others (bytes_at files (full_name base part.Words)) (bytes_at files (full_name base part.Nonwords)) r → AnswersStanding r it
+pub standing : (words others : ℕ) (files : Option Files) (base : List ℕ) (it : TextCode) (r : Result TextCode PartErr) → PartsStand files base it words others →
+    AnswersLoad words others (bytes_at files (full_name base part.Words)) (bytes_at files (full_name base part.Nonwords)) r → AnswersStanding r it
 standing words others files base it (Ok found) stand h =
     let w = one-part words (bytes_at files (full_name base part.Words)) found.words it.words h.0.part (part-of words _ it.words stand.model.words stand.hold.words stand.word_count) in
     let o = one-part others (bytes_at files (full_name base part.Nonwords)) found.others it.others h.1.part (part-of others _ it.others stand.model.others stand.hold.others stand.other_count) in
     λ i. record { words = w i; others = o i }
 standing words others files base it (Err Device) stand h = tt
 standing words others files base it (Err Memory) stand h = tt
-standing words others files base it (Err (Bad bad)) stand (inl d) = no-damage part.Words words (bytes_at files (full_name base part.Words)) it.words bad (part-of words _ it.words stand.model.words stand.hold.words stand.word_count) stand.model.words.good d
-standing words others files base it (Err (Bad bad)) stand (inr (whole, d)) = no-damage part.Nonwords others (bytes_at files (full_name base part.Nonwords)) it.others bad (part-of others _ it.others stand.model.others stand.hold.others stand.other_count) stand.model.others.good d
+standing words others files base it (Err (Bad bad)) stand (inl d) = no-damage part.Words words (bytes_at files (full_name base part.Words)) it.words bad
+    (part-of words _ it.words stand.model.words stand.hold.words stand.word_count) stand.model.words.good d
+standing words others files base it (Err (Bad bad)) stand (inr (whole, d)) = no-damage part.Nonwords others (bytes_at files (full_name base part.Nonwords))
+    it.others bad (part-of others _ it.others stand.model.others stand.hold.others stand.other_count) stand.model.others.good d
 
 -- the damage of the second part, where the first has none
-pub second-damage : (words others : ℕ) (word_bytes other_bytes : List ℕ) (it : StreamCode) (refusal : PartErr) → IsWholePart words word_bytes it → AnswersStream part.Nonwords others other_bytes (Err refusal) → AnswersLoad words others word_bytes other_bytes (Err refusal)
+pub second-damage : (words others : ℕ) (word_bytes other_bytes : List ℕ) (it : StreamCode) (refusal : PartErr) → IsWholePart words word_bytes it →
+    AnswersStream part.Nonwords others other_bytes (Err refusal) → AnswersLoad words others word_bytes other_bytes (Err refusal)
 second-damage words others word_bytes other_bytes it Device first h = tt
 second-damage words others word_bytes other_bytes it Memory first h = first.room
 second-damage words others word_bytes other_bytes it (Bad bad) first h = inr ((it, first), h)

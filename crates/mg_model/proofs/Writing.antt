@@ -29,7 +29,8 @@ less-of Less h = refl
 less-of Equal h = absurd cc
 less-of Greater h = absurd cc
 
-pub entries-rise : (pieces : List (List ℕ)) (lengths : List ℕ) → length lengths ≡ length pieces → AreEntries 1 0 [] (piece_entries (code pieces lengths)) → IsStrictlySortedBy (slice_cmp nat_cmp) pieces
+pub entries-rise : (pieces : List (List ℕ)) (lengths : List ℕ) → length lengths ≡ length pieces → AreEntries 1 0 [] (piece_entries (code pieces lengths)) →
+    IsStrictlySortedBy (slice_cmp nat_cmp) pieces
 entries-rise pieces lengths e are = rise-from pieces (λ k within.
     less-of (order (get_or pieces k []) (get_or pieces (k + 1) []))
     (rising 1 0 [] (piece_entries (code pieces lengths)) k (k + 1) (entry (get_or pieces k []) (get_or lengths k 0)) (entry (get_or pieces (k + 1) []) (get_or lengths (k + 1) 0)) are (omega arith)
@@ -37,9 +38,11 @@ entries-rise pieces lengths e are = rise-from pieces (λ k within.
 
 -- ---- the next entry of a writer
 
-pub piece-entry : (pieces : List (List ℕ)) (lengths : List ℕ) (n : ℕ) (piece : List ℕ) (bits : ℕ) → length lengths ≡ length pieces → n < length lengths → slice_get pieces n ≡ Some piece → bits ≡ get_or lengths n bits → slice_get (piece_entries (code pieces lengths)) n ≡ Some (entry piece bits)
+pub piece-entry : (pieces : List (List ℕ)) (lengths : List ℕ) (n : ℕ) (piece : List ℕ) (bits : ℕ) → length lengths ≡ length pieces → n < length lengths →
+    slice_get pieces n ≡ Some piece → bits ≡ get_or lengths n bits → slice_get (piece_entries (code pieces lengths)) n ≡ Some (entry piece bits)
 piece-entry pieces lengths n piece bits e within there at =
-    entry-there pieces lengths n e (omega (arith, e)) ∙ ap (λ p. Some (entry p (get_or lengths n 0))) (there-or pieces n piece [] there) ∙ ap (λ b. Some (entry piece b)) (get_or_default lengths n 0 bits within ∙ sym at)
+    entry-there pieces lengths n e (omega (arith, e)) ∙ ap (λ p. Some (entry p (get_or lengths n 0))) (there-or pieces n piece [] there)
+    ∙ ap (λ b. Some (entry piece b)) (get_or_default lengths n 0 bits within ∙ sym at)
 
 pub entry-next : (es : List Entry) (n : ℕ) (e : Entry) → AreEntries 1 0 [] es → n < length es → slice_get es n ≡ Some e → IsEntry 1 (length (take n es)) (last_string [] (take n es)) e
 entry-next es n e are within there =
@@ -48,7 +51,8 @@ entry-next es n e are within there =
     let rest : AreEntries 1 (0 + length (take n es)) (last_string [] (take n es)) (s.0 ∷ s.1) = entries_rest 1 0 [] (take n es) (s.0 ∷ s.1) (subst (AreEntries 1 0 []) s.2 are) in
     subst (λ m. IsEntry 1 m (last_string [] (take n es)) e) (zero-add (length (take n es))) (subst (IsEntry 1 (0 + length (take n es)) (last_string [] (take n es))) same rest.0)
 
-pub entry-of-writer : (es : List Entry) (n width count : ℕ) (last : List ℕ) (e : Entry) → AreEntries 1 0 [] es → n < length es → slice_get es n ≡ Some e → width ≡ 1 → count ≡ length (take n es) → last ≡ last_string [] (take n es) → IsEntry width count last e
+pub entry-of-writer : (es : List Entry) (n width count : ℕ) (last : List ℕ) (e : Entry) → AreEntries 1 0 [] es → n < length es → slice_get es n ≡ Some e →
+    width ≡ 1 → count ≡ length (take n es) → last ≡ last_string [] (take n es) → IsEntry width count last e
 entry-of-writer es n width count last e are within there w c l =
     subst (λ x. IsEntry x count last e) (sym w) (subst (λ x. IsEntry 1 x last e) (sym c) (subst (λ x. IsEntry 1 (length (take n es)) x e) (sym l) (entry-next es n e are within there)))
 
@@ -61,7 +65,8 @@ is-other n strings (Some places) h apart = absurd cc
 pub part-rises : (count : ℕ) (bytes : List ℕ) (it : StreamCode) → IsPart count bytes it → IsStrictlySortedBy (slice_cmp nat_cmp) it.pieces
 part-rises count bytes it is = entries-rise it.pieces it.lengths is.each is.front.entries
 
-pub code-damage : (part : Part) (count : ℕ) (bytes : List ℕ) (refusal : PartErr) → 2 * count ≤ length bytes → AnswersCode {T = List ℕ} part count bytes (Err refusal) → AnswersStream part count bytes (Err refusal)
+pub code-damage : (part : Part) (count : ℕ) (bytes : List ℕ) (refusal : PartErr) → 2 * count ≤ length bytes →
+    AnswersCode {T = List ℕ} part count bytes (Err refusal) → AnswersStream part count bytes (Err refusal)
 code-damage part count bytes Device room h = tt
 code-damage part count bytes Memory room h = room
 code-damage part count bytes (Bad bad) room h = inr (room, inr h)

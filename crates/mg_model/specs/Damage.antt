@@ -80,7 +80,8 @@ IsLengthDamage part count bytes bad = HasBadLength part count bytes bad ⊎ IsUn
 
 -- the first damage of a part, by three tests: its size, its entries, the lengths
 abbrev pub IsDamage : Part → ℕ → List ℕ → declared.Bad → Type 0
-IsDamage part count bytes bad = IsTooShort part count bytes bad ⊎ ((2 * count ≤ length bytes) × (IsWalkDamage part count bytes bad ⊎ IsLengthDamage part count bytes bad))
+IsDamage part count bytes bad = IsTooShort part count bytes bad
+    ⊎ ((2 * count ≤ length bytes) × (IsWalkDamage part count bytes bad ⊎ IsLengthDamage part count bytes bad))
 
 -- what comparing the size answers
 abbrev pub AnswersRoom : {T : Type 0} → Part → ℕ → List ℕ → Result T PartErr → Type 0
@@ -102,10 +103,12 @@ IsWhole count bytes = (code : StreamCode) × IsWholePart count bytes code
 
 -- what loading a model answers: each of the three tests of Words comes before any of Nonwords; memory is wanted only where Words has room for its entries
 abbrev pub AnswersLoad : ℕ → ℕ → List ℕ → List ℕ → Result TextCode PartErr → Type 0
-AnswersLoad words others word_bytes other_bytes (Ok code) = IsWholePart words word_bytes code.words × IsWholePart others other_bytes code.others
+AnswersLoad words others word_bytes other_bytes (Ok code) = IsWholePart words word_bytes code.words
+    × IsWholePart others other_bytes code.others
 AnswersLoad words others word_bytes other_bytes (Err Device) = Unit {0}
 AnswersLoad words others word_bytes other_bytes (Err Memory) = 2 * words ≤ length word_bytes
-AnswersLoad words others word_bytes other_bytes (Err (Bad bad)) = IsDamage part.Words words word_bytes bad ⊎ (IsWhole words word_bytes × IsDamage part.Nonwords others other_bytes bad)
+AnswersLoad words others word_bytes other_bytes (Err (Bad bad)) = IsDamage part.Words words word_bytes bad
+    ⊎ (IsWhole words word_bytes × IsDamage part.Nonwords others other_bytes bad)
 
 -- what loading a model answers where the parts stand: that model, and never that a part is bad
 abbrev pub AnswersStanding : Result TextCode PartErr → TextCode → Type 0

@@ -36,7 +36,8 @@ abbrev pub ReadOnce : {T : Type 0} → Part → ℕ → List ℕ → Reads → R
 ReadOnce part count bytes before now (Ok value) = ReadWithin part bytes 0 before now
 ReadOnce part count bytes before now (Err Device) = ReadWithin part bytes 1 before now
 ReadOnce part count bytes before now (Err Memory) = ReadWithin part bytes 0 before now
-ReadOnce part count bytes before now (Err (Bad bad)) = ReadWithin part bytes 0 before now ⊎ (IsWalkDamage part count bytes bad × ReadWithin part bytes 1 before now)
+ReadOnce part count bytes before now (Err (Bad bad)) = ReadWithin part bytes 0 before now
+    ⊎ (IsWalkDamage part count bytes bad × ReadWithin part bytes 1 before now)
 
 -- a part with fewer bytes than so many entries take was not read
 abbrev pub UnreadIfShort : Part → ℕ → List ℕ → Reads → Reads → Type 0

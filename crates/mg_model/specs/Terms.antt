@@ -20,7 +20,10 @@ pub record HasTerm (terms : List (List ℕ)) (word : List ℕ) : Type 0 where
 
 -- the terms of these words, and the number of each word's term
 abbrev pub terms_and_numbers : List (List ℕ) → TermNumbers
-terms_and_numbers words = record { terms = sorted_distinct (terms_of_words words); numbers = map (term_in (sorted_distinct (terms_of_words words))) words }
+terms_and_numbers words = record {
+  terms = sorted_distinct (terms_of_words words);
+  numbers = map (term_in (sorted_distinct (terms_of_words words))) words;
+}
 
 -- this piece stands at this place
 abbrev pub IsPieceAt : List (List ℕ) → ℕ → List ℕ → Type 0

@@ -169,7 +169,8 @@ impl PieceBlock {
     #[inline]
     pub fn short_piece(&self, place: u32) -> Option<&[u8; 16]>
         requires { place < length self.now }
-        ensures piece { IfSome result (λ entry. slice_get self.now place ≡ Some (short_piece entry.now)) }
+        ensures piece { IfSome result (λ entry. slice_get self.now place
+            ≡ Some (short_piece entry.now)) }
         ensures length { IfSome result (λ entry. slice_index entry.now 0 ≤ 15) }
     {
         let entry = entry_at(&self.entries, place as usize);

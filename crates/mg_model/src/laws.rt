@@ -13,34 +13,44 @@ ghost use Rattle.mg_model.specs.Vocabularies.{IsVocabulary};
 
 /// The piece of a symbol has that symbol, and the symbol of a piece has that piece.
 pub fn symbol_and_piece()
-    ensures symbol { (it : StreamCode) (symbol : ℕ) (piece : List ℕ) → IsStreamCode it → IsPieceAt it.pieces symbol piece → HasSymbol it.pieces piece symbol }
-    ensures piece { (it : StreamCode) (symbol : ℕ) (piece : List ℕ) → HasSymbol it.pieces piece symbol → IsPieceAt it.pieces symbol piece }
-    ensures number { (it : StreamCode) (symbol : ℕ) (piece : List ℕ) → HasSymbol it.pieces piece symbol → number_of it.pieces piece ≡ symbol }
+    ensures symbol { (it : StreamCode) (symbol : ℕ) (piece : List ℕ) → IsStreamCode it →
+        IsPieceAt it.pieces symbol piece → HasSymbol it.pieces piece symbol }
+    ensures piece { (it : StreamCode) (symbol : ℕ) (piece : List ℕ) →
+        HasSymbol it.pieces piece symbol → IsPieceAt it.pieces symbol piece }
+    ensures number { (it : StreamCode) (symbol : ℕ) (piece : List ℕ) →
+        HasSymbol it.pieces piece symbol → number_of it.pieces piece ≡ symbol }
 {}
 
 /// The code of a collection's stream is that of a model where it has at most 2^22 pieces.
 pub fn collections_have_models()
-    ensures { (kind : Stream) (collection : List ℕ) (it : StreamCode) → IsCodeOf kind collection it → length it.pieces ≤ 2 ^ 22 →
+    ensures { (kind : Stream) (collection : List ℕ) (it : StreamCode) →
+        IsCodeOf kind collection it → length it.pieces ≤ 2 ^ 22 →
         IsStreamCode it }
 {}
 
 /// Sorting the pieces of a vocabulary takes none of them away.
 pub fn vocabularies_sort()
-    ensures { (entries : List (List ℕ × ℕ)) → IsVocabulary entries → length (sorted_of entries) ≡ length entries }
+    ensures { (entries : List (List ℕ × ℕ)) → IsVocabulary entries →
+        length (sorted_of entries) ≡ length entries }
 {}
 
 /// The terms of a collection's words are its dictionary; only the empty word has no term.
 pub fn terms_are_the_dictionary()
-    ensures terms { (collection : List ℕ) → (terms_and_numbers (sorted_pieces Words collection)).terms ≡ dictionary collection }
-    ensures none { (terms : List (List ℕ)) (word : List ℕ) → (term_in terms word ≡ None) ↔ (word ≡ []) }
+    ensures terms { (collection : List ℕ) →
+        (terms_and_numbers (sorted_pieces Words collection)).terms ≡ dictionary collection }
+    ensures none { (terms : List (List ℕ)) (word : List ℕ) →
+        (term_in terms word ≡ None) ↔ (word ≡ []) }
 {}
 
 /// A word that is not empty has a term among the terms of words that it is one of: the number of its
 /// term is below their count, and the term of that number is the word, folded. Each word's number
 /// stands at its symbol.
 pub fn words_have_terms()
-    ensures word { (words : List (List ℕ)) (word : List ℕ) → Contains words word → word ≢ [] → HasTerm (sorted_distinct (terms_of_words words)) word }
-    ensures symbol { (words : List (List ℕ)) (symbol : ℕ) (word : List ℕ) → IsPieceAt words symbol word → word ≢ [] →
+    ensures word { (words : List (List ℕ)) (word : List ℕ) → Contains words word → word ≢ [] →
+        HasTerm (sorted_distinct (terms_of_words words)) word }
+    ensures symbol { (words : List (List ℕ)) (symbol : ℕ) (word : List ℕ) →
+        IsPieceAt words symbol word → word ≢ [] →
         HasTerm (terms_and_numbers words).terms word }
-    ensures number { (words : List (List ℕ)) (symbol : ℕ) (word : List ℕ) → IsPieceAt words symbol word → HasNumberAt (terms_and_numbers words) symbol word }
+    ensures number { (words : List (List ℕ)) (symbol : ℕ) (word : List ℕ) →
+        IsPieceAt words symbol word → HasNumberAt (terms_and_numbers words) symbol word }
 {}

@@ -46,7 +46,8 @@ impl Pieces {
     #[inline]
     pub fn short_piece(&self, symbol: u32) -> Option<&[u8; 16]>
         requires { symbol < length (pieces_in self.now) }
-        ensures piece { IfSome result (λ entry. slice_get (pieces_in self.now) symbol ≡ Some (short_piece entry.now)) }
+        ensures piece { IfSome result (λ entry. slice_get (pieces_in self.now) symbol
+            ≡ Some (short_piece entry.now)) }
         ensures length { IfSome result (λ entry. slice_index entry.now 0 ≤ 15) }
     {
         match self {

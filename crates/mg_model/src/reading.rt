@@ -85,7 +85,8 @@ impl ReadPieces {
     fn push(&mut self, entry: &FrontEntry) -> Result<(), AllocError>
         requires each { length self.old.lengths.items ≡ length self.old.pieces }
         requires few { length self.old.pieces < 2 ^ 22 }
-        ensures entries { OnOk result (piece_entries (code_read self.new) ≡ piece_entries (code_read self.old) ++ entry_of 1 entry.now ∷ []) }
+        ensures entries { OnOk result (piece_entries (code_read self.new)
+            ≡ piece_entries (code_read self.old) ++ entry_of 1 entry.now ∷ []) }
         ensures each { OnOk result (length self.new.lengths.items ≡ length self.new.pieces) }
         ensures count { OnOk result (length self.new.pieces ≡ length self.old.pieces + 1) }
     {
@@ -126,7 +127,8 @@ pub fn read_pieces<S: Store>(
         AnswersEntries file.entry.part count (file_bytes file.entry (S.files store.old)) result }
     ensures each { IfOk result (λ read. length read.lengths.items ≡ length read.pieces) }
     ensures looked { Between S.files S.reads S.faults store.old store.new (Looked file.entry.part) }
-    ensures once { Between S.files S.reads S.faults store.old store.new (ReadsOnce file.entry.base.now file.entry.part count result) }
+    ensures once { Between S.files S.reads S.faults store.old store.new
+        (ReadsOnce file.entry.base.now file.entry.part count result) }
     ensures cause { HasPartCause (S.faults store.old) (S.faults store.new) result }
 {
     let mut read = room_for(alloc, count)?;
@@ -199,7 +201,8 @@ fn entry_end(pieces: &PieceBlock, symbol: u32) -> u64
 pub fn checked_code(alloc: Global, part: Part, read: &ReadPieces) -> Result<Canon, PartErr>
     requires each { length read.now.lengths.items ≡ length read.now.pieces }
     requires few { length read.now.pieces ≤ 2 ^ 22 }
-    ensures answer { (count : ℕ) (bytes : List ℕ) → IsPart count bytes (code_read read.now) → AnswersCode part count bytes result }
+    ensures answer { (count : ℕ) (bytes : List ℕ) → IsPart count bytes (code_read read.now) →
+        AnswersCode part count bytes result }
     ensures lengths { IfOk result (λ canon. canon ≡ read.now.lengths.items) }
     ensures good { IfOk result (λ canon. AreGood read.now.lengths.items) }
     ensures device { result ≢ Err PartErr.Device }

@@ -86,7 +86,8 @@ impl StreamModel {
     ) -> Result<(), PutErr>
         ensures bytes { OnOk result (IsSome (S.files store.old) →
             file_bytes file.entry (S.files store.new) ≡ pieces_part self.now) }
-        ensures wrote { WroteTo (full_name file.entry.base.now file.entry.part) (S.files store.old) (S.files store.new)
+        ensures wrote { WroteTo (full_name file.entry.base.now file.entry.part) (S.files store.old)
+            (S.files store.new)
             (S.reads store.old) (S.reads store.new) }
         ensures cause { HasPutCause (S.faults store.old) (S.faults store.new) result }
     {
@@ -111,9 +112,12 @@ impl StreamModel {
         requires { count ≤ 2 ^ 22 }
         ensures answer { IsSome (S.files store.old) →
             AnswersStream file.entry.part count (file_bytes file.entry (S.files store.old)) result }
-        ensures looked { Between S.files S.reads S.faults store.old store.new (Looked file.entry.part) }
-        ensures once { Between S.files S.reads S.faults store.old store.new (ReadsOnce file.entry.base.now file.entry.part count result) }
-        ensures unread { Between S.files S.reads S.faults store.old store.new (SkipsIfShort file.entry.base.now file.entry.part count) }
+        ensures looked { Between S.files S.reads S.faults store.old store.new
+            (Looked file.entry.part) }
+        ensures once { Between S.files S.reads S.faults store.old store.new
+            (ReadsOnce file.entry.base.now file.entry.part count result) }
+        ensures unread { Between S.files S.reads S.faults store.old store.new
+            (SkipsIfShort file.entry.base.now file.entry.part count) }
         ensures cause { HasPartCause (S.faults store.old) (S.faults store.new) result }
     {
         match expect_room(store, &file, count) {
@@ -165,7 +169,8 @@ impl StreamModel {
     #[inline]
     pub fn short_piece(&self, symbol: u32) -> Option<&[u8; 16]>
         requires { symbol < length self.now.pieces }
-        ensures piece { IfSome result (λ entry. slice_get self.now.pieces symbol ≡ Some (short_piece entry.now)) }
+        ensures piece { IfSome result (λ entry. slice_get self.now.pieces symbol
+            ≡ Some (short_piece entry.now)) }
         ensures length { IfSome result (λ entry. slice_index entry.now 0 ≤ 15) }
     {
         self.pieces.short_piece(symbol)

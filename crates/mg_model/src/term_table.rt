@@ -125,7 +125,8 @@ impl TermTable {
 
 /// The terms of a model's words, in the order of their bytes.
 fn sorted_terms(alloc: Global, model: &TextModel) -> Result<Vocab, AllocError>
-    ensures { IfOk result (λ terms. pieces_of terms ≡ (terms_and_numbers model.now.words.pieces).terms) }
+    ensures { IfOk result (λ terms. pieces_of terms
+        ≡ (terms_and_numbers model.now.words.pieces).terms) }
 {
     let words = model.canon(Stream::Words).count();
     let mut terms = Vocab::new(alloc);
@@ -143,7 +144,8 @@ fn term_numbers(
     terms: &Vocab,
 ) -> Result<Vec<Option<u32>>, AllocError>
     requires { pieces_of terms.now ≡ (terms_and_numbers model.now.words.pieces).terms }
-    ensures { IfOk result (λ numbers. numbers.items ≡ (terms_and_numbers model.now.words.pieces).numbers) }
+    ensures { IfOk result (λ numbers.
+        numbers.items ≡ (terms_and_numbers model.now.words.pieces).numbers) }
 {
     let words = model.canon(Stream::Words).count();
     let mut numbers = Vec::with_capacity(alloc, words as usize)?;

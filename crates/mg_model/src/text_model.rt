@@ -49,8 +49,10 @@ impl TextModel {
     pub fn of(alloc: Global, words: Vocab, others: Vocab) -> Result<Self, AllocError>
         ensures words { IfOk result (λ model. model.words.pieces ≡ sorted_of words) }
         ensures others { IfOk result (λ model. model.others.pieces ≡ sorted_of others) }
-        ensures word_lengths { IfOk result (λ model. IsHuffman (counts_of words) model.words.lengths) }
-        ensures other_lengths { IfOk result (λ model. IsHuffman (counts_of others) model.others.lengths) }
+        ensures word_lengths { IfOk result
+            (λ model. IsHuffman (counts_of words) model.words.lengths) }
+        ensures other_lengths { IfOk result
+            (λ model. IsHuffman (counts_of others) model.others.lengths) }
     {
         let words = StreamModel::of(alloc, words)?;
         let others = StreamModel::of(alloc, others)?;
@@ -59,7 +61,8 @@ impl TextModel {
 
     /// Writes the parts Words and Nonwords (docs/FORMAT.md).
     pub fn write<S: Store>(&self, alloc: Global, store: &mut S, base: &str) -> Result<(), PutErr>
-        ensures hold { OnOk result (IsSome (S.files store.old) → PartsHold (S.files store.new) base.now self.now) }
+        ensures hold { OnOk result (IsSome (S.files store.old) →
+            PartsHold (S.files store.new) base.now self.now) }
         ensures others { OnlyModelChanges base.now (S.files store.old) (S.files store.new) }
         ensures told { is_some (S.files store.new) ≡ is_some (S.files store.old) }
         ensures reads { SameReads (S.reads store.old) (S.reads store.new) }
@@ -95,15 +98,25 @@ impl TextModel {
     ) -> Result<Self, PartErr>
         requires words { words ≤ 2 ^ 22 }
         requires others { others ≤ 2 ^ 22 }
-        ensures answer { IsSome (S.files store.old) → AnswersModel base.now words others (S.files store.old) result }
-        ensures standing { (code : TextCode) → PartsStand (S.files store.old) base.now code words others → AnswersStanding result code }
-        ensures looked { Between S.files S.reads S.faults store.old store.new (LookedAt Part.Words Part.Nonwords) }
-        ensures words_once { Between S.files S.reads S.faults store.old store.new (ReadsOnce base.now Part.Words words result) }
-        ensures others_once { Between S.files S.reads S.faults store.old store.new (ReadsOnce base.now Part.Nonwords others result) }
-        ensures words_unread { Between S.files S.reads S.faults store.old store.new (SkipsIfShort base.now Part.Words words) }
-        ensures others_unread { Between S.files S.reads S.faults store.old store.new (SkipsIfShort base.now Part.Nonwords others) }
-        ensures words_first { Between S.files S.reads S.faults store.old store.new (ReadsWordsFirst base.now words) }
-        ensures words_told { IsSome (S.files store.old) → ToldUnread (S.reads store.old) (S.reads store.new) result }
+        ensures answer { IsSome (S.files store.old) →
+            AnswersModel base.now words others (S.files store.old) result }
+        ensures standing { (code : TextCode) →
+            PartsStand (S.files store.old) base.now code words others →
+            AnswersStanding result code }
+        ensures looked { Between S.files S.reads S.faults store.old store.new
+            (LookedAt Part.Words Part.Nonwords) }
+        ensures words_once { Between S.files S.reads S.faults store.old store.new
+            (ReadsOnce base.now Part.Words words result) }
+        ensures others_once { Between S.files S.reads S.faults store.old store.new
+            (ReadsOnce base.now Part.Nonwords others result) }
+        ensures words_unread { Between S.files S.reads S.faults store.old store.new
+            (SkipsIfShort base.now Part.Words words) }
+        ensures others_unread { Between S.files S.reads S.faults store.old store.new
+            (SkipsIfShort base.now Part.Nonwords others) }
+        ensures words_first { Between S.files S.reads S.faults store.old store.new
+            (ReadsWordsFirst base.now words) }
+        ensures words_told { IsSome (S.files store.old) →
+            ToldUnread (S.reads store.old) (S.reads store.new) result }
         ensures cause { HasPartCause (S.faults store.old) (S.faults store.new) result }
     {
         Self::load_parts(alloc, store, base, words, others)
@@ -119,14 +132,22 @@ impl TextModel {
     ) -> Result<Self, PartErr>
         requires words { words ≤ 2 ^ 22 }
         requires others { others ≤ 2 ^ 22 }
-        ensures answer { IsSome (S.files store.old) → AnswersModel base.now words others (S.files store.old) result }
-        ensures looked { Between S.files S.reads S.faults store.old store.new (LookedAt Part.Words Part.Nonwords) }
-        ensures words_once { Between S.files S.reads S.faults store.old store.new (ReadsOnce base.now Part.Words words result) }
-        ensures others_once { Between S.files S.reads S.faults store.old store.new (ReadsOnce base.now Part.Nonwords others result) }
-        ensures words_unread { Between S.files S.reads S.faults store.old store.new (SkipsIfShort base.now Part.Words words) }
-        ensures others_unread { Between S.files S.reads S.faults store.old store.new (SkipsIfShort base.now Part.Nonwords others) }
-        ensures words_first { Between S.files S.reads S.faults store.old store.new (ReadsWordsFirst base.now words) }
-        ensures words_told { IsSome (S.files store.old) → ToldUnread (S.reads store.old) (S.reads store.new) result }
+        ensures answer { IsSome (S.files store.old) →
+            AnswersModel base.now words others (S.files store.old) result }
+        ensures looked { Between S.files S.reads S.faults store.old store.new
+            (LookedAt Part.Words Part.Nonwords) }
+        ensures words_once { Between S.files S.reads S.faults store.old store.new
+            (ReadsOnce base.now Part.Words words result) }
+        ensures others_once { Between S.files S.reads S.faults store.old store.new
+            (ReadsOnce base.now Part.Nonwords others result) }
+        ensures words_unread { Between S.files S.reads S.faults store.old store.new
+            (SkipsIfShort base.now Part.Words words) }
+        ensures others_unread { Between S.files S.reads S.faults store.old store.new
+            (SkipsIfShort base.now Part.Nonwords others) }
+        ensures words_first { Between S.files S.reads S.faults store.old store.new
+            (ReadsWordsFirst base.now words) }
+        ensures words_told { IsSome (S.files store.old) →
+            ToldUnread (S.reads store.old) (S.reads store.new) result }
         ensures cause { HasPartCause (S.faults store.old) (S.faults store.new) result }
     {
         let word_part = FileRef {
@@ -180,7 +201,8 @@ impl TextModel {
     #[inline]
     pub fn short_piece(&self, stream: Stream, symbol: u32) -> Option<&[u8; 16]>
         requires { symbol < length (code_of stream self.now).pieces }
-        ensures piece { IfSome result (λ entry. slice_get (code_of stream self.now).pieces symbol ≡ Some (short_piece entry.now)) }
+        ensures piece { IfSome result (λ entry. slice_get (code_of stream self.now).pieces symbol
+            ≡ Some (short_piece entry.now)) }
         ensures length { IfSome result (λ entry. slice_index entry.now 0 ≤ 15) }
     {
         self.stream(stream).short_piece(symbol)

@@ -63,7 +63,8 @@ impl Vocab {
         requires short { length piece.now ≤ 255 }
         ensures counted { OnOk result (self.new ≡ counted piece.now self.old) }
         ensures total { OnOk result (total self.new ≡ total self.old + 1) }
-        ensures full { IsErrOf result VocabErr.TooMany ↔ ((has_piece self.old piece.now ≡ false) × (length self.old ≡ 2 ^ 22)) }
+        ensures full { IsErrOf result VocabErr.TooMany ↔
+            ((has_piece self.old piece.now ≡ false) × (length self.old ≡ 2 ^ 22)) }
         ensures known { has_piece self.old piece.now ≡ true → IsOk result }
         ensures err { OnErr result (self.new ≡ self.old) }
     {

@@ -99,7 +99,8 @@ impl PieceReader {
     #[inline]
     pub fn turn(&mut self)
         ensures turned { self.new ≡ record { kind = other_kind_spec self.old.kind; piece = [] } }
-        ensures reads { (told : List (List ℕ)) (doc : List ℕ) (byte : ℕ) → Ends self.old byte → ReadsEnded self.old self.new told doc byte }
+        ensures reads { (told : List (List ℕ)) (doc : List ℕ) (byte : ℕ) → Ends self.old byte →
+            ReadsEnded self.old self.new told doc byte }
     {
         self.kind = other_kind(self.kind);
         self.len = 0;

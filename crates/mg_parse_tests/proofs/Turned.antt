@@ -7,7 +7,8 @@ use Rattle.mg_parse.specs.Offered.{Offered}
 use Rattle.mg_parse.specs.declared.reader.Offer.TheVariants.{Ended}
 
 -- after an offer that ended the piece, and a turn
-pub ended : (old mid new : OpenPiece) (told : List (List ℕ)) (doc : List ℕ) (b : ℕ) → Offered old b Ended mid → new ≡ record { kind = other_kind mid.kind; piece = [] } → Reads old told doc (b ∷ []) → Reads new (told ++ mid.piece ∷ []) doc (b ∷ [])
+pub ended : (old mid new : OpenPiece) (told : List (List ℕ)) (doc : List ℕ) (b : ℕ) → Offered old b Ended mid →
+    new ≡ record { kind = other_kind mid.kind; piece = [] } → Reads old told doc (b ∷ []) → Reads new (told ++ mid.piece ∷ []) doc (b ∷ [])
 ended old mid new told doc b offered is h = rw (is, offered.1) (reads_turned old told doc b offered.0 h)
 
 -- after all bytes of a list, where the last came next

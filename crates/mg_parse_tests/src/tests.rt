@@ -10,8 +10,10 @@ use std::test::Fail;
 
 /// Takes the reader's current piece, and turns to the next.
 fn take(alloc: Global, reader: &mut PieceReader, told: &mut Vec<Vec<u8>>) -> Result<(), AllocError>
-    ensures told { IfOk result (λ _. lists told.new.items ≡ lists told.old.items ++ reader.old.piece ∷ []) }
-    ensures turned { IfOk result (λ _. reader.new ≡ record { kind = other_kind reader.old.kind; piece = [] }) }
+    ensures told { IfOk result (λ _. lists told.new.items ≡ lists told.old.items
+        ++ reader.old.piece ∷ []) }
+    ensures turned { IfOk result (λ _.
+        reader.new ≡ record { kind = other_kind reader.old.kind; piece = [] }) }
 {
     let piece = reader.piece().to_vec(alloc)?;
     told.push(piece)?;
@@ -25,7 +27,8 @@ fn take_rest(
     reader: &mut PieceReader,
     told: &mut Vec<Vec<u8>>,
 ) -> Result<(), AllocError>
-    ensures { IfOk result (λ _. lists told.new.items ≡ lists told.old.items ++ left_at_end reader.old.kind reader.old.piece) }
+    ensures { IfOk result (λ _. lists told.new.items ≡ lists told.old.items
+        ++ left_at_end reader.old.kind reader.old.piece) }
 {
     let left = reader.ends();
     if left == 0 {

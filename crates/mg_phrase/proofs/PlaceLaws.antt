@@ -18,7 +18,8 @@ stepped before [] flags t = flags
 stepped before (w ∷ ws) [] t = []
 stepped before (w ∷ ws) (flag ∷ flags) t = (before && same_term w t) ∷ stepped flag ws flags t
 
-carries : (before : Bool) (ws : List (List ℕ)) (flags : List Bool) (t : List ℕ) → length ws ≤ length flags → carry_on t (if before then ws ∷ to_come ws flags else to_come ws flags) ≡ to_come ws (stepped before ws flags t)
+carries : (before : Bool) (ws : List (List ℕ)) (flags : List Bool) (t : List ℕ) → length ws ≤ length flags →
+    carry_on t (if before then ws ∷ to_come ws flags else to_come ws flags) ≡ to_come ws (stepped before ws flags t)
 unfolding to_come
 carries true [] flags t le = refl
 carries false [] flags t le = refl
@@ -85,7 +86,8 @@ counts_as b e = rw e refl
 pub counts_not : (b : Bool) → b ≡ false → one_if b ≡ 0
 counts_not b e = rw e refl
 
-from_word : (phrase : List (List ℕ)) (begun now : List (List (List ℕ))) (w : List ℕ) (ts : List (List ℕ)) → now ≡ carry_on (folded w) (phrase ∷ begun) → place_count_from phrase begun (folded w ∷ ts) ≡ complete now + place_count_from phrase now ts
+from_word : (phrase : List (List ℕ)) (begun now : List (List (List ℕ))) (w : List ℕ) (ts : List (List ℕ)) → now ≡ carry_on (folded w) (phrase ∷ begun) →
+    place_count_from phrase begun (folded w ∷ ts) ≡ complete now + place_count_from phrase now ts
 unfolding place_count_from
 from_word phrase begun now w ts e = rw e refl
 
@@ -94,15 +96,23 @@ unfolding place_count_from
 from_none phrase begun = refl
 
 -- the phrase was carried on by a word that is not empty
-pub word_taken : (phrase : List (List ℕ)) (begun now : List (List (List ℕ))) (p : Pair) (pairs rest : List Pair) (places more total : ℕ) (none done : Bool) → pairs ≡ p ∷ rest → none ≡ (length p.word == 0) → none ≡ false →
-    now ≡ carry_on (folded p.word) (phrase ∷ begun) → one_if done ≡ complete now → more ≡ places + one_if done → places + place_count_from phrase begun (terms_in pairs) ≡ total → more + place_count_from phrase now (terms_in rest) ≡ total
+pub word_taken : (phrase : List (List ℕ)) (begun now : List (List (List ℕ))) (p : Pair) (pairs rest : List Pair) (places more total : ℕ) (none done : Bool) →
+    pairs ≡ p ∷ rest → none ≡ (length p.word == 0) → none ≡ false →
+    now ≡ carry_on (folded p.word) (phrase ∷ begun) → one_if done ≡ complete now → more ≡ places + one_if done →
+    places + place_count_from phrase begun (terms_in pairs) ≡ total → more + place_count_from phrase now (terms_in rest) ≡ total
 word_taken phrase begun now p pairs rest places more total none done e test some carried ends counted sum =
-    let step : place_count_from phrase begun (terms_in pairs) ≡ complete now + place_count_from phrase now (terms_in rest) = ap (λ ps. place_count_from phrase begun (terms_in ps)) e ∙ ap (place_count_from phrase begun) (in-word p rest (empty_test p.word ∙ sym test ∙ some)) ∙ from_word phrase begun now p.word (terms_in rest) carried in
+    let step : place_count_from phrase begun (terms_in pairs) ≡ complete now + place_count_from phrase now (terms_in rest) =
+    ap (λ ps. place_count_from phrase begun (terms_in ps)) e ∙ ap (place_count_from phrase begun) (in-word p rest (empty_test p.word ∙ sym test ∙ some))
+    ∙ from_word phrase begun now p.word (terms_in rest) carried in
     omega (arith, step, ends, counted, sum)
 
-pub word_passed : (phrase : List (List ℕ)) (begun : List (List (List ℕ))) (p : Pair) (pairs rest : List Pair) (places total : ℕ) (none : Bool) → pairs ≡ p ∷ rest → none ≡ (length p.word == 0) → none ≡ true → places + place_count_from phrase begun (terms_in pairs) ≡ total → places + place_count_from phrase begun (terms_in rest) ≡ total
+pub word_passed : (phrase : List (List ℕ)) (begun : List (List (List ℕ))) (p : Pair) (pairs rest : List Pair) (places total : ℕ) (none : Bool) →
+    pairs ≡ p ∷ rest → none ≡ (length p.word == 0) → none ≡ true → places + place_count_from phrase begun (terms_in pairs) ≡ total →
+    places + place_count_from phrase begun (terms_in rest) ≡ total
 word_passed phrase begun p pairs rest places total none e test is_none sum =
-    let step : place_count_from phrase begun (terms_in pairs) ≡ place_count_from phrase begun (terms_in rest) = ap (λ ps. place_count_from phrase begun (terms_in ps)) e ∙ ap (place_count_from phrase begun) (in-empty p rest (empty_test p.word ∙ sym test ∙ is_none)) in
+    let step : place_count_from phrase begun (terms_in pairs) ≡ place_count_from phrase begun (terms_in rest) =
+    ap (λ ps. place_count_from phrase begun (terms_in ps)) e ∙ ap (place_count_from phrase begun)
+    (in-empty p rest (empty_test p.word ∙ sym test ∙ is_none)) in
     omega (arith, step, sum)
 
 all_in : (doc : List ℕ) → terms_in (parse doc) ≡ terms doc
@@ -113,14 +123,17 @@ whole_places : (phrase : List (List ℕ)) (doc : List ℕ) → (length phrase �
 whole_places [] doc some = absurd (some refl)
 whole_places (w ∷ ws) doc some = one_pass w ws doc
 
-pub none_taken : (phrase : List (List ℕ)) (doc : List ℕ) (pairs : List Pair) (begun : List (List (List ℕ))) → (length phrase ≡ 0 → ⊥) → pairs ≡ parse doc → begun ≡ [] → 0 + place_count_from phrase begun (terms_in pairs) ≡ phrase_places phrase doc
-none_taken phrase doc pairs begun some e none = zero-add _ ∙ ap (λ b. place_count_from phrase b (terms_in pairs)) none ∙ ap (λ ps. place_count_from phrase [] (terms_in ps)) e ∙ ap (place_count_from phrase []) (all_in doc) ∙ whole_places phrase doc some
+pub none_taken : (phrase : List (List ℕ)) (doc : List ℕ) (pairs : List Pair) (begun : List (List (List ℕ))) → (length phrase ≡ 0 → ⊥) → pairs ≡ parse doc →
+    begun ≡ [] → 0 + place_count_from phrase begun (terms_in pairs) ≡ phrase_places phrase doc
+none_taken phrase doc pairs begun some e none = zero-add _ ∙ ap (λ b. place_count_from phrase b (terms_in pairs)) none
+    ∙ ap (λ ps. place_count_from phrase [] (terms_in ps)) e ∙ ap (place_count_from phrase []) (all_in doc) ∙ whole_places phrase doc some
 
 none_in : terms_in [] ≡ []
 unfolding terms_in
 none_in = refl
 
-pub all_taken : (phrase : List (List ℕ)) (begun : List (List (List ℕ))) (pairs : List Pair) (places total : ℕ) → pairs ≡ [] → places + place_count_from phrase begun (terms_in pairs) ≡ total → places ≡ total
+pub all_taken : (phrase : List (List ℕ)) (begun : List (List (List ℕ))) (pairs : List Pair) (places total : ℕ) → pairs ≡ [] →
+    places + place_count_from phrase begun (terms_in pairs) ≡ total → places ≡ total
 all_taken phrase begun pairs places total e sum =
     let step : place_count_from phrase begun (terms_in pairs) ≡ 0 = ap (λ ps. place_count_from phrase begun (terms_in ps)) e ∙ ap (place_count_from phrase begun) none_in ∙ from_none phrase begun in
     omega (arith, step, sum)

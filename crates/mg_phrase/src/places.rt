@@ -17,7 +17,8 @@ const MOST_WORDS: usize = 64;
 fn carry_on(begun: &mut [bool; MOST_WORDS], phrase: &[Term], word: &[u8]) -> bool
     requires some { 0 < length phrase.now }
     requires few { length phrase.now ≤ 64 }
-    ensures carried { to_come phrase.now begun.new ≡ carry_on_spec (folded word.now) (phrase.now ∷ to_come phrase.now begun.old) }
+    ensures carried { to_come phrase.now begun.new ≡ carry_on_spec (folded word.now)
+        (phrase.now ∷ to_come phrase.now begun.old) }
     ensures complete { one_if result ≡ complete (to_come phrase.now begun.new) }
 {
     // The phrase may begin at each word.

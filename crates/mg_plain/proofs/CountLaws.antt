@@ -11,7 +11,8 @@ use Rattle.mg_defs.proofs.ParseLaws.{parse_short}
 use Rattle.mg_query.specs.Holds.{AreThere}
 use Rattle.mg_plain.specs.Counts.{is_hit, hits_in, AreCounts}
 
-pub folded-step : (word t : List ℕ) (i : ℕ) → i < length word → i < length t → same_term (drop i t) (folded (drop i word)) ≡ (get_or t i 0 == fold_byte (get_or word i 0) && same_term (drop (i + 1) t) (folded (drop (i + 1) word)))
+pub folded-step : (word t : List ℕ) (i : ℕ) → i < length word → i < length t → same_term (drop i t) (folded (drop i word))
+    ≡ (get_or t i 0 == fold_byte (get_or word i 0) && same_term (drop (i + 1) t) (folded (drop (i + 1) word)))
 folded-step word t i p q = rw (add-one, drop-cons t i 0, drop-cons word i 0)
 
 -- ---- the pairs of a document
@@ -65,12 +66,15 @@ some-freq doc t = any (terms doc)
     any [] = refl
     any (u ∷ ts) =
         elim (cases_Bool (same_term t u)) [
-          | inl same ↦ lt-ltb 0 (count_by (same_term t) (u ∷ ts)) (omega (arith, count-cons (same_term t) u ts, ap {B = ℕ} (λ b. cond b 1 0) same)) ∙ sym (ap (λ b. b || list_any (same_term t) ts) same)
-          | inr other ↦ ap (nat_lt 0) (count-cons (same_term t) u ts ∙ ap (λ b. cond b 1 0 + count_by (same_term t) ts) other ∙ zero-add (count_by (same_term t) ts)) ∙ any ts ∙ sym (ap (λ b. b || list_any (same_term t) ts) other)
+          | inl same ↦ lt-ltb 0 (count_by (same_term t) (u ∷ ts)) (omega (arith, count-cons (same_term t) u ts, ap {B = ℕ} (λ b. cond b 1 0) same))
+              ∙ sym (ap (λ b. b || list_any (same_term t) ts) same)
+          | inr other ↦ ap (nat_lt 0) (count-cons (same_term t) u ts ∙ ap (λ b. cond b 1 0 + count_by (same_term t) ts) other
+              ∙ zero-add (count_by (same_term t) ts)) ∙ any ts ∙ sym (ap (λ b. b || list_any (same_term t) ts) other)
         ]
 
 -- the terms are there that are counted at all
-pub counted_there : (doc : List ℕ) (ts : List (List ℕ)) (counts : List ℕ) (there : List Bool) → AreCounts (freq_in doc) ts counts → length there ≡ length counts → ((k : ℕ) → k < length counts → get_or there k true ≡ nat_lt 0 (get_or counts k 0)) → AreThere doc ts there
+pub counted_there : (doc : List ℕ) (ts : List (List ℕ)) (counts : List ℕ) (there : List Bool) → AreCounts (freq_in doc) ts counts →
+    length there ≡ length counts → ((k : ℕ) → k < length counts → get_or there k true ≡ nat_lt 0 (get_or counts k 0)) → AreThere doc ts there
 counted_there doc ts counts there c size each = record {
   size = size ∙ c.size;
   each = λ k lt. each k (omega (arith, lt, c.size)) ∙ ap (nat_lt 0) (c.each k lt) ∙ some-freq doc (get_or ts k []);
@@ -83,12 +87,14 @@ empty_test [] = refl
 empty_test (b ∷ w) = sym (ne_eqb (length (b ∷ w)) 0 (λ e. omega (arith, e)))
 
 -- a word that is not empty was counted
-pub word_counted : (t : List ℕ) (p : Pair) (pairs rest : List Pair) (n n2 total : ℕ) (none : Bool) → pairs ≡ p ∷ rest → none ≡ (length p.word == 0) → none ≡ false → n2 ≡ n + cond (same_term t (folded p.word)) 1 0 → n + hits_in t pairs ≡ total → n2 + hits_in t rest ≡ total
+pub word_counted : (t : List ℕ) (p : Pair) (pairs rest : List Pair) (n n2 total : ℕ) (none : Bool) → pairs ≡ p ∷ rest → none ≡ (length p.word == 0) →
+    none ≡ false → n2 ≡ n + cond (same_term t (folded p.word)) 1 0 → n + hits_in t pairs ≡ total → n2 + hits_in t rest ≡ total
 word_counted t p pairs rest n n2 total none e test some counted sum =
     let step : hits_in t pairs ≡ cond (same_term t (folded p.word)) 1 0 + hits_in t rest = ap (hits_in t) e ∙ hits-word t p rest (empty_test p.word ∙ sym test ∙ some) in
     omega (arith, step, counted, sum)
 
-pub word_passed : (t : List ℕ) (p : Pair) (pairs rest : List Pair) (n total : ℕ) (none : Bool) → pairs ≡ p ∷ rest → none ≡ (length p.word == 0) → none ≡ true → n + hits_in t pairs ≡ total → n + hits_in t rest ≡ total
+pub word_passed : (t : List ℕ) (p : Pair) (pairs rest : List Pair) (n total : ℕ) (none : Bool) → pairs ≡ p ∷ rest → none ≡ (length p.word == 0) → none ≡ true →
+    n + hits_in t pairs ≡ total → n + hits_in t rest ≡ total
 word_passed t p pairs rest n total none e test is_none sum =
     let step : hits_in t pairs ≡ hits_in t rest = ap (hits_in t) e ∙ hits-empty t p rest (empty_test p.word ∙ sym test ∙ is_none) in
     omega (arith, step, sum)

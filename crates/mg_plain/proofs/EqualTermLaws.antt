@@ -98,7 +98,8 @@ has-once [] s = refl
 has-once (t ∷ []) s = refl
 has-once (t ∷ u ∷ ts) s =
     elim (cases_Bool (bytes_eq t u)) [
-      | inl is ↦ rw is (has-once (u ∷ ts) s ∙ subst (λ (x : List ℕ). (bytes_eq s u || has ts s) ≡ (bytes_eq s x || (bytes_eq s u || has ts s))) (sym (same-is t u is)) (or-itself (bytes_eq s u) (has ts s)))
+      | inl is ↦ rw is (has-once (u ∷ ts) s ∙ subst (λ (x : List ℕ). (bytes_eq s u || has ts s) ≡ (bytes_eq s x || (bytes_eq s u || has ts s)))
+          (sym (same-is t u is)) (or-itself (bytes_eq s u) (has ts s)))
       | inr isnt ↦ rw isnt (ap (λ b. bytes_eq s t || b) (has-once (u ∷ ts) s))
     ]
 
@@ -113,7 +114,8 @@ rising-once (t ∷ u ∷ ts) up =
     ]
 
 once-is : (ts : List (List ℕ)) → Ascends ts → once ts ≡ sorted_distinct ts
-once-is ts up = rising-unique (once ts) (sorted_distinct ts) (rising-once ts up) (sorted-rising ts) (λ s i. has-sorted ts s ∙ (sym (has-once ts s) ∙ i)) (λ s i. has-once ts s ∙ (sym (has-sorted ts s) ∙ i))
+once-is ts up = rising-unique (once ts) (sorted_distinct ts) (rising-once ts up) (sorted-rising ts) (λ s i. has-sorted ts s ∙ (sym (has-once ts s) ∙ i))
+    (λ s i. has-once ts s ∙ (sym (has-sorted ts s) ∙ i))
 
 -- ---- the sum
 
@@ -129,7 +131,8 @@ same-run : (n : ℕ) (x : List ℕ) (ts : List (List ℕ)) (t : List ℕ) → wi
 same-run n x ts t =
     elim (cases_Bool (bytes_eq t x)) [
       | inl is ↦ ap (λ b. cond b (n + 1) 0 + count_of ts t) is ∙ (omega (arith, ap (λ b. cond b 1 0 + count_of ts t) is, count-cons x ts t) ∙ ap (λ b. cond b n 0 + count_of (x ∷ ts) t) (sym is))
-      | inr isnt ↦ ap (λ b. cond b (n + 1) 0 + count_of ts t) isnt ∙ (omega (arith, ap (λ b. cond b 1 0 + count_of ts t) isnt, count-cons x ts t) ∙ ap (λ b. cond b n 0 + count_of (x ∷ ts) t) (sym isnt))
+      | inr isnt ↦ ap (λ b. cond b (n + 1) 0 + count_of ts t) isnt
+          ∙ (omega (arith, ap (λ b. cond b 1 0 + count_of ts t) isnt, count-cons x ts t) ∙ ap (λ b. cond b n 0 + count_of (x ∷ ts) t) (sym isnt))
     ]
 
 other-run : (n : ℕ) (x y : List ℕ) (ts : List (List ℕ)) (t : List ℕ) → order_of x t ≡ Less → with_count 0 y ts t ≡ with_count n x (x ∷ ts) t
@@ -156,7 +159,8 @@ squares-from n x (y ∷ ts) up =
     elim (cases_Bool (bytes_eq x y)) [
       | inl is ↦
           let e : x ≡ y = same-is x y is in
-          let fs : (λ t. square (with_count (n + 1) y (y ∷ ts) t)) ≡ (λ t. square (with_count n x (x ∷ y ∷ ts) t)) = λ i. λ t. square (((ap (λ z. with_count (n + 1) z (y ∷ ts) t) (sym e)) ∙ same-run n x (y ∷ ts) t) i) in
+          let fs : (λ t. square (with_count (n + 1) y (y ∷ ts) t)) ≡ (λ t. square (with_count n x (x ∷ y ∷ ts) t)) = λ i. λ t.
+          square (((ap (λ z. with_count (n + 1) z (y ∷ ts) t) (sym e)) ∙ same-run n x (y ∷ ts) t) i) in
           rw is (squares-from (n + 1) y ts up.1 ∙ ap (λ (f : List ℕ → ℕ). sum_by f (once (y ∷ ts))) fs)
       | inr isnt ↦
           let above = all-above x y ts (below x y up.0 isnt) up.1 in
@@ -169,7 +173,12 @@ squares-from n x (y ∷ ts) up =
 squares-of : (ts : List (List ℕ)) → Ascends ts → squares 0 ts ≡ sum_by (λ t. square (count_of ts t)) (once ts)
 squares-of [] up = refl
 squares-of (x ∷ ts) up =
-    let none : (t : List ℕ) → with_count 0 x (x ∷ ts) t ≡ count_of (x ∷ ts) t = λ t. elim (cases_Bool (bytes_eq t x)) [ inl e ↦ ap (λ b. cond b 0 0 + count_of (x ∷ ts) t) e ∙ zero-add (count_of (x ∷ ts) t) | inr e ↦ ap (λ b. cond b 0 0 + count_of (x ∷ ts) t) e ∙ zero-add (count_of (x ∷ ts) t) ] in
+    let none : (t : List ℕ) → with_count 0 x (x ∷ ts) t ≡ count_of (x ∷ ts) t = λ t.
+    elim (cases_Bool (bytes_eq t x)) [
+      | inl e ↦ ap (λ b. cond b 0 0 + count_of (x ∷ ts) t) e ∙ zero-add (count_of (x ∷ ts) t)
+      | inr e
+          ↦ ap (λ b. cond b 0 0 + count_of (x ∷ ts) t) e ∙ zero-add (count_of (x ∷ ts) t)
+    ] in
     let fs : (λ t. square (with_count 0 x (x ∷ ts) t)) ≡ (λ t. square (count_of (x ∷ ts) t)) = λ i. λ t. square (none t i) in
     squares-from 0 x ts up ∙ ap (λ (f : List ℕ → ℕ). sum_by f (once (x ∷ ts))) fs
 

@@ -15,9 +15,12 @@ there None size e = cc
 there (Some b) size e = (b, refl)
 
 -- what was read whole is the file
-pub loaded : (now files : Option Files) (name full buf : List ℕ) (n size : ℕ) → full ≡ name → now ≡ files → HasSize files name size → (IsSome now → take n buf ≡ take (length buf) (drop 0 (bytes_at now full))) → n ≡ length buf → length buf ≡ size → IsSome files → file_at files name ≡ Some buf
+pub loaded : (now files : Option Files) (name full buf : List ℕ) (n size : ℕ) → full ≡ name → now ≡ files → HasSize files name size →
+    (IsSome now → take n buf ≡ take (length buf) (drop 0 (bytes_at now full))) → n ≡ length buf → length buf ≡ size → IsSome files →
+    file_at files name ≡ Some buf
 loaded now files name full buf n size same_name same known is all long told =
-    let is2 : take n buf ≡ take (length buf) (bytes_at files name) = subst (λ x. IsSome files → take n buf ≡ take (length buf) (bytes_at files x)) same_name (subst (λ f. IsSome f → take n buf ≡ take (length buf) (bytes_at f full)) same is) told in
+    let is2 : take n buf ≡ take (length buf) (bytes_at files name) = subst (λ x. IsSome files → take n buf ≡ take (length buf) (bytes_at files x)) same_name
+    (subst (λ f. IsSome f → take n buf ≡ take (length buf) (bytes_at f full)) same is) told in
     let found = there (file_at files name) size (known told) in
     let here : bytes_at files name ≡ found.0 = ap (λ o. unwrap_or o []) found.1 in
     let size_of : length (bytes_at files name) ≡ size = size_is files name size (known told) in
@@ -25,17 +28,20 @@ loaded now files name full buf n size same_name same known is all long told =
     found.1 ∙ ap Some (sym here ∙ sym whole)
 
 -- a told file gives as many bytes as its size
-pub not_changed : (now files : Option Files) (name full buf : List ℕ) (n size : ℕ) → full ≡ name → now ≡ files → HasSize files name size → (IsSome now → take n buf ≡ take (length buf) (drop 0 (bytes_at now full))) → n ≤ length buf → length buf ≡ size → IsSome files → n ≡ length buf
+pub not_changed : (now files : Option Files) (name full buf : List ℕ) (n size : ℕ) → full ≡ name → now ≡ files → HasSize files name size →
+    (IsSome now → take n buf ≡ take (length buf) (drop 0 (bytes_at now full))) → n ≤ length buf → length buf ≡ size → IsSome files → n ≡ length buf
 not_changed now files name full buf n size same_name same known is within long told =
     let size_of : length (bytes_at files name) ≡ size = size_is files name size (known told) in
     let size_full : length (bytes_at files full) ≡ size = ap (λ x. length (bytes_at files x)) same_name ∙ size_of in
     omega (arith, read_count now files full buf 0 n same is told within, size_full, long)
 
 -- a size that is told, under the name of the part with no ending
-pub size_known : (files : Option Files) (name full : List ℕ) (size : ℕ) → full ≡ name → (IsSome files → ◌≡◌ {A = Option ℕ} (Some size) (option_map length (file_at files full))) → HasSize files name size
+pub size_known : (files : Option Files) (name full : List ℕ) (size : ℕ) → full ≡ name →
+    (IsSome files → ◌≡◌ {A = Option ℕ} (Some size) (option_map length (file_at files full))) → HasSize files name size
 size_known files name full size same known = subst (λ x. HasSize files x size) same known
 
-pub none_there : (files : Option Files) (name full : List ℕ) → full ≡ name → (IsSome files → ◌≡◌ {A = Option ℕ} None (option_map length (file_at files full))) → IsSome files → file_at files name ≡ None
+pub none_there : (files : Option Files) (name full : List ℕ) → full ≡ name → (IsSome files → ◌≡◌ {A = Option ℕ} None (option_map length (file_at files full))) →
+    IsSome files → file_at files name ≡ None
 none_there files name full same missing told = subst (λ x. file_at files x ≡ None) same (gone (file_at files full) (missing told))
   where
     gone : (o : Option (List ℕ)) → ◌≡◌ {A = Option ℕ} None (option_map length o) → o ≡ None

@@ -78,7 +78,8 @@ few_hits collection query =
       few_documents collection,
     )
 
-pub few_rows : (collection : List ℕ) (query : List (List ℕ)) (rows sorted : List Row) → hits_of rows ≡ hits_over collection query → IsPermutation rows sorted → length collection ≤ 2 ^ 28 → length sorted ≤ 2 ^ 28
+pub few_rows : (collection : List ℕ) (query : List (List ℕ)) (rows sorted : List Row) → hits_of rows ≡ hits_over collection query → IsPermutation rows sorted →
+    length collection ≤ 2 ^ 28 → length sorted ≤ 2 ^ 28
 few_rows collection query rows sorted e same small =
     omega (arith, ap length e, length-map rows hit_of, few_hits collection query, length_permutation rows sorted same, small)
 
@@ -95,13 +96,15 @@ ranking-is collection query rows e = as_hits rows ∙ ap (map (λ (h : Hit). rec
 text-append : (collection : List ℕ) (mode : Mode) (xs ys : List Row) → rows_text collection mode (xs ++ ys) ≡ rows_text collection mode xs ++ rows_text collection mode ys
 unfolding rows_text
 text-append collection mode [] ys = refl
-text-append collection mode (x ∷ xs) ys = ap (λ t. shown collection mode (shown_of x) ++ t) (text-append collection mode xs ys) ∙ sym (append_assoc (shown collection mode (shown_of x)) (rows_text collection mode xs) (rows_text collection mode ys))
+text-append collection mode (x ∷ xs) ys = ap (λ t. shown collection mode (shown_of x) ++ t) (text-append collection mode xs ys)
+    ∙ sym (append_assoc (shown collection mode (shown_of x)) (rows_text collection mode xs) (rows_text collection mode ys))
 
 text-one : (collection : List ℕ) (mode : Mode) (r : Row) → rows_text collection mode (r ∷ []) ≡ shown collection mode (shown_of r)
 unfolding rows_text
 text-one collection mode r = append-nil (shown collection mode (shown_of r))
 
-text-more : (collection : List ℕ) (mode : Mode) (rows : List Row) (i : ℕ) (d : Row) → i < length rows → rows_text collection mode (take (i + 1) rows) ≡ rows_text collection mode (take i rows) ++ shown collection mode (shown_of (get_or rows i d))
+text-more : (collection : List ℕ) (mode : Mode) (rows : List Row) (i : ℕ) (d : Row) → i < length rows →
+    rows_text collection mode (take (i + 1) rows) ≡ rows_text collection mode (take i rows) ++ shown collection mode (shown_of (get_or rows i d))
 text-more collection mode rows i d lt =
     ap (λ n. rows_text collection mode (take n rows)) (add-one i) ∙ ap (rows_text collection mode) (take-suc rows i d lt) ∙ text-append collection mode (take i rows) (get_or rows i d ∷ [])
     ∙ ap (λ t. rows_text collection mode (take i rows) ++ t) (text-one collection mode (get_or rows i d))
@@ -110,17 +113,23 @@ pub rows_start : (collection : List ℕ) (mode : Mode) (rows : List Row) (w : Op
 unfolding rows_text
 rows_start collection mode rows w waiting = pass_nothing w waiting
 
-pub rows_more : (collection : List ℕ) (mode : Mode) (rows : List Row) (i : ℕ) (d : Row) (w0 w1 w2 : Option (List ℕ)) (p0 p1 p2 : List ℕ) → i < length rows → Passed w0 w1 p0 p1 (rows_text collection mode (take i rows)) → Passed w1 w2 p1 p2 (shown collection mode (shown_of (get_or rows i d))) → Passed w0 w2 p0 p2 (rows_text collection mode (take (i + 1) rows))
+pub rows_more : (collection : List ℕ) (mode : Mode) (rows : List Row) (i : ℕ) (d : Row) (w0 w1 w2 : Option (List ℕ)) (p0 p1 p2 : List ℕ) → i < length rows →
+    Passed w0 w1 p0 p1 (rows_text collection mode (take i rows)) → Passed w1 w2 p1 p2 (shown collection mode (shown_of (get_or rows i d))) →
+    Passed w0 w2 p0 p2 (rows_text collection mode (take (i + 1) rows))
 rows_more collection mode rows i d w0 w1 w2 p0 p1 p2 lt before one =
     subst (Passed w0 w2 p0 p2) (sym (text-more collection mode rows i d lt)) (pass_both w0 w1 w2 p0 p1 p2 _ _ before one)
 
 -- one was refused
-pub rows_part : (collection : List ℕ) (mode : Mode) (rows : List Row) (i : ℕ) (d : Row) (w0 w1 w2 : Option (List ℕ)) (p0 p1 : List ℕ) → i < length rows → Passed w0 w1 p0 p1 (rows_text collection mode (take i rows)) → GrewByPrefix w1 w2 (p1 ++ shown collection mode (shown_of (get_or rows i d))) → GrewByPrefix w0 w2 (p0 ++ rows_text collection mode rows)
+pub rows_part : (collection : List ℕ) (mode : Mode) (rows : List Row) (i : ℕ) (d : Row) (w0 w1 w2 : Option (List ℕ)) (p0 p1 : List ℕ) → i < length rows →
+    Passed w0 w1 p0 p1 (rows_text collection mode (take i rows)) → GrewByPrefix w1 w2 (p1 ++ shown collection mode (shown_of (get_or rows i d))) →
+    GrewByPrefix w0 w2 (p0 ++ rows_text collection mode rows)
 rows_part collection mode rows i d w0 w1 w2 p0 p1 lt before grew =
     let front = rows_text collection mode (take (i + 1) rows) in
     let back = rows_text collection mode (drop (i + 1) rows) in
-    let whole : rows_text collection mode rows ≡ front ++ back = ap (rows_text collection mode) (sym (take-append-drop (i + 1) rows)) ∙ text-append collection mode (take (i + 1) rows) (drop (i + 1) rows) in
-    let cut : GrewByPrefix w0 w2 (p0 ++ (rows_text collection mode (take i rows) ++ shown collection mode (shown_of (get_or rows i d)))) = pass_cut w0 w1 w2 p0 p1 (rows_text collection mode (take i rows)) (shown collection mode (shown_of (get_or rows i d))) before grew in
+    let whole : rows_text collection mode rows ≡ front ++ back = ap (rows_text collection mode) (sym (take-append-drop (i + 1) rows))
+    ∙ text-append collection mode (take (i + 1) rows) (drop (i + 1) rows) in
+    let cut : GrewByPrefix w0 w2 (p0 ++ (rows_text collection mode (take i rows) ++ shown collection mode (shown_of (get_or rows i d)))) =
+    pass_cut w0 w1 w2 p0 p1 (rows_text collection mode (take i rows)) (shown collection mode (shown_of (get_or rows i d))) before grew in
     let part : GrewByPrefix w0 w2 (p0 ++ front) = subst (λ t. GrewByPrefix w0 w2 (p0 ++ t)) (sym (text-more collection mode rows i d lt)) cut in
     subst (λ t. GrewByPrefix w0 w2 (p0 ++ t)) (sym whole) (pass_part w0 w2 p0 front back part)
 
@@ -130,22 +139,29 @@ first-map : (most : Option ℕ) (rows : List Row) → limited_to most (shown_row
 first-map None rows = refl
 first-map (Some k) rows = take-map shown_of k rows
 
-text-answer : (collection : List ℕ) (now : Settings) (rows shown_too : List Row) → shown_too ≡ limited_to now.most rows → answer_text collection now (shown_rows rows) ≡ rows_text collection now.mode shown_too ++ count (length rows)
+text-answer : (collection : List ℕ) (now : Settings) (rows shown_too : List Row) → shown_too ≡ limited_to now.most rows →
+    answer_text collection now (shown_rows rows) ≡ rows_text collection now.mode shown_too ++ count (length rows)
 unfolding rows_text answer_text
 text-answer collection now rows shown_too e =
     ap (λ xs. flat_map (shown collection now.mode) xs ++ count (length (shown_rows rows))) (first-map now.most rows ∙ ap shown_rows (sym e))
     ∙ ap (λ n. flat_map (shown collection now.mode) (shown_rows shown_too) ++ count n) (length-map rows shown_of)
 
-pub answer_put : {T E : Type 0} (collection : List ℕ) (now : Settings) (rows shown_too : List Row) (w0 w1 w2 w3 : Option (List ℕ)) (p0 p1 p2 : List ℕ) (r : Result T E) → p0 ≡ [] → shown_too ≡ limited_to now.most rows → Passed w0 w1 p0 p1 (rows_text collection now.mode shown_too) → Passed w1 w2 p1 p2 (count (length rows)) → AfterPut w2 w3 p2 r → AfterPut w0 w3 (answer_text collection now (shown_rows rows)) r
+pub answer_put : {T E : Type 0} (collection : List ℕ) (now : Settings) (rows shown_too : List Row) (w0 w1 w2 w3 : Option (List ℕ)) (p0 p1 p2 : List ℕ)
+    (r : Result T E) → p0 ≡ [] → shown_too ≡ limited_to now.most rows → Passed w0 w1 p0 p1 (rows_text collection now.mode shown_too) →
+    Passed w1 w2 p1 p2 (count (length rows)) → AfterPut w2 w3 p2 r → AfterPut w0 w3 (answer_text collection now (shown_rows rows)) r
 answer_put collection now rows shown_too w0 w1 w2 w3 p0 p1 p2 r none e passed counted put =
     subst (λ t. AfterPut w0 w3 t r) (sym (text-answer collection now rows shown_too e)) (pass_put w0 w2 w3 p0 p2 _ r none (pass_both w0 w1 w2 p0 p1 p2 _ _ passed counted) put)
 
 -- the count was refused
-pub answer_cut : (collection : List ℕ) (now : Settings) (rows shown_too : List Row) (w0 w1 w2 : Option (List ℕ)) (p0 p1 : List ℕ) → p0 ≡ [] → shown_too ≡ limited_to now.most rows → Passed w0 w1 p0 p1 (rows_text collection now.mode shown_too) → GrewByPrefix w1 w2 (p1 ++ count (length rows)) → GrewByPrefix w0 w2 (answer_text collection now (shown_rows rows))
+pub answer_cut : (collection : List ℕ) (now : Settings) (rows shown_too : List Row) (w0 w1 w2 : Option (List ℕ)) (p0 p1 : List ℕ) → p0 ≡ [] →
+    shown_too ≡ limited_to now.most rows → Passed w0 w1 p0 p1 (rows_text collection now.mode shown_too) → GrewByPrefix w1 w2 (p1 ++ count (length rows)) →
+    GrewByPrefix w0 w2 (answer_text collection now (shown_rows rows))
 answer_cut collection now rows shown_too w0 w1 w2 p0 p1 none e passed grew =
     subst (GrewByPrefix w0 w2) (sym (text-answer collection now rows shown_too e)) (pass_refused w0 w2 p0 _ none (pass_cut w0 w1 w2 p0 p1 _ _ passed grew))
 
 -- a row was refused
-pub answer_part : (collection : List ℕ) (now : Settings) (rows shown_too : List Row) (w0 w1 : Option (List ℕ)) (p0 : List ℕ) → p0 ≡ [] → shown_too ≡ limited_to now.most rows → GrewByPrefix w0 w1 (p0 ++ rows_text collection now.mode shown_too) → GrewByPrefix w0 w1 (answer_text collection now (shown_rows rows))
+pub answer_part : (collection : List ℕ) (now : Settings) (rows shown_too : List Row) (w0 w1 : Option (List ℕ)) (p0 : List ℕ) → p0 ≡ [] →
+    shown_too ≡ limited_to now.most rows → GrewByPrefix w0 w1 (p0 ++ rows_text collection now.mode shown_too) →
+    GrewByPrefix w0 w1 (answer_text collection now (shown_rows rows))
 answer_part collection now rows shown_too w0 w1 p0 none e grew =
     subst (GrewByPrefix w0 w1) (sym (text-answer collection now rows shown_too e)) (pass_refused w0 w1 p0 _ none (pass_part w0 w1 p0 _ _ grew))

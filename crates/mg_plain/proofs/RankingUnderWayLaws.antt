@@ -40,7 +40,8 @@ having-all t collection = refl
 pub docs-few : (collection t : List ℕ) → docs collection t ≤ length (documents collection)
 docs-few collection t = count_by-le-length (λ doc. has_term doc t) (documents collection)
 
-pub tallied_start : (collection : List ℕ) (query : List (List ℕ)) (found : List ℕ) → length found ≡ length query → ((k : ℕ) → k < length query → get_or found k 0 ≡ 0) → Tallied collection query found 0 (documents collection)
+pub tallied_start : (collection : List ℕ) (query : List (List ℕ)) (found : List ℕ) → length found ≡ length query →
+    ((k : ℕ) → k < length query → get_or found k 0 ≡ 0) → Tallied collection query found 0 (documents collection)
 tallied_start collection query found size none = record {
   front = [];
   docs_is = refl;
@@ -49,7 +50,10 @@ tallied_start collection query found size none = record {
   each = λ k lt. omega (arith, none k lt, having-all (get_or query k []) collection);
 }
 
-pub tallied_more : (collection doc : List ℕ) (query before rest : List (List ℕ)) (counts found found2 : List ℕ) (number : ℕ) → Tallied collection query found number before → before ≡ doc ∷ rest → AreCounts (freq_in doc) query counts → length found2 ≡ length counts → ((k : ℕ) → k < length counts → get_or found2 k 0 ≡ get_or found k 0 + cond (nat_lt 0 (get_or counts k 0)) 1 0) → Tallied collection query found2 (number + 1) rest
+pub tallied_more : (collection doc : List ℕ) (query before rest : List (List ℕ)) (counts found found2 : List ℕ) (number : ℕ) →
+    Tallied collection query found number before → before ≡ doc ∷ rest → AreCounts (freq_in doc) query counts → length found2 ≡ length counts →
+    ((k : ℕ) → k < length counts → get_or found2 k 0 ≡ get_or found k 0 + cond (nat_lt 0 (get_or counts k 0)) 1 0) →
+    Tallied collection query found2 (number + 1) rest
 tallied_more collection doc query before rest counts found found2 number s e c size added = record {
   front = s.front ++ doc ∷ [];
   docs_is = s.docs_is ∙ ap (λ r. s.front ++ r) e ∙ sym (append_assoc s.front (doc ∷ []) rest);
@@ -73,10 +77,12 @@ tallied_found collection query rest found number s none = record {
 }
 
 -- one more can be counted
-pub tallied_small : (collection : List ℕ) (query rest : List (List ℕ)) (found : List ℕ) (number : ℕ) → Tallied collection query found number rest → length collection ≤ 2 ^ 28 → (k : ℕ) → k < length query → get_or found k 0 < 2 ^ 31
+pub tallied_small : (collection : List ℕ) (query rest : List (List ℕ)) (found : List ℕ) (number : ℕ) → Tallied collection query found number rest →
+    length collection ≤ 2 ^ 28 → (k : ℕ) → k < length query → get_or found k 0 < 2 ^ 31
 tallied_small collection query rest found number s small k lt = omega (arith, s.each k lt, docs-few collection (get_or query k []), few_documents collection, small)
 
-pub next_small : (collection doc : List ℕ) (front before rest : List (List ℕ)) (number : ℕ) → documents collection ≡ front ++ before → length front ≡ number → before ≡ doc ∷ rest → length collection ≤ 2 ^ 28 → (number + 1 ≤ 2 ^ 28) × (length doc ≤ 2 ^ 28)
+pub next_small : (collection doc : List ℕ) (front before rest : List (List ℕ)) (number : ℕ) → documents collection ≡ front ++ before → length front ≡ number →
+    before ≡ doc ∷ rest → length collection ≤ 2 ^ 28 → (number + 1 ≤ 2 ^ 28) × (length doc ≤ 2 ^ 28)
 next_small collection doc front before rest number is count e small = (
   omega (arith, few_documents collection, ap length is, length-append front before, ap length e, count),
   omega (arith, short_document collection doc front rest (is ∙ ap (λ r. front ++ r) e), small),
@@ -88,7 +94,9 @@ pub weightless : (all : ℕ) → weight_of_term 0 all ≡ 0
 unfolding weight_of_term lg digits_of digit next
 weightless all = ap (λ x. lg x - 4096) (div-zero (65536 * (all + 0)))
 
-pub weights_are : (collection : List ℕ) (query : List (List ℕ)) (found weights : List ℕ) (all : ℕ) → all ≡ length (documents collection) → AreCounts (docs collection) query found → length weights ≡ length found → ((k : ℕ) → k < length found → get_or weights k 0 ≡ weight_of_term (get_or found k 0) all) → AreCounts (wt collection) query weights
+pub weights_are : (collection : List ℕ) (query : List (List ℕ)) (found weights : List ℕ) (all : ℕ) → all ≡ length (documents collection) →
+    AreCounts (docs collection) query found → length weights ≡ length found →
+    ((k : ℕ) → k < length found → get_or weights k 0 ≡ weight_of_term (get_or found k 0) all) → AreCounts (wt collection) query weights
 weights_are collection query found weights all is c size each = record {
   size = size ∙ c.size;
   each = λ k lt. each k (omega (arith, lt, c.size)) ∙ ap (λ n. weight_of_term n all) (c.each k lt) ∙ ap (weight_of_term (docs collection (get_or query k []))) is;
@@ -125,7 +133,8 @@ pub record Next (collection doc : List ℕ) (rest : List (List ℕ)) (place : �
 
 -- ---- hits, one document after another
 
-hits-one : (collection doc : List ℕ) (query rest : List (List ℕ)) (n : ℕ) → list_any (has_term doc) query ≡ true → hits_from collection query n (doc ∷ rest) ≡ record { number = n; score = score_over collection query doc } ∷ hits_from collection query (n + 1) rest
+hits-one : (collection doc : List ℕ) (query rest : List (List ℕ)) (n : ℕ) → list_any (has_term doc) query ≡ true →
+    hits_from collection query n (doc ∷ rest) ≡ record { number = n; score = score_over collection query doc } ∷ hits_from collection query (n + 1) rest
 unfolding hits_from
 hits-one collection doc query rest n some = rw some refl
 
@@ -183,15 +192,20 @@ ranked_start collection query = record {
   rows_placed = λ k d lt. elim lt [ ];
 }
 
-pub ranked_next : (collection doc : List ℕ) (query : List (List ℕ)) (rows : List Row) (number place : ℕ) (before rest : List (List ℕ)) → Ranked collection query rows number place before → before ≡ doc ∷ rest → Next collection doc rest place
+pub ranked_next : (collection doc : List ℕ) (query : List (List ℕ)) (rows : List Row) (number place : ℕ) (before rest : List (List ℕ)) →
+    Ranked collection query rows number place before → before ≡ doc ∷ rest → Next collection doc rest place
 ranked_next collection doc query rows number place before rest s e = next_place collection doc rest place (s.place_is ∙ e)
 
-pub ranked_small : (collection doc : List ℕ) (query : List (List ℕ)) (rows : List Row) (number place : ℕ) (before rest : List (List ℕ)) → Ranked collection query rows number place before → before ≡ doc ∷ rest → length collection ≤ 2 ^ 28 → (number + 1 ≤ 2 ^ 28) × (length doc ≤ 2 ^ 28) × (place + length doc ≤ 2 ^ 28)
+pub ranked_small : (collection doc : List ℕ) (query : List (List ℕ)) (rows : List Row) (number place : ℕ) (before rest : List (List ℕ)) →
+    Ranked collection query rows number place before → before ≡ doc ∷ rest → length collection ≤ 2 ^ 28 →
+    (number + 1 ≤ 2 ^ 28) × (length doc ≤ 2 ^ 28) × (place + length doc ≤ 2 ^ 28)
 ranked_small collection doc query rows number place before rest s e small =
     let counts = next_small collection doc s.front before rest number s.docs_is s.count e small in
     (counts.0, counts.1, omega (arith, (ranked_next collection doc query rows number place before rest s e).within, small))
 
-pub ranked_miss : (collection doc : List ℕ) (query : List (List ℕ)) (rows : List Row) (number place : ℕ) (before rest : List (List ℕ)) → Ranked collection query rows number place before → before ≡ doc ∷ rest → list_any (has_term doc) query ≡ false → Ranked collection query rows (number + 1) (place + (length doc + 1)) rest
+pub ranked_miss : (collection doc : List ℕ) (query : List (List ℕ)) (rows : List Row) (number place : ℕ) (before rest : List (List ℕ)) →
+    Ranked collection query rows number place before → before ≡ doc ∷ rest → list_any (has_term doc) query ≡ false →
+    Ranked collection query rows (number + 1) (place + (length doc + 1)) rest
 ranked_miss collection doc query rows number place before rest s e none = record {
   front = s.front ++ doc ∷ [];
   docs_is = s.docs_is ∙ ap (λ r. s.front ++ r) e ∙ sym (append_assoc s.front (doc ∷ []) rest);
@@ -201,7 +215,9 @@ ranked_miss collection doc query rows number place before rest s e none = record
   rows_placed = s.rows_placed;
 }
 
-pub ranked_hit : (collection doc : List ℕ) (query : List (List ℕ)) (rows : List Row) (number place score_is : ℕ) (before rest : List (List ℕ)) → Ranked collection query rows number place before → before ≡ doc ∷ rest → list_any (has_term doc) query ≡ true → score_is ≡ score_over collection query doc → Ranked collection query (rows ++ record { number = number + 1; place = place; score = score_is } ∷ []) (number + 1) (place + (length doc + 1)) rest
+pub ranked_hit : (collection doc : List ℕ) (query : List (List ℕ)) (rows : List Row) (number place score_is : ℕ) (before rest : List (List ℕ)) →
+    Ranked collection query rows number place before → before ≡ doc ∷ rest → list_any (has_term doc) query ≡ true → score_is ≡ score_over collection query doc →
+    Ranked collection query (rows ++ record { number = number + 1; place = place; score = score_is } ∷ []) (number + 1) (place + (length doc + 1)) rest
 ranked_hit collection doc query rows number place score_is before rest s e some is =
     let r : Row = record { number = number + 1; place = place; score = score_is } in
     let next = ranked_next collection doc query rows number place before rest s e in
@@ -214,7 +230,9 @@ ranked_hit collection doc query rows number place score_is before rest s e some 
       docs_is = s.docs_is ∙ ap (λ r. s.front ++ r) e ∙ sym (append_assoc s.front (doc ∷ []) rest);
       count = omega (arith, length-append s.front (doc ∷ []), s.count);
       place_is = next.rest_is;
-      hits_is = s.hits_is ∙ ap (λ r. hits_of rows ++ hits_from collection query (number + 1) r) e ∙ ap (λ hs. hits_of rows ++ hs) (hits-one collection doc query rest (number + 1) some) ∙ sym (append_assoc (hits_of rows) (hit ∷ []) later) ∙ ap (λ hs. hs ++ later) (sym pushed);
+      hits_is = s.hits_is ∙ ap (λ r. hits_of rows ++ hits_from collection query (number + 1) r) e
+          ∙ ap (λ hs. hits_of rows ++ hs) (hits-one collection doc query rest (number + 1) some) ∙ sym (append_assoc (hits_of rows) (hit ∷ []) later)
+          ∙ ap (λ hs. hs ++ later) (sym pushed);
       rows_placed = All-push (IsPlaced collection) rows r s.rows_placed (record {
         within = omega (arith, next.within);
         document = document_at collection doc s.front rest (number + 1) (s.docs_is ∙ ap (λ r. s.front ++ r) e) (omega (arith, s.count)) ∙ next.doc_is;
@@ -222,6 +240,7 @@ ranked_hit collection doc query rows number place score_is before rest s e some 
     }
 
 -- all documents were read
-pub ranked_all : (collection : List ℕ) (query : List (List ℕ)) (rows : List Row) (number place : ℕ) (rest : List (List ℕ)) → Ranked collection query rows number place rest → rest ≡ [] → hits_of rows ≡ hits_over collection query
+pub ranked_all : (collection : List ℕ) (query : List (List ℕ)) (rows : List Row) (number place : ℕ) (rest : List (List ℕ)) →
+    Ranked collection query rows number place rest → rest ≡ [] → hits_of rows ≡ hits_over collection query
 ranked_all collection query rows number place rest s none =
     sym (s.hits_is ∙ ap (λ r. hits_of rows ++ hits_from collection query (number + 1) r) none ∙ ap (λ hs. hits_of rows ++ hs) (hits-none collection query (number + 1)) ∙ append-nil (hits_of rows))

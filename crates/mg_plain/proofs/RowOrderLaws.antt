@@ -94,7 +94,14 @@ chain_from : (xs : List Row) → IsSortedBy is_above xs → ((n : ℕ) → numbe
 chain_from [] h once = tt
 chain_from (x ∷ []) h once = tt
 chain_from (x ∷ y ∷ xs) h once =
-    let apart : x.number ≡ y.number → ⊥ = λ e. omega (arith, once y.number, numbered-cons y.number (hit_of x) (hits_of (y ∷ xs)), numbered-cons y.number (hit_of y) (hits_of xs), one_of y.number (hit_of x) e, one_of y.number (hit_of y) refl) in
+    let apart : x.number ≡ y.number → ⊥ = λ e. omega (
+      arith,
+      once y.number,
+      numbered-cons y.number (hit_of x) (hits_of (y ∷ xs)),
+      numbered-cons y.number (hit_of y) (hits_of xs),
+      one_of y.number (hit_of x) e,
+      one_of y.number (hit_of y) refl,
+    ) in
     let first : is_above y x ≡ false = h 0 x (omega arith) (omega arith) in
     (before_from x y first apart, chain_from (y ∷ xs) (later x (y ∷ xs) h) (λ n. omega (arith, once n, numbered-cons n (hit_of x) (hits_of (y ∷ xs)))))
 

@@ -37,7 +37,8 @@ module _ (name : List ℕ) (run : Run) (r : Result (Unit {0}) Fault) (is : run.s
     (silent_large : (size most : ℕ) → IsErrOf r (TooLarge size most) → run.out_now.written ≡ run.out.written)
     (cause : IfErr r (ScanStops name (StoreFailed run) (InputFailed run) (OutputFailed run) run.store.files run.input.left))
     (missing : IsSome run.store.files → file_at run.store.files name ≡ None → (r ≡ Err NoCollection) ⊎ (r ≡ Err StoreFault) ⊎ (r ≡ Err Memory))
-    (large : IsSome run.store.files → 2 ^ 28 < length (bytes_at run.store.files name) → (r ≡ Err (TooLarge (length (bytes_at run.store.files name)) (2 ^ 28))) ⊎ (r ≡ Err StoreFault) ⊎ (r ≡ Err Memory))
+    (large : IsSome run.store.files → 2 ^ 28 < length (bytes_at run.store.files name) → (r ≡ Err (TooLarge (length (bytes_at run.store.files name)) (2 ^ 28)))
+    ⊎ (r ≡ Err StoreFault) ⊎ (r ≡ Err Memory))
     (files : run.store_now.files ≡ run.store.files) (reads : (p : Part) → p ≢ Plain → run.store_now.reads p ≡ run.store.reads p) where
   pub scanned_by : Scanned name run
   scanned_by = record {

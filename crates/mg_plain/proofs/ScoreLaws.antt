@@ -15,13 +15,16 @@ use Rattle.mg_plain.specs.Counts.{AreCounts}
 use Rattle.mg_plain.specs.Products.{products}
 use Rattle.mg_plain.proofs.CountLaws.{some-freq}
 
-pub products-step : (counts weights : List ℕ) (i : ℕ) → i < length counts → i < length weights → products (drop i counts) (drop i weights) ≡ cond (nat_lt 0 (get_or counts i 0)) (weight_in_doc (get_or counts i 0) * get_or weights i 0) 0 + products (drop (i + 1) counts) (drop (i + 1) weights)
+pub products-step : (counts weights : List ℕ) (i : ℕ) → i < length counts → i < length weights →
+    products (drop i counts) (drop i weights) ≡ cond (nat_lt 0 (get_or counts i 0)) (weight_in_doc (get_or counts i 0) * get_or weights i 0) 0
+    + products (drop (i + 1) counts) (drop (i + 1) weights)
 products-step counts weights i c w = rw (add-one, drop-cons counts i 0 c, drop-cons weights i 0 w) refl
 
 later : (of : List ℕ → ℕ) (t : List ℕ) (ts : List (List ℕ)) (n : ℕ) (ns : List ℕ) → AreCounts of (t ∷ ts) (n ∷ ns) → AreCounts of ts ns
 later of t ts n ns c = record { size = omega (arith, c.size); each = λ k lt. c.each (suc k) (omega (arith, lt)) }
 
-pub products-are : (collection doc : List ℕ) (query : List (List ℕ)) (counts weights : List ℕ) → AreCounts (freq_in doc) query counts → AreCounts (wt collection) query weights → products counts weights ≡ sum_by (λ t. wd doc t * wt collection t) (filter (has_term doc) query)
+pub products-are : (collection doc : List ℕ) (query : List (List ℕ)) (counts weights : List ℕ) → AreCounts (freq_in doc) query counts →
+    AreCounts (wt collection) query weights → products counts weights ≡ sum_by (λ t. wd doc t * wt collection t) (filter (has_term doc) query)
 products-are collection doc [] [] weights c w = refl
 products-are collection doc [] (n ∷ ns) weights c w = absurd (omega (arith, c.size))
 products-are collection doc (t ∷ ts) [] weights c w = absurd (omega (arith, c.size))
@@ -45,7 +48,8 @@ products-are collection doc (t ∷ ts) (n ∷ ns) (m ∷ ms) c w =
     ]
 
 -- what `document_score` answers is the score
-pub score-is : (collection doc : List ℕ) (query : List (List ℕ)) (counts weights : List ℕ) (s : ℕ) → AreCounts (freq_in doc) query counts → AreCounts (wt collection) query weights → s ≡ score_of (products counts weights) (weight doc) → s ≡ score_over collection query doc
+pub score-is : (collection doc : List ℕ) (query : List (List ℕ)) (counts weights : List ℕ) (s : ℕ) → AreCounts (freq_in doc) query counts →
+    AreCounts (wt collection) query weights → s ≡ score_of (products counts weights) (weight doc) → s ≡ score_over collection query doc
 score-is collection doc query counts weights s c w is = is ∙ ap (λ x. score_of x (weight doc)) (products-are collection doc query counts weights c w)
 
 square_some : (doc t : List ℕ) → 65536 ≤ wd doc t * wd doc t

@@ -53,13 +53,15 @@ pub all_taken : (doc : List ℕ) (pairs : List Pair) (xs : List (Bor (List ℕ))
 unfolding terms_in
 all_taken doc pairs xs e sum = sym (append-nil (terms_of xs)) ∙ subst (λ ps. terms_of xs ++ terms_in ps ≡ terms doc) e sum
 
-pub word_taken : (xs ys : List (Bor (List ℕ))) (w : Bor (List ℕ)) (p : Pair) (pairs rest : List Pair) (all : List (List ℕ)) (none : Bool) → pairs ≡ p ∷ rest → w.now ≡ p.word → none ≡ (length p.word == 0) → none ≡ false → ys ≡ xs ++ w ∷ [] → terms_of xs ++ terms_in pairs ≡ all → terms_of ys ++ terms_in rest ≡ all
+pub word_taken : (xs ys : List (Bor (List ℕ))) (w : Bor (List ℕ)) (p : Pair) (pairs rest : List Pair) (all : List (List ℕ)) (none : Bool) → pairs ≡ p ∷ rest →
+    w.now ≡ p.word → none ≡ (length p.word == 0) → none ≡ false → ys ≡ xs ++ w ∷ [] → terms_of xs ++ terms_in pairs ≡ all → terms_of ys ++ terms_in rest ≡ all
 word_taken xs ys w p pairs rest all none e is test some pushed sum =
     let step : terms_in pairs ≡ folded w.now ∷ terms_in rest = ap terms_in e ∙ in-word p rest (empty_test p.word ∙ sym test ∙ some) ∙ ap (λ (x : List ℕ). folded x ∷ terms_in rest) (sym is) in
     let long : terms_of ys ≡ terms_of xs ++ folded w.now ∷ [] = ap terms_of pushed ∙ map-append (λ (x : Bor (List ℕ)). folded x.now) xs (w ∷ []) in
     ap (λ ts. ts ++ terms_in rest) long ∙ append_assoc (terms_of xs) (folded w.now ∷ []) (terms_in rest) ∙ ap (λ ts. terms_of xs ++ ts) (sym step) ∙ sum
 
-pub empty_passed : (xs : List (Bor (List ℕ))) (p : Pair) (pairs rest : List Pair) (all : List (List ℕ)) (none : Bool) → pairs ≡ p ∷ rest → none ≡ (length p.word == 0) → none ≡ true → terms_of xs ++ terms_in pairs ≡ all → terms_of xs ++ terms_in rest ≡ all
+pub empty_passed : (xs : List (Bor (List ℕ))) (p : Pair) (pairs rest : List Pair) (all : List (List ℕ)) (none : Bool) → pairs ≡ p ∷ rest →
+    none ≡ (length p.word == 0) → none ≡ true → terms_of xs ++ terms_in pairs ≡ all → terms_of xs ++ terms_in rest ≡ all
 empty_passed xs p pairs rest all none e test is_none sum =
     let step : terms_in pairs ≡ terms_in rest = ap terms_in e ∙ in-empty p rest (empty_test p.word ∙ sym test ∙ is_none) in
     ap (λ ts. terms_of xs ++ ts) (sym step) ∙ sum
@@ -93,7 +95,8 @@ abbrev is_there : Option (Bor (List ℕ)) → Bool
 is_there None = false
 is_there (Some x) = true
 
-pub followed : (word : List ℕ) (xs : List (Bor (List ℕ))) (next : Bor (List ℕ)) (o : Ordering) (b : Bool) → Some next ≡ slice_get xs 0 → o ≡ slice_cmp nat_cmp (folded word) (folded next.now) → b ≡ is_eq o → b ≡ goes_on (folded word) (terms_of xs)
+pub followed : (word : List ℕ) (xs : List (Bor (List ℕ))) (next : Bor (List ℕ)) (o : Ordering) (b : Bool) → Some next ≡ slice_get xs 0 →
+    o ≡ slice_cmp nat_cmp (folded word) (folded next.now) → b ≡ is_eq o → b ≡ goes_on (folded word) (terms_of xs)
 followed word [] next o b item e is = absurd (false≢true (sym (ap is_there item)))
 followed word (x ∷ xs) next o b item e is =
     let same : next ≡ x = ap (λ m. unwrap_or m next) item in

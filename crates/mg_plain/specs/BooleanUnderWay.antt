@@ -9,7 +9,8 @@ use Rattle.mg_defs.specs.ShownAnswers.{Shown, found, shown}
 use Rattle.mg_reply.specs.Pending.{Passed}
 
 -- So many documents were read, and those of them that satisfy the query were shown.
-pub record FoundSoFar (collection : List ℕ) (q : Query) (now : Settings) (before after : Option (List ℕ)) (waiting : List ℕ) (number total : ℕ) (rest : List (List ℕ)) : Type 0 where
+pub record FoundSoFar (collection : List ℕ) (q : Query) (now : Settings) (before after : Option (List ℕ))
+    (waiting : List ℕ) (number total : ℕ) (rest : List (List ℕ)) : Type 0 where
   pub front : List (List ℕ)
   pub docs_is : documents collection ≡ front ++ rest
   pub count : length front ≡ number

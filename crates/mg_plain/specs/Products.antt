@@ -6,4 +6,5 @@ use Rattle.mg_defs.specs.Weights.{weight_in_doc}
 abbrev pub products : List ℕ → List ℕ → ℕ
 products [] weights = 0
 products (freq ∷ counts) [] = 0
-products (freq ∷ counts) (weight ∷ weights) = cond (nat_lt 0 freq) (weight_in_doc freq * weight) 0 + products counts weights
+products (freq ∷ counts) (weight ∷ weights) = cond (nat_lt 0 freq) (weight_in_doc freq * weight) 0
+    + products counts weights

@@ -27,4 +27,5 @@ rows_text collection mode rows = flat_map (shown collection mode) (shown_rows ro
 -- The document of the row begins at its place.
 pub record IsPlaced (collection : List ℕ) (r : Row) : Type 0 where
   pub within : r.place ≤ length collection
-  pub document : document collection r.number ≡ take (prefix_len is_inside (drop r.place collection)) (drop r.place collection)
+  pub document : document collection r.number ≡ take (prefix_len is_inside (drop r.place collection))
+      (drop r.place collection)

@@ -18,15 +18,18 @@ hits_from collection query n documents =
     (filter (λ (d : ℕ × List ℕ). list_any (has_term d.1) query) (enumerate_from n documents))
 
 -- So many documents were read, and each was counted at the terms that it has.
-pub record Tallied (collection : List ℕ) (query : List (List ℕ)) (found : List ℕ) (number : ℕ) (rest : List (List ℕ)) : Type 0 where
+pub record Tallied (collection : List ℕ) (query : List (List ℕ)) (found : List ℕ) (number : ℕ) (rest : List (List ℕ)) :
+    Type 0 where
   pub front : List (List ℕ)
   pub docs_is : documents collection ≡ front ++ rest
   pub count : length front ≡ number
   pub size : length found ≡ length query
-  pub each : (k : ℕ) → k < length query → get_or found k 0 + having (get_or query k []) rest ≡ docs collection (get_or query k [])
+  pub each : (k : ℕ) → k < length query → get_or found k 0 + having (get_or query k []) rest
+      ≡ docs collection (get_or query k [])
 
 -- So many documents were read, and the rows are those of them that have a term; the rest begins at the place.
-pub record Ranked (collection : List ℕ) (query : List (List ℕ)) (rows : List Row) (number place : ℕ) (rest : List (List ℕ)) : Type 0 where
+pub record Ranked (collection : List ℕ) (query : List (List ℕ)) (rows : List Row) (number place : ℕ)
+    (rest : List (List ℕ)) : Type 0 where
   pub front : List (List ℕ)
   pub docs_is : documents collection ≡ front ++ rest
   pub count : length front ≡ number

@@ -19,14 +19,16 @@ pub record Scanned (name : List ℕ) (run : Run) : Type 0 where
   pub done : IsSome run.store.files → (given : List ℕ) → run.input.left ≡ Some given → run.status ≡ Done
       → run.out_now.written ≡ appended run.out.written (session (bytes_at run.store.files name) given)
   pub left : (given : List ℕ) → run.input.left ≡ Some given → run.status ≡ Done → LeftEnough given run.input_now.left
-  pub within : (given : List ℕ) → run.input.left ≡ Some given → run.status ≡ Done → is_too_much input_limit given ≡ false
+  pub within : (given : List ℕ) → run.input.left ≡ Some given → run.status ≡ Done →
+      is_too_much input_limit given ≡ false
   -- every status: a prefix of the session is printed, and nothing after the statuses 7 and 8
   pub prefix : IsSome run.store.files → (given : List ℕ) → run.input.left ≡ Some given
       → GrewByPrefix run.out.written run.out_now.written (session (bytes_at run.store.files name) given)
   pub silent : Stops run NoCollection → SaysNothing run
   pub silent_large : (size most : ℕ) → Stops run (TooLarge size most) → SaysNothing run
   -- the cause of every other status; 7 and 8 come exactly where they have it, unless the store fails or memory is wanting
-  pub cause : IfStopped run.status (ScanStops name (StoreFailed run) (InputFailed run) (OutputFailed run) run.store.files run.input.left)
+  pub cause : IfStopped run.status (ScanStops name (StoreFailed run) (InputFailed run) (OutputFailed run)
+      run.store.files run.input.left)
   pub missing : IsSome run.store.files → file_at run.store.files name ≡ None
       → StopsUnless run NoCollection
   pub large : IsSome run.store.files → held_bytes < length (bytes_at run.store.files name)

@@ -8,9 +8,12 @@ use Rattle.mg_plain.specs.Counts.{AreCounts}
 
 -- the score of a document for each list of terms that come so often in it, over each collection in which they weigh so much
 abbrev pub IsScoreBy : List ℕ → List ℕ → List ℕ → ℕ → Type 0
-IsScoreBy doc counts weights s = (collection : List ℕ) (query : List (List ℕ)) → AreCounts (freq_in doc) query counts → AreCounts (wt collection) query weights → s ≡ score_over collection query doc
+IsScoreBy doc counts weights s = (collection : List ℕ) (query : List (List ℕ)) → AreCounts (freq_in doc) query counts →
+    AreCounts (wt collection) query weights → s ≡ score_over collection query doc
 
 -- the score of a document for terms that weigh so much; none exactly where it has none of them
 abbrev pub IsScoreFor : List ℕ → List (List ℕ) → List ℕ → Option ℕ → Type 0
 IsScoreFor doc terms weights found =
-    MatchOption found (list_any (has_term doc) terms ≡ false) (λ s. (list_any (has_term doc) terms ≡ true) × ((collection : List ℕ) → AreCounts (wt collection) terms weights → s ≡ score_over collection terms doc))
+    MatchOption found (list_any (has_term doc) terms ≡ false) (λ s.
+    (list_any (has_term doc) terms ≡ true)
+    × ((collection : List ℕ) → AreCounts (wt collection) terms weights → s ≡ score_over collection terms doc))

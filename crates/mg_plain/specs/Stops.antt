@@ -28,6 +28,7 @@ RefusesLarge result bytes = held_bytes < length bytes → RefusedFor result (Too
 -- why a scan stops: reading its input, writing its replies, and before both loading its collection
 abbrev pub ScanStops : List ℕ → Type 0 → Type 0 → Type 0 → Option Files → Option (List ℕ) → Fault → Type 0
 ScanStops name store_rose input_rose output_rose files input ReadFault = input_rose
-ScanStops name store_rose input_rose output_rose files input InputTooLong = ForSome input (λ given. is_too_much input_limit given ≡ true)
+ScanStops name store_rose input_rose output_rose files input InputTooLong =
+    ForSome input (λ given. is_too_much input_limit given ≡ true)
 ScanStops name store_rose input_rose output_rose files input WriteFault = output_rose
 ScanStops name store_rose input_rose output_rose files input fault = LoadStops store_rose files name fault

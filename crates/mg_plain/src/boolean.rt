@@ -69,7 +69,8 @@ fn put_found<O: Sink>(
     requires terms { terms.now ≡ query_terms (query_of query.now) }
     requires size { vec_len counts.old ≡ length (query_terms (query_of query.now)) }
     requires there { vec_len there.old ≡ length (query_terms (query_of query.now)) }
-    ensures content { AfterPut (O.written out.old) (O.written out.new) (answer_text bytes.now now.now (satisfying bytes.now (query_of query.now))) result }
+    ensures content { AfterPut (O.written out.old) (O.written out.new)
+        (answer_text bytes.now now.now (satisfying bytes.now (query_of query.now))) result }
     ensures cause { HasPutCause (O.faults out.old) (O.faults out.new) result }
     ensures lack { HasLack (O.lacks out.old) (O.lacks out.new) result }
 {
@@ -104,10 +105,13 @@ fn answer_query<O: Sink>(
     out: &mut O,
 ) -> Result<(), ShowErr>
     requires { length bytes.now ≤ 2 ^ 28 }
-    ensures content { AfterPut (O.written out.old) (O.written out.new) (answer_text bytes.now now.now (satisfying bytes.now (query_of query.now))) result }
+    ensures content { AfterPut (O.written out.old) (O.written out.new)
+        (answer_text bytes.now now.now (satisfying bytes.now (query_of query.now))) result }
     ensures later { O.faults out.old ≤ O.faults out.new }
-    ensures cause { IfErr result (AnswerStops (Rose (O.faults out.old) (O.faults out.new)) (Rose (O.lacks out.old) (O.lacks out.new))) }
-    ensures silent { IsErrOf result (ShowErr.Part PartErr.Memory) → O.written out.new ≡ O.written out.old }
+    ensures cause { IfErr result (AnswerStops (Rose (O.faults out.old) (O.faults out.new))
+        (Rose (O.lacks out.old) (O.lacks out.new))) }
+    ensures silent { IsErrOf result (ShowErr.Part PartErr.Memory) →
+        O.written out.new ≡ O.written out.old }
 {
     let terms = query.terms(alloc)?;
     let mut counts = no_counts(alloc, &terms)?;
@@ -128,10 +132,13 @@ pub(crate) fn answer_boolean<O: Sink>(
 ) -> Result<(), ShowErr>
     requires small { length bytes.now ≤ 2 ^ 28 }
     requires short { length line.now ≤ 1024 }
-    ensures content { AfterPut (O.written out.old) (O.written out.new) (boolean_reply bytes.now now.now (boolean line.now)) result }
+    ensures content { AfterPut (O.written out.old) (O.written out.new)
+        (boolean_reply bytes.now now.now (boolean line.now)) result }
     ensures later { O.faults out.old ≤ O.faults out.new }
-    ensures cause { IfErr result (AnswerStops (Rose (O.faults out.old) (O.faults out.new)) (Rose (O.lacks out.old) (O.lacks out.new))) }
-    ensures silent { IsErrOf result (ShowErr.Part PartErr.Memory) → O.written out.new ≡ O.written out.old }
+    ensures cause { IfErr result (AnswerStops (Rose (O.faults out.old) (O.faults out.new))
+        (Rose (O.lacks out.old) (O.lacks out.new))) }
+    ensures silent { IsErrOf result (ShowErr.Part PartErr.Memory) →
+        O.written out.new ≡ O.written out.old }
 {
     match parse_boolean(alloc, line) {
         Ok(query) => answer_query(alloc, bytes, &query, now, out),

@@ -13,7 +13,8 @@ fn count_word(word: &[u8], terms: &[Term], counts: &mut [u32])
     requires small { (k : ℕ) → k < length terms.now → get_or counts.old k 0 < 2 ^ 31 }
     ensures size { length counts.new ≡ length terms.now }
     ensures each { (k : ℕ) → k < length terms.now →
-        get_or counts.new k 0 ≡ get_or counts.old k 0 + cond (same_term (get_or terms.now k []) (folded word.now)) 1 0 }
+        get_or counts.new k 0 ≡ get_or counts.old k 0 + cond
+        (same_term (get_or terms.now k []) (folded word.now)) 1 0 }
 {
     for (i, term) in terms.iter().enumerate() {
         if is_term(word, term.as_bytes()) {
@@ -42,7 +43,8 @@ pub(crate) fn count_terms(doc: &[u8], terms: &[Term], counts: &mut [u32])
 pub(crate) fn mark_counted(counts: &[u32], there: &mut [bool])
     requires { length there.old ≡ length counts.now }
     ensures size { length there.new ≡ length counts.now }
-    ensures each { (k : ℕ) → k < length counts.now → get_or there.new k true ≡ nat_lt 0 (get_or counts.now k 0) }
+    ensures each { (k : ℕ) → k < length counts.now → get_or there.new k true
+        ≡ nat_lt 0 (get_or counts.now k 0) }
 {
     for (i, count) in counts.iter().enumerate() {
         there[i] = *count > 0;

@@ -60,7 +60,8 @@ impl<'a> Docs<'a> {
     }
 
     pub fn next_doc(&mut self) -> Option<&'a [u8]>
-        ensures { MatchOption result ((self.old ≡ []) × (self.new ≡ [])) (λ doc. self.old ≡ doc.now ∷ self.new) }
+        ensures { MatchOption result ((self.old ≡ []) × (self.new ≡ []))
+            (λ doc. self.old ≡ doc.now ∷ self.new) }
     {
         if self.rest.is_empty() {
             return None;

@@ -50,10 +50,13 @@ fn read_whole<S: Store>(
 ) -> Result<PlainText, Fault>
     requires small { size ≤ 2 ^ 28 }
     requires known { HasSize (S.files store.old) name.now size }
-    ensures content { IsSome (S.files store.old) → IfOk result (λ text. file_at (S.files store.old) name.now ≡ Some text) }
-    ensures cause { IfErr result (LoadStops (Rose (S.faults store.old) (S.faults store.new)) (S.files store.old) name.now) }
+    ensures content { IsSome (S.files store.old) →
+        IfOk result (λ text. file_at (S.files store.old) name.now ≡ Some text) }
+    ensures cause { IfErr result (LoadStops (Rose (S.faults store.old) (S.faults store.new))
+        (S.files store.old) name.now) }
     ensures files { S.files store.new ≡ S.files store.old }
-    ensures reads { (p : Part) → same_part p Plain ≡ false → S.reads store.new p ≡ S.reads store.old p }
+    ensures reads { (p : Part) → same_part p Plain ≡ false →
+        S.reads store.new p ≡ S.reads store.old p }
     ensures later { S.faults store.old ≤ S.faults store.new }
 {
     let file = FileRef {
@@ -87,11 +90,15 @@ impl PlainText {
     /// `Changed` where it gave fewer bytes than its size.
     #[tactic(auto, using(mg_dev::specs::Laws::file_laws))]
     pub fn load<S: Store>(alloc: Global, store: &mut S, name: &str) -> Result<PlainText, Fault>
-        ensures content { IsSome (S.files store.old) → IfOk result (λ text. file_at (S.files store.old) name.now ≡ Some text) }
+        ensures content { IsSome (S.files store.old) →
+            IfOk result (λ text. file_at (S.files store.old) name.now ≡ Some text) }
         ensures small { IfOk result (λ text. length text ≤ 2 ^ 28) }
-        ensures cause { IfErr result (LoadStops (Rose (S.faults store.old) (S.faults store.new)) (S.files store.old) name.now) }
+        ensures cause { IfErr result
+            (LoadStops (Rose (S.faults store.old) (S.faults store.new)) (S.files store.old)
+            name.now) }
         ensures files { S.files store.new ≡ S.files store.old }
-        ensures reads { (p : Part) → same_part p Plain ≡ false → S.reads store.new p ≡ S.reads store.old p }
+        ensures reads { (p : Part) → same_part p Plain ≡ false →
+            S.reads store.new p ≡ S.reads store.old p }
         ensures later { S.faults store.old ≤ S.faults store.new }
     {
         let file = FileRef {
@@ -127,11 +134,15 @@ impl PlainText {
         out: &mut O,
     ) -> Result<(), ShowErr>
         requires { length line.now ≤ 1024 }
-        ensures content { AfterPut (O.written out.old) (O.written out.new) (reply self.now now.now line.now) result }
+        ensures content { AfterPut (O.written out.old) (O.written out.new)
+            (reply self.now now.now line.now) result }
         ensures later { O.faults out.old ≤ O.faults out.new }
-        ensures cause { IfErr result (AnswerStops (Rose (O.faults out.old) (O.faults out.new)) (Rose (O.lacks out.old) (O.lacks out.new))) }
+        ensures cause { IfErr result
+            (AnswerStops (Rose (O.faults out.old) (O.faults out.new))
+            (Rose (O.lacks out.old) (O.lacks out.new))) }
         // The allocator lacks memory only before anything is written.
-        ensures silent { IsErrOf result (ShowErr.Part PartErr.Memory) → O.written out.new ≡ O.written out.old }
+        ensures silent { IsErrOf result (ShowErr.Part PartErr.Memory) →
+            O.written out.new ≡ O.written out.old }
     {
         if now.ranked {
             answer_ranked(alloc, &self.bytes, line, now, out)

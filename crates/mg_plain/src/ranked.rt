@@ -24,7 +24,8 @@ use std::alloc::Global;
 /// The document that begins at a place.
 fn document_at(bytes: &[u8], place: u32) -> &[u8]
     requires { place ≤ length bytes.now }
-    ensures { result.now ≡ take (prefix_len is_inside (drop place bytes.now)) (drop place bytes.now) }
+    ensures { result.now ≡ take (prefix_len is_inside (drop place bytes.now))
+        (drop place bytes.now) }
 {
     let rest = &bytes[place as usize..];
     &rest[..doc_len(rest)]
@@ -39,7 +40,8 @@ fn put_row<O: Sink>(
     row: Row,
 ) -> Result<(), PutErr>
     requires { IsPlaced bytes.now row }
-    ensures content { AfterPass (O.written out.old) (O.written out.new) pending.old pending.new (shown bytes.now mode (shown_of row)) result }
+    ensures content { AfterPass (O.written out.old) (O.written out.new) pending.old pending.new
+        (shown bytes.now mode (shown_of row)) result }
     ensures cause { HasPutCause (O.faults out.old) (O.faults out.new) result }
     ensures lack { HasLack (O.lacks out.old) (O.lacks out.new) result }
 {
@@ -60,7 +62,8 @@ fn put_rows<O: Sink>(
     rows: &[Row],
 ) -> Result<(), PutErr>
     requires { All (IsPlaced bytes.now) rows.now }
-    ensures content { AfterPass (O.written out.old) (O.written out.new) pending.old pending.new (rows_text bytes.now mode rows.now) result }
+    ensures content { AfterPass (O.written out.old) (O.written out.new) pending.old pending.new
+        (rows_text bytes.now mode rows.now) result }
     ensures cause { HasPutCause (O.faults out.old) (O.faults out.new) result }
     ensures lack { HasLack (O.lacks out.old) (O.lacks out.new) result }
 {
@@ -92,7 +95,8 @@ fn put_answer<O: Sink>(
 ) -> Result<(), PutErr>
     requires few { length rows.now ≤ 2 ^ 28 }
     requires placed { All (IsPlaced bytes.now) rows.now }
-    ensures content { AfterPut (O.written out.old) (O.written out.new) (answer_text bytes.now now.now (shown_rows rows.now)) result }
+    ensures content { AfterPut (O.written out.old) (O.written out.new)
+        (answer_text bytes.now now.now (shown_rows rows.now)) result }
     ensures cause { HasPutCause (O.faults out.old) (O.faults out.new) result }
     ensures lack { HasLack (O.lacks out.old) (O.lacks out.new) result }
 {
@@ -119,10 +123,13 @@ fn answer_terms<O: Sink>(
 ) -> Result<(), ShowErr>
     requires small { length bytes.now ≤ 2 ^ 28 }
     requires few { length terms.now ≤ 64 }
-    ensures content { AfterPut (O.written out.old) (O.written out.new) (answer_text bytes.now now.now (ranked_as (hits_over bytes.now terms.now))) result }
+    ensures content { AfterPut (O.written out.old) (O.written out.new)
+        (answer_text bytes.now now.now (ranked_as (hits_over bytes.now terms.now))) result }
     ensures later { O.faults out.old ≤ O.faults out.new }
-    ensures cause { IfErr result (AnswerStops (Rose (O.faults out.old) (O.faults out.new)) (Rose (O.lacks out.old) (O.lacks out.new))) }
-    ensures silent { IsErrOf result (ShowErr.Part PartErr.Memory) → O.written out.new ≡ O.written out.old }
+    ensures cause { IfErr result (AnswerStops (Rose (O.faults out.old) (O.faults out.new))
+        (Rose (O.lacks out.old) (O.lacks out.new))) }
+    ensures silent { IsErrOf result (ShowErr.Part PartErr.Memory) →
+        O.written out.new ≡ O.written out.old }
 {
     let mut rows = rows_of(alloc, bytes, terms)?;
     sort_rows(&mut rows);
@@ -142,10 +149,13 @@ pub(crate) fn answer_ranked<O: Sink>(
 ) -> Result<(), ShowErr>
     requires small { length bytes.now ≤ 2 ^ 28 }
     requires short { length line.now ≤ 1024 }
-    ensures content { AfterPut (O.written out.old) (O.written out.new) (ranked_reply bytes.now now.now (ranked line.now)) result }
+    ensures content { AfterPut (O.written out.old) (O.written out.new)
+        (ranked_reply bytes.now now.now (ranked line.now)) result }
     ensures later { O.faults out.old ≤ O.faults out.new }
-    ensures cause { IfErr result (AnswerStops (Rose (O.faults out.old) (O.faults out.new)) (Rose (O.lacks out.old) (O.lacks out.new))) }
-    ensures silent { IsErrOf result (ShowErr.Part PartErr.Memory) → O.written out.new ≡ O.written out.old }
+    ensures cause { IfErr result (AnswerStops (Rose (O.faults out.old) (O.faults out.new))
+        (Rose (O.lacks out.old) (O.lacks out.new))) }
+    ensures silent { IsErrOf result (ShowErr.Part PartErr.Memory) →
+        O.written out.new ≡ O.written out.old }
 {
     match parse_ranked(alloc, line) {
         Ok(terms) => answer_terms(alloc, bytes, &terms, now, out),

@@ -22,7 +22,8 @@ fn add_document(counts: &[u32], found: &mut [u32])
     requires same { length found.old ≡ length counts.now }
     requires small { (k : ℕ) → k < length counts.now → get_or found.old k 0 < 2 ^ 31 }
     ensures same { length found.new ≡ length counts.now }
-    ensures each { (k : ℕ) → k < length counts.now → get_or found.new k 0 ≡ get_or found.old k 0 + cond (nat_lt 0 (get_or counts.now k 0)) 1 0 }
+    ensures each { (k : ℕ) → k < length counts.now → get_or found.new k 0
+        ≡ get_or found.old k 0 + cond (nat_lt 0 (get_or counts.now k 0)) 1 0 }
 {
     for (i, count) in counts.iter().enumerate() {
         if *count > 0 {
@@ -71,7 +72,8 @@ fn weight_of(found: u32, all: u32) -> u32
 fn weigh_each(found: &mut [u32], all: u32)
     requires { (k : ℕ) → k < length found.old → get_or found.old k 0 ≤ all }
     ensures same { length found.new ≡ length found.old }
-    ensures each { (k : ℕ) → k < length found.old → get_or found.new k 0 ≡ weight_of_term (get_or found.old k 0) all }
+    ensures each { (k : ℕ) → k < length found.old → get_or found.new k 0
+        ≡ weight_of_term (get_or found.old k 0) all }
     ensures light { (k : ℕ) → k < length found.old → get_or found.new k 0 < 2 ^ 14 }
 {
     for one in found.iter_mut() {

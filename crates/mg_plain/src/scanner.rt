@@ -78,16 +78,24 @@ fn scan_text<S: Store, I: Source, O: Sink>(
     ensures files { S.files store.new ≡ S.files store.old }
     ensures reads { (p : Part) → p ≢ Plain → S.reads store.new p ≡ S.reads store.old p }
     ensures all { IsSome (S.files store.old) →
-        PrintsAll I.left O.written input.old out.old out.new result session (bytes_at (S.files store.old) name.now) }
-    ensures left { ForSome (I.left input.old) (λ given. OnOk result (LeftEnough given (I.left input.new))) }
-    ensures within { ForSome (I.left input.old) (λ given. OnOk result (is_too_much input_limit given ≡ false)) }
+        PrintsAll I.left O.written input.old out.old out.new result session
+        (bytes_at (S.files store.old) name.now) }
+    ensures left { ForSome (I.left input.old)
+        (λ given. OnOk result (LeftEnough given (I.left input.new))) }
+    ensures within { ForSome (I.left input.old) (λ given.
+        OnOk result (is_too_much input_limit given ≡ false)) }
     ensures prefix { IsSome (S.files store.old) →
-        PrintsPrefix I.left O.written input.old out.old out.new session (bytes_at (S.files store.old) name.now) }
+        PrintsPrefix I.left O.written input.old out.old out.new session
+        (bytes_at (S.files store.old) name.now) }
     ensures silent { IsErrOf result NoCollection → O.written out.new ≡ O.written out.old }
-    ensures silent_large { (size most : ℕ) → IsErrOf result (TooLarge size most) → O.written out.new ≡ O.written out.old }
-    ensures cause { StopsBy S.Store I.Source O.Sink store.old store.new input.old input.new out.old out.new result (ScanStops name.now) }
-    ensures missing { IsSome (S.files store.old) → file_at (S.files store.old) name.now ≡ None → RefusedFor result NoCollection }
-    ensures large { IsSome (S.files store.old) → RefusesLarge result (bytes_at (S.files store.old) name.now) }
+    ensures silent_large { (size most : ℕ) → IsErrOf result (TooLarge size most) →
+        O.written out.new ≡ O.written out.old }
+    ensures cause { StopsBy S.Store I.Source O.Sink store.old store.new input.old input.new out.old
+        out.new result (ScanStops name.now) }
+    ensures missing { IsSome (S.files store.old) → file_at (S.files store.old) name.now ≡ None →
+        RefusedFor result NoCollection }
+    ensures large { IsSome (S.files store.old) →
+        RefusesLarge result (bytes_at (S.files store.old) name.now) }
     ensures store_later { S.faults store.old ≤ S.faults store.new }
 {
     let text = match PlainText::load(alloc, store, name) {
@@ -119,7 +127,8 @@ pub fn scan<S: Store, I: Source, O: Sink>(
     out: &mut O,
 ) -> Result<(), Fault>
     // What a run does that scans, whatever its error output is.
-    ensures scanned { Runs S.Store I.Source O.Sink store.old store.new input.old input.new out.old out.new result (Scanned name.now) }
+    ensures scanned { Runs S.Store I.Source O.Sink store.old store.new input.old input.new out.old
+        out.new result (Scanned name.now) }
     ensures store_later { S.faults store.old ≤ S.faults store.new }
 {
     scan_text(alloc, store, name, input, out)

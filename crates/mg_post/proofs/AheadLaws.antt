@@ -154,7 +154,8 @@ high_below b size few bits count c code le at small =
 
 -- ---- gaps and counts
 
-pub golomb_takes : (b size few q v bits count rest left last behind : ℕ) → IsGapCode b size few → v < b → Takes (unary (1 + q)) bits count rest left → Takes (short b v) rest left last behind → Takes (golomb b (q * b + v + 1)) bits count last behind
+pub golomb_takes : (b size few q v bits count rest left last behind : ℕ) → IsGapCode b size few → v < b → Takes (unary (1 + q)) bits count rest left →
+    Takes (short b v) rest left last behind → Takes (golomb b (q * b + v + 1)) bits count last behind
 golomb_takes b size few q v bits count rest left last behind code below one two =
     rw (golomb_is b (q * b + v + 1) q v code.some refl below) (takes_both (unary (1 + q)) (short b v) bits count rest left last behind one two)
 
@@ -183,7 +184,8 @@ gamma_takes bits count rest left n c power few le at is one =
     let up : 2 ^ n ≤ 2 ^ 28 = pow_mono n_le in
     let log : IsLog (2 ^ n + v) n = record { low = omega arith; high = omega (arith, two-pow-succ n, below) } in
     let two : Takes (digits n (2 ^ n + v)) rest left (rest % 2 ^ c) c = takes_first (digits n (2 ^ n + v)) n c left rest sum (with_highest n v below) in
-    let both : Takes (gamma (2 ^ n + v)) bits count (rest % 2 ^ c) c = rw (gamma_is n (2 ^ n + v) log (omega (arith, below, up))) (takes_both (unary (1 + n)) (digits n (2 ^ n + v)) bits count rest left (rest % 2 ^ c) c one two) in
+    let both : Takes (gamma (2 ^ n + v)) bits count (rest % 2 ^ c) c = rw (gamma_is n (2 ^ n + v) log (omega (arith, below, up)))
+    (takes_both (unary (1 + n)) (digits n (2 ^ n + v)) bits count rest left (rest % 2 ^ c) c one two) in
     (rw is both, omega (arith, is, below, up))
 
 pub posting_takes : (b before gap freq bits count rest left last behind : ℕ) → Takes (golomb b gap) bits count rest left → Takes (gamma freq) rest left last behind →
@@ -210,11 +212,13 @@ pub peeked_ahead : (feed : Feeding) (fits : Option Files → Type 0) (place bits
 peeked_ahead feed fits place bits low small holds told = record { below = small; few = omega arith; held = λ some. holds; told = told; small = λ some. omega (arith, low) }
 
 -- where a code stands first, so does it at the place, and what is left stands behind it
-pub code_stands : (told : Option (List ℕ)) (place bits count rest left : ℕ) (code : Bits) → Takes code bits count rest left → FromPlace told place (Begins (digits count bits)) → FromPlace told place (Begins code)
+pub code_stands : (told : Option (List ℕ)) (place bits count rest left : ℕ) (code : Bits) → Takes code bits count rest left →
+    FromPlace told place (Begins (digits count bits)) → FromPlace told place (Begins code)
 code_stands None place bits count rest left code takes begins = tt
 code_stands (Some bytes) place bits count rest left code takes begins = begins_first code (digits left rest) _ (subst (λ l. Begins l (drop place (bits_of bytes))) takes.whole begins)
 
-rest_stands : (told : Option (List ℕ)) (place next bits count rest left : ℕ) (code : Bits) → next ≡ place + length code → Takes code bits count rest left → FromPlace told place (Begins (digits count bits)) → FromPlace told next (Begins (digits left rest))
+rest_stands : (told : Option (List ℕ)) (place next bits count rest left : ℕ) (code : Bits) → next ≡ place + length code → Takes code bits count rest left →
+    FromPlace told place (Begins (digits count bits)) → FromPlace told next (Begins (digits left rest))
 rest_stands None place next bits count rest left code at takes begins = tt
 rest_stands (Some bytes) place next bits count rest left code at takes begins =
     rw at (rw drop-drop at (begins_second code (digits left rest) _ (subst (λ l. Begins l (drop place (bits_of bytes))) takes.whole begins)))
@@ -237,7 +241,8 @@ code_held feed fits place bits count rest left code page takes fewer ahead d =
 
 -- ---- the posting that stands at a place is one
 
-begun : (told : Option (List ℕ)) (place limit x : ℕ) (within : ℕ → Type 0) (words : ℕ → Bits) → within x → FromPlace told place (Begins (words x)) → FromPlace told place (AnswersCode (Ok x) within words limit place)
+begun : (told : Option (List ℕ)) (place limit x : ℕ) (within : ℕ → Type 0) (words : ℕ → Bits) → within x → FromPlace told place (Begins (words x)) →
+    FromPlace told place (AnswersCode (Ok x) within words limit place)
 begun None place limit x within words taken begins = tt
 begun (Some bytes) place limit x within words taken begins = (taken, begins)
 
@@ -249,7 +254,8 @@ begun_second : (told : Option (List ℕ)) (place : ℕ) (a b : Bits) → FromPla
 begun_second None place a b begins = tt
 begun_second (Some bytes) place a b begins = rw drop-drop at (begins_second a b _ begins)
 
-pub one_posting : (told : Option (List ℕ)) (place b before all bits count rest left : ℕ) (q p : Posting) → 1 ≤ b → b < 2 ^ 48 → Takes (posting_bits b before q) bits count rest left → FromPlace told place (Begins (digits count bits)) →
+pub one_posting : (told : Option (List ℕ)) (place b before all bits count rest left : ℕ) (q p : Posting) → 1 ≤ b → b < 2 ^ 48 →
+    Takes (posting_bits b before q) bits count rest left → FromPlace told place (Begins (digits count bits)) →
     Follows all before q → Follows all before p → Shows told place (posting_bits b before p) → q ≡ p
 unfolding posting_bits
 one_posting told place b before all bits count rest left q p some small takes begins one two shows =
@@ -257,7 +263,8 @@ one_posting told place b before all bits count rest left q p some small takes be
     let stands : FromPlace told place (Begins (golomb b gap ++ gamma q.freq)) = code_stands told place bits count rest left (golomb b gap ++ gamma q.freq) takes begins in
     let same : gap ≡ p.doc - before =
     gap_got told (Ok gap) (all - before) place b before all p some small refl two shows
-    (begun told place (all - before) gap (UpTo (all - before)) (golomb b) (omega (arith, one.after), omega (arith, one.within, one.after)) (begun_first told place (golomb b gap) (gamma q.freq) stands)) in
+    (begun told place (all - before) gap (UpTo (all - before)) (golomb b) (omega (arith, one.after), omega (arith, one.within, one.after))
+    (begun_first told place (golomb b gap) (gamma q.freq) stands)) in
     let freq : q.freq ≡ p.freq =
     freq_got told (Ok q.freq) place (place + length (golomb b gap)) b before all gap p refl same two shows
     (begun told (place + length (golomb b gap)) 4294967295 q.freq (UpTo 4294967295) gamma (one.some, omega (arith, one.fits)) (begun_second told place (golomb b gap) (gamma q.freq) stands)) in

@@ -85,7 +85,9 @@ walks_in all doc ps reached last held left rises some le w =
           let mine : Rises all (last_doc 0 w.passed) held = rises_right all 0 w.passed held whole in
           let end : last ≡ last_doc (last_doc 0 w.passed) held = front_last ps w.passed held reached last w.last_is w.front in
           let within : doc ≤ last_doc (last_doc 0 w.passed) held = omega arith in
-          let go : from_doc doc (held ++ drop (64 * reached) ps) ≡ from_doc doc held ++ drop (64 * reached) ps = from_within all (last_doc 0 w.passed) doc held (drop (64 * reached) ps) (rw (sym w.left_is) at (left_rises all ps reached last held left rises w)) within in
+          let go : from_doc doc (held ++ drop (64 * reached) ps) ≡ from_doc doc held ++ drop (64 * reached) ps =
+          from_within all (last_doc 0 w.passed) doc held (drop (64 * reached) ps) (rw (sym w.left_is) at (left_rises all ps reached last held left rises w))
+          within in
           let go : from_doc doc left ≡ from_doc doc held ++ drop (64 * reached) ps = ap (from_doc doc) (sym w.left_is) ∙ go in
           let more : 0 < length (from_doc doc held) = inside_some all (last_doc 0 w.passed) doc held mine there within in
           let same : from_doc doc held ≡ forward_to doc held = sym (forward_from all (last_doc 0 w.passed) doc held mine) in
@@ -132,7 +134,8 @@ walks_on all doc b ps reached last blocks block before to at post_at count held 
     let within : doc ≤ last_doc (last_doc 0 (take (64 * block) ps)) (block_of block ps) = rw (doc_next block ps) at found.range.within in
     let some : 0 < length (from_doc doc (block_of block ps)) = from_some all (last_doc 0 (take (64 * block) ps)) doc (block_of block ps) mine found.range.after within in
     let split : ps ≡ take (64 * block) ps ++ (block_of block ps ++ drop (64 * (block + 1)) ps) =
-    sym (take-append-drop (64 * (block + 1)) ps) ∙ ap (λ l. l ++ drop (64 * (block + 1)) ps) (blocks_next block ps) ∙ append_assoc (take (64 * block) ps) (block_of block ps) (drop (64 * (block + 1)) ps) in
+    sym (take-append-drop (64 * (block + 1)) ps) ∙ ap (λ l. l ++ drop (64 * (block + 1)) ps) (blocks_next block ps)
+    ∙ append_assoc (take (64 * block) ps) (block_of block ps) (drop (64 * (block + 1)) ps) in
     let whole : Rises all (last_doc 0 (take (64 * block) ps)) (block_of block ps ++ drop (64 * (block + 1)) ps) =
     rises_right all 0 (take (64 * block) ps) (block_of block ps ++ drop (64 * (block + 1)) ps) (subst (Rises all 0) split rises) in
     let go : from_doc doc left ≡ from_doc doc (block_of block ps) ++ drop (64 * (block + 1)) ps =
@@ -173,13 +176,15 @@ in_block b all doc ps reached last held left now result is rises some le stands 
     let w = walks_in all doc ps reached last held left rises some le (walks_of b ps reached last held left is stands) in
     (got ∙ ap head_of went ∙ w.1, stands_of b ps reached last now (from_doc doc left) is (subst (λ l. Walks ps reached last l (from_doc doc left)) (sym went) w.0))
 
-pub at_end : (e : Bool) (all doc : ℕ) (ps : List Posting) (reached last blocks then : ℕ) (held left now : List Posting) → e ≡ false → Rises all 0 ps → last < doc → length ps ≤ 64 * blocks → doc_before (64 * blocks) ps < doc →
+pub at_end : (e : Bool) (all doc : ℕ) (ps : List Posting) (reached last blocks then : ℕ) (held left now : List Posting) → e ≡ false → Rises all 0 ps →
+    last < doc → length ps ≤ 64 * blocks → doc_before (64 * blocks) ps < doc →
     StandsOn e ps reached last held left → now ≡ [] → (None ≡ head_of (from_doc doc left)) × StandsOn true ps then last now (from_doc doc left)
 at_end e all doc ps reached last blocks then held left now is rises lt whole past stands clear =
     let none : from_doc doc left ≡ [] = walks_end all doc ps reached last blocks held left rises lt whole past (walks_of e ps reached last held left is stands) in
     (ap head_of (sym none), (clear, none))
 
-pub on_block : (e : Bool) (all doc b : ℕ) (ps : List Posting) (reached last blocks block before to at post_at count : ℕ) (held left inside now : List Posting) (p : Posting) → e ≡ false → Rises all 0 ps → last < doc →
+pub on_block : (e : Bool) (all doc b : ℕ) (ps : List Posting) (reached last blocks block before to at post_at count : ℕ) (held left inside now : List Posting)
+    (p : Posting) → e ≡ false → Rises all 0 ps → last < doc →
     StandsOn e ps reached last held left → IsFoundAt b ps blocks doc block before to at → Entered b ps post_at block doc p inside count → now ≡ inside →
     (Some p ≡ head_of (from_doc doc left)) × StandsOn e ps (block + 1) to now (from_doc doc left)
 on_block e all doc b ps reached last blocks block before to at post_at count held left inside now p is rises lt stands found entered swapped =
@@ -224,7 +229,8 @@ next_beyond false all ps reached last (p ∷ []) left is rises few w =
 next_beyond false all ps reached last (p ∷ q ∷ held) left is rises few w = absurd (omega (arith, few))
 
 -- the next posting of the block at hand
-pub next_within : (b : Bool) (ps : List Posting) (reached last : ℕ) (held left now : List Posting) (p : Posting) → b ≡ false → 1 < length held → now ≡ drop 1 held → head_of now ≡ Some p → StandsOn b ps reached last held left →
+pub next_within : (b : Bool) (ps : List Posting) (reached last : ℕ) (held left now : List Posting) (p : Posting) → b ≡ false → 1 < length held →
+    now ≡ drop 1 held → head_of now ≡ Some p → StandsOn b ps reached last held left →
     (Some p ≡ head_of (after held left)) × StandsOn b ps reached last now (after held left)
 next_within true ps reached last held left now p is more went here stands = absurd cc
 next_within false ps reached last [] left now p is more went here w = absurd (omega (arith, more))
@@ -242,7 +248,8 @@ next_within false ps reached last (q ∷ held) left now p is more went here w =
     )
 
 -- within the block at hand the document that is asked for is at most the block's last
-pub next_low : (b : Bool) (all : ℕ) (ps : List Posting) (reached last : ℕ) (held left : List Posting) → b ≡ false → Rises all 0 ps → 1 < length held → StandsOn b ps reached last held left → next_doc held ≤ last
+pub next_low : (b : Bool) (all : ℕ) (ps : List Posting) (reached last : ℕ) (held left : List Posting) → b ≡ false → Rises all 0 ps → 1 < length held →
+    StandsOn b ps reached last held left → next_doc held ≤ last
 unfolding Rises last_doc
 next_low true all ps reached last held left is rises more stands = absurd cc
 next_low false all ps reached last [] left is rises more w = absurd (omega (arith, more))
@@ -278,7 +285,8 @@ two_parts e = cc
 part_is : (p q : Part) → Some p ≡ Some q → p ≡ q
 part_is p q e = cc
 
-pub reads_two : (c v : Cursoring) (d0 d1 d2 : Seen) → c.post.part ≡ Post → c.skip.part ≡ Skip → Calm (feeding_of 4096 c.skip) (feeding_of 4096 v.skip) d0 d1 → Calm (feeding_of 4096 c.post) (feeding_of 4096 v.post) d1 d2 → post_pages v ≤ entered_pages v →
+pub reads_two : (c v : Cursoring) (d0 d1 d2 : Seen) → c.post.part ≡ Post → c.skip.part ≡ Skip → Calm (feeding_of 4096 c.skip) (feeding_of 4096 v.skip) d0 d1 →
+    Calm (feeding_of 4096 c.post) (feeding_of 4096 v.post) d1 d2 → post_pages v ≤ entered_pages v →
     ReadsTwo c v d0.reads d2.reads
 reads_two c v d0 d1 d2 post skip skipped posted first =
     let post_stays : d1.reads Post ≡ d0.reads Post = skipped.reads.others Post (λ e. two_parts (sym (part_is c.skip.part Post e) ∙ skip)) in
@@ -312,6 +320,7 @@ raised_most entered read pages le = omega (arith, le)
 -- ---- refusals
 
 -- where the parts stand, a refusal is a device's failure
-pub refused_answer : {A B : Type 0} (refusal : Refusal) (own : Part) (e : PartErr) (f : A → Type 0) (h : B → Type 0) → IsRefused refusal own e → OrDevice {T = A} (Err refusal) f → AnswersList {T = B} (Err e) h
+pub refused_answer : {A B : Type 0} (refusal : Refusal) (own : Part) (e : PartErr) (f : A → Type 0) (h : B → Type 0) → IsRefused refusal own e →
+    OrDevice {T = A} (Err refusal) f → AnswersList {T = B} (Err e) h
 refused_answer {A} {B} Device own e f h is got = subst (λ x. AnswersList {T = B} (Err x) h) (sym is) tt
 refused_answer (Damaged at) own e f h is got = absurd got

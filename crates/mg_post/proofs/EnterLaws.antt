@@ -42,14 +42,16 @@ blocks_next k ps =
 pub bits_next : (b k : ℕ) (ps : List Posting) → bits_before b (64 * (k + 1)) ps ≡ bits_before b (64 * k) ps + length (bits_after b (doc_before (64 * k) ps) (block_of k ps))
 unfolding bits_before doc_before
 bits_next b k ps =
-    ap (λ l. length (bits_after b 0 l)) (blocks_next k ps) ∙ ap length (bits_append b 0 (take (64 * k) ps) (block_of k ps)) ∙ length-append (bits_after b 0 (take (64 * k) ps)) (bits_after b (last_doc 0 (take (64 * k) ps)) (block_of k ps))
+    ap (λ l. length (bits_after b 0 l)) (blocks_next k ps) ∙ ap length (bits_append b 0 (take (64 * k) ps) (block_of k ps))
+    ∙ length-append (bits_after b 0 (take (64 * k) ps)) (bits_after b (last_doc 0 (take (64 * k) ps)) (block_of k ps))
 
 pub doc_next : (k : ℕ) (ps : List Posting) → doc_before (64 * (k + 1)) ps ≡ last_doc (doc_before (64 * k) ps) (block_of k ps)
 doc_next k ps = sym (block_last k ps)
 
 pub block_rises : (all k : ℕ) (ps : List Posting) → Rises all 0 ps → Rises all (doc_before (64 * k) ps) (block_of k ps)
 unfolding block_of
-block_rises all k ps h = rises_left all (doc_before (64 * k) ps) (take 64 (drop (64 * k) ps)) (drop 64 (drop (64 * k) ps)) (subst (Rises all (doc_before (64 * k) ps)) (sym (take-append-drop 64 (drop (64 * k) ps))) (rest_rises all (64 * k) ps h))
+block_rises all k ps h = rises_left all (doc_before (64 * k) ps) (take 64 (drop (64 * k) ps)) (drop 64 (drop (64 * k) ps))
+    (subst (Rises all (doc_before (64 * k) ps)) (sym (take-append-drop 64 (drop (64 * k) ps))) (rest_rises all (64 * k) ps h))
 
 take_least : (n : ℕ) (qs : List Posting) → take (min (length qs) n) qs ≡ take n qs
 take_least n [] = grind (arith, common_steps)
@@ -70,11 +72,13 @@ block_is count docs k ps counted whole = ap (λ n. take n (drop (64 * k) ps)) co
 -- the answer of a block's read
 pub block_answer : (told : Option (List ℕ)) (post_at all b place before count docs k : ℕ) (ps held : List Posting) (result : Result ℕ Refusal) → count ≡ min (docs - 64 * k) 64 → docs ≡ length ps →
     before ≡ doc_before (64 * k) ps → place ≡ post_at + bits_before b (64 * k) ps → Rises all 0 ps → Shows told post_at (bits_after b 0 ps) → post_at + length (bits_after b 0 ps) ≤ 2 ^ 63 →
-    ((qs : List Posting) → Rises all before qs → count ≤ length qs → place + length (bits_after b before qs) ≤ 2 ^ 63 → Shows told place (bits_after b before qs) → OrDevice result (λ u. held ≡ take count qs)) →
+    ((qs : List Posting) → Rises all before qs → count ≤ length qs → place + length (bits_after b before qs) ≤ 2 ^ 63 →
+    Shows told place (bits_after b before qs) → OrDevice result (λ u. held ≡ take count qs)) →
     OrDevice result (λ u. held ≡ block_of k ps)
 block_answer told post_at all b place before count docs k ps held result counted whole from at rises shows small answers =
     let got : OrDevice result (λ u. held ≡ take count (drop (64 * k) ps)) =
-    answers (drop (64 * k) ps) (rw from (rest_rises all (64 * k) ps rises)) (omega (arith, length-drop (64 * k) ps)) (rw from (omega (arith, parted_length b (64 * k) ps))) (rw from (rest_shown told post_at place b (64 * k) ps at shows)) in
+    answers (drop (64 * k) ps) (rw from (rest_rises all (64 * k) ps rises)) (omega (arith, length-drop (64 * k) ps))
+    (rw from (omega (arith, parted_length b (64 * k) ps))) (rw from (rest_shown told post_at place b (64 * k) ps at shows)) in
     subst (λ l. OrDevice result (λ u. held ≡ l)) (block_is count docs k ps counted whole) got
 
 pub head_none : (qs : List Posting) → head_of qs ≡ None → length qs ≡ 0
@@ -102,16 +106,19 @@ count_most f0 f1 d0 d1 from to is within =
     omega (arith, some, to_read_most f0.held from to)
 
 -- the pages of a block, by the place where it was read from and to
-pages_is : (b post_at place end k before : ℕ) (ps filled : List Posting) → filled ≡ block_of k ps → before ≡ doc_before (64 * k) ps → place ≡ post_at + bits_before b (64 * k) ps → end ≡ place + length (bits_after b before filled) →
+pages_is : (b post_at place end k before : ℕ) (ps filled : List Posting) → filled ≡ block_of k ps → before ≡ doc_before (64 * k) ps →
+    place ≡ post_at + bits_before b (64 * k) ps → end ≡ place + length (bits_after b before filled) →
     pages place end ≡ block_pages b post_at k ps
 unfolding block_pages
 pages_is b post_at place end k before ps filled is from at ends =
-    let e : length (bits_after b before filled) ≡ length (bits_after b (doc_before (64 * k) ps) (block_of k ps)) = ap (λ l. length (bits_after b before l)) is ∙ ap (λ d. length (bits_after b d (block_of k ps))) from in
+    let e : length (bits_after b before filled) ≡ length (bits_after b (doc_before (64 * k) ps) (block_of k ps)) = ap (λ l. length (bits_after b before l)) is
+    ∙ ap (λ d. length (bits_after b d (block_of k ps))) from in
     let end_is : end ≡ post_at + bits_before b (64 * (k + 1)) ps = omega (arith, bits_next b k ps) in
     ap (λ n. pages n end) at ∙ ap (λ n. pages (post_at + bits_before b (64 * k) ps) n) end_is
 
 pub entered : (b post_at place end block doc before counted : ℕ) (ps filled held : List Posting) (p : Posting) → filled ≡ block_of block ps → held ≡ forward_to doc filled → head_of held ≡ Some p →
-    before ≡ doc_before (64 * block) ps → place ≡ post_at + bits_before b (64 * block) ps → end ≡ place + length (bits_after b before filled) → counted ≡ pages place end → Entered b ps post_at block doc p held counted
+    before ≡ doc_before (64 * block) ps → place ≡ post_at + bits_before b (64 * block) ps → end ≡ place + length (bits_after b before filled) →
+    counted ≡ pages place end → Entered b ps post_at block doc p held counted
 entered b post_at place end block doc before counted ps filled held p is forward current from at ends pages_are = record {
   held_is = forward ∙ ap (forward_to doc) is;
   current = current;
@@ -119,15 +126,23 @@ entered b post_at place end block doc before counted ps filled held p is forward
 }
 
 -- a block that was refused was read on its pages alone
-pub refused_pages : (told : Option (List ℕ)) (f0 f1 : Feeding) (d0 d1 : Seen) (post_at all b place before count docs k : ℕ) (ps : List Posting) → f0.page ≡ 4096 → count ≡ min (docs - 64 * k) 64 → docs ≡ length ps →
+pub refused_pages : (told : Option (List ℕ)) (f0 f1 : Feeding) (d0 d1 : Seen) (post_at all b place before count docs k : ℕ) (ps : List Posting) →
+    f0.page ≡ 4096 → count ≡ min (docs - 64 * k) 64 → docs ≡ length ps →
     before ≡ doc_before (64 * k) ps → place ≡ post_at + bits_before b (64 * k) ps → Rises all 0 ps → Shows told post_at (bits_after b 0 ps) → post_at + length (bits_after b 0 ps) ≤ 2 ^ 63 →
-    ((qs : List Posting) → Rises all before qs → count ≤ length qs → place + length (bits_after b before qs) ≤ 2 ^ 63 → Shows told place (bits_after b before qs) → ReadsWithin f0 f1 d0 d1 place (place + length (bits_after b before (take count qs)))) →
+    ((qs : List Posting) → Rises all before qs → count ≤ length qs → place + length (bits_after b before qs) ≤ 2 ^ 63 →
+    Shows told place (bits_after b before qs) → ReadsWithin f0 f1 d0 d1 place (place + length (bits_after b before (take count qs)))) →
     f1.count ≤ f0.count + block_pages b post_at k ps
 refused_pages told f0 f1 d0 d1 post_at all b place before count docs k ps page counted whole from at rises shows small answers =
     let within : ReadsWithin f0 f1 d0 d1 place (place + length (bits_after b before (take count (drop (64 * k) ps)))) =
-    answers (drop (64 * k) ps) (rw from (rest_rises all (64 * k) ps rises)) (omega (arith, length-drop (64 * k) ps)) (rw from (omega (arith, parted_length b (64 * k) ps))) (rw from (rest_shown told post_at place b (64 * k) ps at shows)) in
+    answers (drop (64 * k) ps) (rw from (rest_rises all (64 * k) ps rises)) (omega (arith, length-drop (64 * k) ps))
+    (rw from (omega (arith, parted_length b (64 * k) ps))) (rw from (rest_shown told post_at place b (64 * k) ps at shows)) in
     let most : f1.count ≤ f0.count + pages place (place + length (bits_after b before (take count (drop (64 * k) ps)))) = count_most f0 f1 d0 d1 place _ page within in
-    omega (arith, most, pages_is b post_at place (place + length (bits_after b before (take count (drop (64 * k) ps)))) k before ps (take count (drop (64 * k) ps)) (block_is count docs k ps counted whole) from at refl)
+    omega (
+      arith,
+      most,
+      pages_is b post_at place (place + length (bits_after b before (take count (drop (64 * k) ps)))) k before ps
+          (take count (drop (64 * k) ps)) (block_is count docs k ps counted whole) from at refl,
+    )
 
 -- ---- one block alone
 
@@ -138,7 +153,8 @@ whole_front (suc n) (p ∷ ps) is = ap (λ l. p ∷ l) (whole_front n ps (omega 
 
 -- the answer of the read of a block that stands
 pub block_filled : (told : Option (List ℕ)) (all b at count before last place : ℕ) (ps held : List Posting) (result : Result ℕ Refusal) → BlockStands all b told at count before last ps → place ≡ at →
-    ((qs : List Posting) → Rises all before qs → count ≤ length qs → place + length (bits_after b before qs) ≤ 2 ^ 63 → Shows told place (bits_after b before qs) → OrDevice result (λ u. held ≡ take count qs)) →
+    ((qs : List Posting) → Rises all before qs → count ≤ length qs → place + length (bits_after b before qs) ≤ 2 ^ 63 →
+    Shows told place (bits_after b before qs) → OrDevice result (λ u. held ≡ take count qs)) →
     OrDevice result (λ u. held ≡ ps)
 block_filled told all b at count before last place ps held result stands is answers =
     let got : OrDevice result (λ u. held ≡ take count ps) =
@@ -146,5 +162,6 @@ block_filled told all b at count before last place ps held result stands is answ
     subst (λ l. OrDevice result (λ u. held ≡ l)) (whole_front count ps stands.count_is) got
 
 -- it has a posting from a document of its range on
-pub filled_some : (told : Option (List ℕ)) (all b at count before last doc : ℕ) (ps : List Posting) → before < doc → doc ≤ last → BlockStands all b told at count before last ps → 0 < length (forward_to doc ps)
+pub filled_some : (told : Option (List ℕ)) (all b at count before last doc : ℕ) (ps : List Posting) → before < doc → doc ≤ last →
+    BlockStands all b told at count before last ps → 0 < length (forward_to doc ps)
 filled_some told all b at count before last doc ps after within stands = forward_some all before doc ps stands.rises after (omega (arith, within, stands.last_is))

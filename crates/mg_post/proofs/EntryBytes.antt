@@ -40,4 +40,5 @@ are_eight n = are_high 8 n
 pub are_bytes_of : (es : List SkipEntry) → AreBytes (flat_map entry_bytes es)
 are_bytes_of [] = All-nil (λ byte. byte < 2 ^ 8)
 are_bytes_of (e ∷ es) =
-    All-append (λ byte. byte < 2 ^ 8) (entry_bytes e) (flat_map entry_bytes es) (All-append (λ byte. byte < 2 ^ 8) (eight e.last) (eight e.bits) (are_eight e.last) (are_eight e.bits)) (are_bytes_of es)
+    All-append (λ byte. byte < 2 ^ 8) (entry_bytes e) (flat_map entry_bytes es)
+    (All-append (λ byte. byte < 2 ^ 8) (eight e.last) (eight e.bits) (are_eight e.last) (are_eight e.bits)) (are_bytes_of es)

@@ -100,9 +100,11 @@ read_next first page p count now (Some h) read lo le step =
     lacks_most h p = grind arith
 
 -- the page of an entry was read, whatever the read answered
-pub reads_to : (skip_at low k count now : ℕ) (held : Option ℕ) → SkipReads skip_at low held count → low ≤ k → now ≤ count + lacks held (entry_page (skip_at + k)) → now + entry_page skip_at ≤ entry_page (skip_at + k) + 1
+pub reads_to : (skip_at low k count now : ℕ) (held : Option ℕ) → SkipReads skip_at low held count → low ≤ k →
+    now ≤ count + lacks held (entry_page (skip_at + k)) → now + entry_page skip_at ≤ entry_page (skip_at + k) + 1
 reads_to skip_at low k count now held reads le step =
-    read_next (entry_page skip_at) (entry_page (skip_at + (low - 1))) (entry_page (skip_at + k)) count now held reads.read (page_rises skip_at (skip_at + k) (omega arith)) (page_rises (skip_at + (low - 1)) (skip_at + k) (omega arith)) step
+    read_next (entry_page skip_at) (entry_page (skip_at + (low - 1))) (entry_page (skip_at + k)) count now held reads.read
+    (page_rises skip_at (skip_at + k) (omega arith)) (page_rises (skip_at + (low - 1)) (skip_at + k) (omega arith)) step
 
 -- the pages of all entries are enough
 pub within_entries : (skip_at k blocks now : ℕ) → k < blocks → now + entry_page skip_at ≤ entry_page (skip_at + k) + 1 → now ≤ entries_pages skip_at blocks
@@ -125,7 +127,8 @@ reads_within skip_at low blocks count held reads le =
     by_held (Some h) read some = within_entries skip_at (low - 1) blocks count (omega arith) (omega (arith, read.0, read.1))
 
 -- the page of an entry is held, and pages were read up to it
-pub reads_now : (skip_at low k count now : ℕ) (held now_held : Option ℕ) → SkipReads skip_at low held count → low ≤ k → now ≤ count + lacks held (entry_page (skip_at + k)) → now_held ≡ Some (entry_page (skip_at + k)) →
+pub reads_now : (skip_at low k count now : ℕ) (held now_held : Option ℕ) → SkipReads skip_at low held count → low ≤ k →
+    now ≤ count + lacks held (entry_page (skip_at + k)) → now_held ≡ Some (entry_page (skip_at + k)) →
     SkipReads skip_at (k + 1) now_held now
 reads_now skip_at low k count now held now_held reads le step is =
     let e : k + 1 - 1 ≡ k = omega arith in
@@ -137,7 +140,8 @@ reads_now skip_at low k count now held now_held reads le step is =
     }
 
 -- another entry of the page that is held
-pub reads_same : (skip_at k j count now : ℕ) (held now_held : Option ℕ) → SkipReads skip_at (k + 1) held count → held ≡ Some (entry_page (skip_at + k)) → now_held ≡ held → now ≤ count → entry_page (skip_at + k) ≡ entry_page (skip_at + j) → SkipReads skip_at (j + 1) now_held now
+pub reads_same : (skip_at k j count now : ℕ) (held now_held : Option ℕ) → SkipReads skip_at (k + 1) held count → held ≡ Some (entry_page (skip_at + k)) →
+    now_held ≡ held → now ≤ count → entry_page (skip_at + k) ≡ entry_page (skip_at + j) → SkipReads skip_at (j + 1) now_held now
 reads_same skip_at k j count now held now_held reads is same le page =
     let e : k + 1 - 1 ≡ k = omega arith in
     let f : j + 1 - 1 ≡ j = omega arith in
@@ -146,7 +150,8 @@ reads_same skip_at k j count now held now_held reads is same le page =
     let fact : (now + entry_page skip_at ≤ entry_page (skip_at + k) + 1) × (entry_page (skip_at + k) ≤ entry_page (skip_at + j)) = (omega (arith, at.0, le), omega (arith, page)) in
     let there : ReadTo (entry_page skip_at) (entry_page (skip_at + j)) (Some (entry_page (skip_at + k))) now = fact in
     record {
-      read = subst (λ n. ReadTo (entry_page skip_at) (entry_page (skip_at + n)) now_held now) (sym f) (subst (λ h. ReadTo (entry_page skip_at) (entry_page (skip_at + j)) h now) (sym (same ∙ is)) there);
+      read = subst (λ n. ReadTo (entry_page skip_at) (entry_page (skip_at + n)) now_held now) (sym f)
+          (subst (λ h. ReadTo (entry_page skip_at) (entry_page (skip_at + j)) h now) (sym (same ∙ is)) there);
       none = λ z. absurd (omega (arith, z));
     }
 
@@ -173,7 +178,8 @@ tells_next skip skip_at low known block last le tells =
     record { first = λ is. absurd (omega (arith, is, le)); later = λ lt. subst (λ k. TellsLast skip skip_at k last) e tells }
 
 -- of a search that went on from a later block
-pub tells_on : (skip : Option (List ℕ)) (skip_at reached low known before block here last at : ℕ) → reached ≤ low → low ≤ block → TellsBefore skip skip_at reached known low before → TellsBlock skip skip_at low before block here last at →
+pub tells_on : (skip : Option (List ℕ)) (skip_at reached low known before block here last at : ℕ) → reached ≤ low → low ≤ block →
+    TellsBefore skip skip_at reached known low before → TellsBlock skip skip_at low before block here last at →
     TellsBlock skip skip_at reached known block here last at
 tells_on skip skip_at reached low known before block here last at from more told tells = record {
   before_is = record {
@@ -212,12 +218,14 @@ ends_number told bits.Device place answers = tt
 ends_number None (bits.End at) place answers = tt
 ends_number (Some bytes) (bits.End at) place answers = answers.0
 
-pub lacks_last : (told : Option (List ℕ)) (refusal : Refusal) (skip_at all block place : ℕ) → place ≡ 128 * (skip_at + block) → OnDamage refusal (λ at. at ≡ place) → OnDamage refusal (λ at. LacksNumber told place) →
+pub lacks_last : (told : Option (List ℕ)) (refusal : Refusal) (skip_at all block place : ℕ) → place ≡ 128 * (skip_at + block) →
+    OnDamage refusal (λ at. at ≡ place) → OnDamage refusal (λ at. LacksNumber told place) →
     OnDamage refusal (LacksLast told skip_at all block)
 lacks_last told refusal skip_at all block place is at ends =
     damaged_at refusal place (LacksNumber told place) (LacksLast told skip_at all block) (λ h. record { at_is = is; missing = inl h }) at ends
 
-pub lacks_bits : (told : Option (List ℕ)) (result : Result ℕ Refusal) (skip_at block place : ℕ) → place ≡ 128 * (skip_at + block) + 64 → IfDamaged result (λ at. at ≡ place) → IfDamaged result (λ at. LacksNumber told place) →
+pub lacks_bits : (told : Option (List ℕ)) (result : Result ℕ Refusal) (skip_at block place : ℕ) → place ≡ 128 * (skip_at + block) + 64 →
+    IfDamaged result (λ at. at ≡ place) → IfDamaged result (λ at. LacksNumber told place) →
     IfDamaged result (LacksBits told skip_at block)
 lacks_bits told (Ok value) skip_at block place is at ends = tt
 lacks_bits told (Err refusal) skip_at block place is at ends =

@@ -16,7 +16,8 @@ use Rattle.mg_post.specs.Cursor.{Cursoring, CursorStands, SameList, entered_page
 use Rattle.mg_post.specs.TermLists.{IsAmong, EnteredFor}
 
 -- in a call that was answered
-pub entered_more : (asked : List ℕ) (ps : List Posting) (c v : Cursoring) (doc : ℕ) (found : Option Posting) → IsAmong asked ps doc → SameList c v → c.reached ≤ v.reached → Enters (Ok found) ps c doc v → EnteredFor asked ps c → EnteredFor asked ps v
+pub entered_more : (asked : List ℕ) (ps : List Posting) (c v : Cursoring) (doc : ℕ) (found : Option Posting) → IsAmong asked ps doc → SameList c v →
+    c.reached ≤ v.reached → Enters (Ok found) ps c doc v → EnteredFor asked ps c → EnteredFor asked ps v
 entered_more asked ps c v doc found may same forward enters before =
     omega (
       arith,
@@ -44,7 +45,8 @@ entered_more asked ps c v doc found may same forward enters before =
         ]
 
 -- in a call that was refused, too
-pub entered_most : (asked : List ℕ) (ps : List Posting) (c v : Cursoring) (doc : ℕ) (r : Result (Option Posting) PartErr) → IsAmong asked ps doc → Enters r ps c doc v → EnteredFor asked ps c → entered_pages v ≤ met_pages asked c.parameter (8 * c.post_at) (block_count (length ps)) ps
+pub entered_most : (asked : List ℕ) (ps : List Posting) (c v : Cursoring) (doc : ℕ) (r : Result (Option Posting) PartErr) → IsAmong asked ps doc →
+    Enters r ps c doc v → EnteredFor asked ps c → entered_pages v ≤ met_pages asked c.parameter (8 * c.post_at) (block_count (length ps)) ps
 entered_most asked ps c v doc (Ok found) may enters before =
     elim (cases_lt c.last doc) [
       | inl past ↦ by_found found (enters.1 past)
@@ -53,14 +55,28 @@ entered_most asked ps c v doc (Ok found) may enters before =
   where
     by_found : (o : Option Posting) → EntersFor o ps c doc v → entered_pages v ≤ met_pages asked c.parameter (8 * c.post_at) (block_count (length ps)) ps
     by_found None still = omega (arith, still, before, met_all asked c.parameter (8 * c.post_at) c.reached ps)
-    by_found (Some p) entered = omega (arith, entered.pages, before, met_enters asked c.parameter (8 * c.post_at) c.reached entered.block ps entered.before (may entered.block entered.range), met_all asked c.parameter (8 * c.post_at) (entered.block + 1) ps)
+    by_found (Some p) entered = omega (
+      arith,
+      entered.pages,
+      before,
+      met_enters asked c.parameter (8 * c.post_at) c.reached entered.block ps entered.before (may entered.block entered.range),
+      met_all asked c.parameter (8 * c.post_at) (entered.block + 1) ps,
+    )
 entered_most asked ps c v doc (Err refusal) may enters before =
     elim (cases_lt (entered_pages c) (entered_pages v)) [
-      | inl more ↦ (let block : ReadsBlock ps c doc v = enters.1 more in omega (arith, block.most, before, met_enters asked c.parameter (8 * c.post_at) c.reached block.block ps block.before (may block.block block.range), met_all asked c.parameter (8 * c.post_at) (block.block + 1) ps))
+      | inl more ↦ (let block : ReadsBlock ps c doc v = enters.1 more in
+          omega (
+            arith,
+            block.most,
+            before,
+            met_enters asked c.parameter (8 * c.post_at) c.reached block.block ps block.before (may block.block block.range),
+            met_all asked c.parameter (8 * c.post_at) (block.block + 1) ps,
+          ))
       | inr same ↦ omega (arith, same, before, met_all asked c.parameter (8 * c.post_at) c.reached ps)
     ]
 
-pub pages_few : (asked : List ℕ) (ps : List Posting) (files : Option Files) (c : Cursoring) → CursorStands c files ps → met_pages asked c.parameter (8 * c.post_at) (block_count (length ps)) ps < 2 ^ 50
+pub pages_few : (asked : List ℕ) (ps : List Posting) (files : Option Files) (c : Cursoring) → CursorStands c files ps →
+    met_pages asked c.parameter (8 * c.post_at) (block_count (length ps)) ps < 2 ^ 50
 pages_few asked ps files c stands =
     let few : length ps + 0 ≤ c.all = few_postings c.all 0 ps (omega arith) stands.list.entries.rises in
     let blocks : block_count (length ps) < 2 ^ 32 = omega (arith, few, stands.list.few) in

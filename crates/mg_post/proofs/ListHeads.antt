@@ -27,10 +27,14 @@ no_first d (h ∷ q) is = absurd cc
 pub later : (last d : ℕ) (ps : List Posting) (p : Posting) → head_of (from_doc (last + 1) ps) ≡ Some p → last < d → d ≤ p.doc → head_of (from_doc d ps) ≡ Some p
 later last d ps p is low high = ap head_of (sym (from_from (last + 1) d ps (omega (arith, low)))) ∙ first_kept d (from_doc (last + 1) ps) p is high
 
-pub has_at : (collection t : List ℕ) (last d : ℕ) (p : Posting) → head_of (from_doc (last + 1) (postings collection t)) ≡ Some p → last < d → d ≤ p.doc → d ≤ length (documents collection) → has_term (document collection d) t ≡ nat_eq p.doc d
+pub has_at : (collection t : List ℕ) (last d : ℕ) (p : Posting) → head_of (from_doc (last + 1) (postings collection t)) ≡ Some p → last < d → d ≤ p.doc →
+    d ≤ length (documents collection) → has_term (document collection d) t ≡ nat_eq p.doc d
 has_at collection t last d p is low high le =
     sym (posting_is collection t d (omega (arith, low)) le) ∙ ap (λ o. is_number o d) (first_head (from_doc d (postings collection t)) p (later last d (postings collection t) p is low high))
 
-pub none_at : (collection t : List ℕ) (last d : ℕ) → head_of (from_doc (last + 1) (postings collection t)) ≡ None → last < d → d ≤ length (documents collection) → has_term (document collection d) t ≡ false
+pub none_at : (collection t : List ℕ) (last d : ℕ) → head_of (from_doc (last + 1) (postings collection t)) ≡ None → last < d →
+    d ≤ length (documents collection) → has_term (document collection d) t ≡ false
 none_at collection t last d is low le =
-    sym (posting_is collection t d (omega (arith, low)) le) ∙ ap (λ o. is_number o d) (ap first_of (sym (from_from (last + 1) d (postings collection t) (omega (arith, low)))) ∙ no_first d (from_doc (last + 1) (postings collection t)) is)
+    sym (posting_is collection t d (omega (arith, low)) le)
+    ∙ ap (λ o. is_number o d) (ap first_of (sym (from_from (last + 1) d (postings collection t) (omega (arith, low))))
+    ∙ no_first d (from_doc (last + 1) (postings collection t)) is)

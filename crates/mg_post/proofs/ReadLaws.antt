@@ -31,7 +31,8 @@ gap_shown : (told : Option (List ℕ)) (place b before : ℕ) (p : Posting) → 
 unfolding posting_bits
 gap_shown told place b before p h = shows_left told place _ (gamma p.freq) h
 
-freq_shown : (told : Option (List ℕ)) (place next b before : ℕ) (p : Posting) → next ≡ place + length (golomb b (p.doc - before)) → Shows told place (posting_bits b before p) → Shows told next (gamma p.freq)
+freq_shown : (told : Option (List ℕ)) (place next b before : ℕ) (p : Posting) → next ≡ place + length (golomb b (p.doc - before)) →
+    Shows told place (posting_bits b before p) → Shows told next (gamma p.freq)
 unfolding posting_bits
 freq_shown told place next b before p e h = shows_right told place next (golomb b (p.doc - before)) _ e h
 
@@ -52,7 +53,8 @@ code_told (code.End at) place fact h = h (λ y got. got)
 code_told (code.Over at most) place fact h = h (λ y got. got)
 
 -- where no gap is read, none stands
-pub gap_refused : (told : Option (List ℕ)) (refusal : CodeErr) (limit place b before all : ℕ) → 1 ≤ b → b < 2 ^ 48 → limit ≡ all - before → FromPlace told place (AnswersCode (Err refusal) (UpTo limit) (golomb b) limit place) →
+pub gap_refused : (told : Option (List ℕ)) (refusal : CodeErr) (limit place b before all : ℕ) → 1 ≤ b → b < 2 ^ 48 → limit ≡ all - before →
+    FromPlace told place (AnswersCode (Err refusal) (UpTo limit) (golomb b) limit place) →
     OnDamage (of_code refusal place) (IsBitOfPosting all b told before place)
 gap_refused told refusal limit place b before all some small is answers =
     code_told refusal place (IsBitOfPosting all b told before place) (λ no. inl record { missing = λ gap range low shows. no gap (none gap range shows); at_is = refl })
@@ -62,7 +64,8 @@ gap_refused told refusal limit place b before all some small is answers =
 
 -- ---- what was read stands
 
-pub code_stands : (told : Option (List ℕ)) (place limit x : ℕ) (within : ℕ → Type 0) (words : ℕ → Bits) → FromPlace told place (AnswersCode (Ok x) within words limit place) → FromPlace told place (Begins (words x))
+pub code_stands : (told : Option (List ℕ)) (place limit x : ℕ) (within : ℕ → Type 0) (words : ℕ → Bits) →
+    FromPlace told place (AnswersCode (Ok x) within words limit place) → FromPlace told place (Begins (words x))
 code_stands None place limit x within words answers = tt
 code_stands (Some bytes) place limit x within words answers = answers.1
 
@@ -70,11 +73,13 @@ pub none_stand : (told : Option (List ℕ)) (place : ℕ) → FromPlace told pla
 none_stand None place = tt
 none_stand (Some bytes) place = refl
 
-both_stand : (told : Option (List ℕ)) (place next : ℕ) (one two : Bits) → next ≡ place + length one → FromPlace told place (Begins one) → FromPlace told next (Begins two) → FromPlace told place (Begins (one ++ two))
+both_stand : (told : Option (List ℕ)) (place next : ℕ) (one two : Bits) → next ≡ place + length one → FromPlace told place (Begins one) →
+    FromPlace told next (Begins two) → FromPlace told place (Begins (one ++ two))
 both_stand None place next one two at first second = tt
 both_stand (Some bytes) place next one two at first second = begins_both one two _ first (rw drop-drop (rw at at second))
 
-pub posting_stands : (told : Option (List ℕ)) (place next b before gap freq : ℕ) → next ≡ place + length (golomb b gap) → FromPlace told place (Begins (golomb b gap)) → FromPlace told next (Begins (gamma freq)) →
+pub posting_stands : (told : Option (List ℕ)) (place next b before gap freq : ℕ) → next ≡ place + length (golomb b gap) →
+    FromPlace told place (Begins (golomb b gap)) → FromPlace told next (Begins (gamma freq)) →
     let p : Posting = record { doc = before + gap; freq = freq } in FromPlace told place (Begins (posting_bits b before p))
 unfolding posting_bits
 posting_stands told place next b before gap freq at one two =
@@ -88,7 +93,8 @@ postings_stand told start place b before last a p is at one two =
     rw (bits_append b before a (p ∷ []), ← is, append-nil (posting_bits b last p)) (both_stand told start place (bits_after b before a) (posting_bits b last p) at one two)
 
 -- where a posting was refused, those before it stand and it does not
-pub lacks_next : (told now : Option (List ℕ)) (refusal : Refusal) (all b before start last place i count : ℕ) (out : List Posting) → now ≡ told → i < count → last ≡ last_doc before (take i out) → place ≡ start + length (bits_after b before (take i out)) →
+pub lacks_next : (told now : Option (List ℕ)) (refusal : Refusal) (all b before start last place i count : ℕ) (out : List Posting) → now ≡ told → i < count →
+    last ≡ last_doc before (take i out) → place ≡ start + length (bits_after b before (take i out)) →
     Rises all before (take i out) → FromPlace told start (Begins (bits_after b before (take i out))) →
     ((p : Posting) → Follows all last p → place + length (posting_bits b last p) ≤ 2 ^ 63 → Shows now place (posting_bits b last p) → OrDevice {T = Posting} (Err refusal) (λ q. q ≡ p)) →
     OnDamage refusal (IsBitOfPosting all b now last place) → OnDamage refusal (LacksPosting all b told before start count)
@@ -109,32 +115,41 @@ lacks_next told now (Damaged bad) all b before start last place i count out same
 pub gap_got : (told : Option (List ℕ)) (result : Result ℕ CodeErr) (limit place b before all : ℕ) (p : Posting) → 1 ≤ b → b < 2 ^ 48 → limit ≡ all - before → Follows all before p →
     Shows told place (posting_bits b before p) → FromPlace told place (AnswersCode result (UpTo limit) (golomb b) limit place) → IsGot result (p.doc - before)
 gap_got told result limit place b before all p some small is follows shows answers =
-    told_got (UpTo limit) (golomb b) (golomb_free b limit some (omega (arith, small))) told result limit place (p.doc - before) (gap_within before all limit p is follows) (gap_shown told place b before p shows) answers
+    told_got (UpTo limit) (golomb b) (golomb_free b limit some (omega (arith, small))) told result limit place (p.doc - before)
+    (gap_within before all limit p is follows) (gap_shown told place b before p shows) answers
 
 pub gap_pages : (told : Option (List ℕ)) (limit place b before all : ℕ) (p : Posting) (f0 f1 : Feeding) (d0 d1 : Seen) → limit ≡ all - before → Follows all before p →
-    Shows told place (posting_bits b before p) → FromPlace told place (OnlyPagesOf (UpTo limit) (golomb b) f0 f1 d0 d1 place) → ReadsWithin f0 f1 d0 d1 place (place + length (golomb b (p.doc - before)))
+    Shows told place (posting_bits b before p) → FromPlace told place (OnlyPagesOf (UpTo limit) (golomb b) f0 f1 d0 d1 place) →
+    ReadsWithin f0 f1 d0 d1 place (place + length (golomb b (p.doc - before)))
 gap_pages told limit place b before all p f0 f1 d0 d1 is follows shows pages =
     told_pages (UpTo limit) (golomb b) told place (p.doc - before) f0 f1 d0 d1 (gap_within before all limit p is follows) (gap_shown told place b before p shows) pages
 
-pub freq_got : (told : Option (List ℕ)) (result : Result ℕ CodeErr) (place next b before all gap : ℕ) (p : Posting) → next ≡ place + length (golomb b gap) → gap ≡ p.doc - before → Follows all before p →
+pub freq_got : (told : Option (List ℕ)) (result : Result ℕ CodeErr) (place next b before all gap : ℕ) (p : Posting) → next ≡ place + length (golomb b gap) →
+    gap ≡ p.doc - before → Follows all before p →
     Shows told place (posting_bits b before p) → FromPlace told next (AnswersCode result (UpTo 4294967295) gamma 4294967295 next) → IsGot result p.freq
 freq_got told result place next b before all gap p at is follows shows answers =
-    told_got (UpTo 4294967295) gamma (gamma_free 4294967295 (omega arith)) told result 4294967295 next p.freq (freq_within before all p follows) (freq_shown told place next b before p (at ∙ ap (λ n. place + length (golomb b n)) is) shows) answers
+    told_got (UpTo 4294967295) gamma (gamma_free 4294967295 (omega arith)) told result 4294967295 next p.freq (freq_within before all p follows)
+    (freq_shown told place next b before p (at ∙ ap (λ n. place + length (golomb b n)) is) shows) answers
 
-pub freq_pages : (told : Option (List ℕ)) (place next b before all gap : ℕ) (p : Posting) (f0 f1 : Feeding) (d0 d1 : Seen) → next ≡ place + length (golomb b gap) → gap ≡ p.doc - before → Follows all before p →
+pub freq_pages : (told : Option (List ℕ)) (place next b before all gap : ℕ) (p : Posting) (f0 f1 : Feeding) (d0 d1 : Seen) →
+    next ≡ place + length (golomb b gap) → gap ≡ p.doc - before → Follows all before p →
     Shows told place (posting_bits b before p) → FromPlace told next (OnlyPagesOf (UpTo 4294967295) gamma f0 f1 d0 d1 next) → ReadsWithin f0 f1 d0 d1 next (next + length (gamma p.freq))
 freq_pages told place next b before all gap p f0 f1 d0 d1 at is follows shows pages =
-    told_pages (UpTo 4294967295) gamma told next p.freq f0 f1 d0 d1 (freq_within before all p follows) (freq_shown told place next b before p (at ∙ ap (λ n. place + length (golomb b n)) is) shows) pages
+    told_pages (UpTo 4294967295) gamma told next p.freq f0 f1 d0 d1 (freq_within before all p follows)
+    (freq_shown told place next b before p (at ∙ ap (λ n. place + length (golomb b n)) is) shows) pages
 
 -- the pages of a posting of which the gap alone was read, or a part of it
-pub posting_pages : (f0 f1 : Feeding) (d0 d1 : Seen) (place b before : ℕ) (p : Posting) → 0 < f0.page → ReadsWithin f0 f1 d0 d1 place (place + length (golomb b (p.doc - before))) → ReadsWithin f0 f1 d0 d1 place (place + length (posting_bits b before p))
-posting_pages f0 f1 d0 d1 place b before p some within = within_wider f0 f1 d0 d1 place (place + length (golomb b (p.doc - before))) _ some (omega arith) (omega (arith, length_posting b before p)) within
+pub posting_pages : (f0 f1 : Feeding) (d0 d1 : Seen) (place b before : ℕ) (p : Posting) → 0 < f0.page →
+    ReadsWithin f0 f1 d0 d1 place (place + length (golomb b (p.doc - before))) → ReadsWithin f0 f1 d0 d1 place (place + length (posting_bits b before p))
+posting_pages f0 f1 d0 d1 place b before p some within = within_wider f0 f1 d0 d1 place (place + length (golomb b (p.doc - before))) _ some (omega arith)
+    (omega (arith, length_posting b before p)) within
 
 -- the pages of a posting whose gap was read, and a part of its count
 pub posting_pages_more : (f0 f1 f2 : Feeding) (d0 d1 d2 : Seen) (place next b before gap : ℕ) (p : Posting) → 0 < f0.page → gap ≡ p.doc - before → next ≡ place + length (golomb b gap) →
     Read f0 f1 d0 d1 place (place + length (golomb b gap)) → ReadsWithin f1 f2 d1 d2 next (next + length (gamma p.freq)) → ReadsWithin f0 f2 d0 d2 place (place + length (posting_bits b before p))
 posting_pages_more f0 f1 f2 d0 d1 d2 place next b before gap p some is at one two =
-    let second : ReadsWithin f1 f2 d1 d2 (place + length (golomb b gap)) (place + length (golomb b gap) + length (gamma p.freq)) = subst (λ n. ReadsWithin f1 f2 d1 d2 n (n + length (gamma p.freq))) at two in
+    let second : ReadsWithin f1 f2 d1 d2 (place + length (golomb b gap)) (place + length (golomb b gap) + length (gamma p.freq)) =
+    subst (λ n. ReadsWithin f1 f2 d1 d2 n (n + length (gamma p.freq))) at two in
     let both : ReadsWithin f0 f2 d0 d2 place (place + length (golomb b gap) + length (gamma p.freq)) =
     within_more f0 f1 f2 d0 d1 d2 place (place + length (golomb b gap)) _ some (omega arith) (omega arith) one.calm.part one.calm.page one.held one.pages second in
     let e : place + length (golomb b gap) + length (gamma p.freq) ≡ place + length (posting_bits b before p) = omega (arith, ap (λ n. length (golomb b n)) is, length_posting b before p) in
@@ -160,7 +175,8 @@ pub last_more : (before : ℕ) (a : List Posting) (p : Posting) → last_doc bef
 unfolding last_doc
 last_more before a p = last_append before a (p ∷ [])
 
-pub bits_more : (b before last : ℕ) (a : List Posting) (p : Posting) → last ≡ last_doc before a → length (bits_after b before (a ++ p ∷ [])) ≡ length (bits_after b before a) + length (posting_bits b last p)
+pub bits_more : (b before last : ℕ) (a : List Posting) (p : Posting) → last ≡ last_doc before a →
+    length (bits_after b before (a ++ p ∷ [])) ≡ length (bits_after b before a) + length (posting_bits b last p)
 unfolding bits_after
 bits_more b before last a p is =
     rw (bits_append b before a (p ∷ []), ← is)
@@ -187,7 +203,8 @@ next_split told start place all b before last i ps a rest q is more doc at rises
     ap (bits_after b before) is ∙ bits_append b before a (q ∷ rest) ∙ ap (λ n. bits_after b before a ++ bits_after b n (q ∷ rest)) (sym doc) in
     let s : Shows told start (bits_after b before a ++ (posting_bits b last q ++ bits_after b q.doc rest)) = subst (Shows told start) e shows in
     let l : length (bits_after b before ps) ≡ length (bits_after b before a) + (length (posting_bits b last q) + length (bits_after b q.doc rest)) =
-    ap length e ∙ length-append (bits_after b before a) (posting_bits b last q ++ bits_after b q.doc rest) ∙ ap (λ n. length (bits_after b before a) + n) (length-append (posting_bits b last q) (bits_after b q.doc rest)) in
+    ap length e ∙ length-append (bits_after b before a) (posting_bits b last q ++ bits_after b q.doc rest)
+    ∙ ap (λ n. length (bits_after b before a) + n) (length-append (posting_bits b last q) (bits_after b q.doc rest)) in
     record {
       posting = q;
       follows = subst (λ n. Follows all n q) (sym doc) r.0;
@@ -212,20 +229,23 @@ next_answer told now place all b last i ps result same next answers =
     answers next.posting next.follows next.small (subst (λ t. Shows t place (posting_bits b last next.posting)) (sym same) next.shows)
 
 -- the bits of a part of a list that has one posting more are at most those of the whole part
-pub next_bits : (told : Option (List ℕ)) (place all b before last i count : ℕ) (ps out : List Posting) → (next : NextHere told place all b last i ps) → take i out ≡ take i ps → last ≡ last_doc before (take i out) → i < count →
+pub next_bits : (told : Option (List ℕ)) (place all b before last i count : ℕ) (ps out : List Posting) → (next : NextHere told place all b last i ps) →
+    take i out ≡ take i ps → last ≡ last_doc before (take i out) → i < count →
     length (bits_after b before (take i out)) + length (posting_bits b last next.posting) ≤ length (bits_after b before (take count ps))
 next_bits told place all b before last i count ps out next same doc lt =
     let one : length (bits_after b before (take (i + 1) ps)) ≡ length (bits_after b before (take i ps)) + length (posting_bits b last next.posting) =
     ap (λ l. length (bits_after b before l)) next.more ∙ bits_more b before last (take i ps) next.posting (doc ∙ ap (last_doc before) same) in
     let e : count ≡ i + 1 + (count - (i + 1)) = omega (arith, lt) in
     let split : take count ps ≡ take (i + 1) ps ++ take (count - (i + 1)) (drop (i + 1) ps) = ap (λ n. take n ps) e ∙ take-add (i + 1) (count - (i + 1)) ps in
-    let more : length (bits_after b before (take count ps)) ≡ length (bits_after b before (take (i + 1) ps)) + length (bits_after b (last_doc before (take (i + 1) ps)) (take (count - (i + 1)) (drop (i + 1) ps))) =
+    let more : length (bits_after b before (take count ps)) ≡ length (bits_after b before (take (i + 1) ps))
+    + length (bits_after b (last_doc before (take (i + 1) ps)) (take (count - (i + 1)) (drop (i + 1) ps))) =
     ap (λ l. length (bits_after b before l)) split ∙ ap length (bits_append b before (take (i + 1) ps) (take (count - (i + 1)) (drop (i + 1) ps)))
     ∙ length-append (bits_after b before (take (i + 1) ps)) (bits_after b (last_doc before (take (i + 1) ps)) (take (count - (i + 1)) (drop (i + 1) ps))) in
     omega (arith, one, more, ap (λ l. length (bits_after b before l)) same)
 
 -- the pages of a block of which some postings were read, and a part of the next
-pub block_pages_more : (told now : Option (List ℕ)) (f0 f1 f2 : Feeding) (d0 d1 d2 : Seen) (start place all b before last i count : ℕ) (ps out : List Posting) → 0 < f0.page → now ≡ told → (next : NextHere told place all b last i ps) → take i out ≡ take i ps →
+pub block_pages_more : (told now : Option (List ℕ)) (f0 f1 f2 : Feeding) (d0 d1 d2 : Seen) (start place all b before last i count : ℕ) (ps out : List Posting) →
+    0 < f0.page → now ≡ told → (next : NextHere told place all b last i ps) → take i out ≡ take i ps →
     last ≡ last_doc before (take i out) → i < count → place ≡ start + length (bits_after b before (take i out)) →
     Read f0 f1 d0 d1 start (start + length (bits_after b before (take i out))) →
     ((p : Posting) → Follows all last p → Shows now place (posting_bits b last p) → ReadsWithin f1 f2 d1 d2 place (place + length (posting_bits b last p))) →

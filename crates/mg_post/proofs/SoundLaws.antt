@@ -109,7 +109,8 @@ current_low all last (q ∷ held) p h is =
     omega (arith, ap (λ (x : Posting). x.doc) same, last_above all q.doc held h.rises.1, h.within)
 
 -- it stays where the document asked for is not behind it
-pub stays_here : (doc : ℕ) (held now : List Posting) (found : Option Posting) (p : Posting) → head_of held ≡ Some p → doc ≤ p.doc → now ≡ forward_to doc held → found ≡ head_of now → (found ≡ Some p) × (now ≡ held)
+pub stays_here : (doc : ℕ) (held now : List Posting) (found : Option Posting) (p : Posting) → head_of held ≡ Some p → doc ≤ p.doc → now ≡ forward_to doc held →
+    found ≡ head_of now → (found ≡ Some p) × (now ≡ held)
 stays_here doc [] now found p is le went got = absurd cc
 stays_here doc (q ∷ held) now found p is le went got =
     let same : q ≡ p = cc in
@@ -134,7 +135,8 @@ next_low all last (q ∷ []) (Some p) h few f =
     record { from = omega (arith, f.from, current_low all last (q ∷ []) q h refl); within = f.within; some = f.some }
 next_low all last (q ∷ r ∷ held) (Some p) h few f = absurd (omega (arith, few))
 
-pub next_sound : (all last : ℕ) (held : List Posting) (r : Result (Option Posting) PartErr) → HeldRises all last held → length held ≤ 1 → IfOk r (λ found. IfSome found (IsFrom (last + 1) all)) → IfOk r (λ found. IfSome found (IsFrom (next_doc held) all))
+pub next_sound : (all last : ℕ) (held : List Posting) (r : Result (Option Posting) PartErr) → HeldRises all last held → length held ≤ 1 →
+    IfOk r (λ found. IfSome found (IsFrom (last + 1) all)) → IfOk r (λ found. IfSome found (IsFrom (next_doc held) all))
 next_sound all last held (Ok found) h few f = next_low all last held found h few f
 next_sound all last held (Err refusal) h few f = tt
 
@@ -180,7 +182,8 @@ skip_cause refusal err.Memory c files doc is = tt
 skip_cause Device (err.Bad bad) c files doc is = absurd cc
 skip_cause (Damaged at) (err.Bad bad) c files doc is = λ post. (let e : Skip ≡ Post = sym is.part_is ∙ post in absurd cc)
 
-pub post_cause : (refusal : Refusal) (e : PartErr) (c : Cursoring) (files : Option Files) (doc : ℕ) → IsRefused refusal Post e → ((at : ℕ) → refusal ≡ Damaged at → BlockIsMissing c files doc at) → HasPostCause c files doc e
+pub post_cause : (refusal : Refusal) (e : PartErr) (c : Cursoring) (files : Option Files) (doc : ℕ) → IsRefused refusal Post e →
+    ((at : ℕ) → refusal ≡ Damaged at → BlockIsMissing c files doc at) → HasPostCause c files doc e
 post_cause refusal err.Device c files doc is missing = tt
 post_cause refusal err.Memory c files doc is missing = tt
 post_cause Device (err.Bad bad) c files doc is missing = absurd cc

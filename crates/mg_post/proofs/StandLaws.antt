@@ -47,7 +47,8 @@ entry_stands b (suc n) k ps s lt h =
       | inr above ↦ (
           let e : k ≡ n = omega arith in
           let l : length (flat_map entry_bits (entries_to b n ps)) ≡ 128 * k = length_entries (entries_to b n ps) ∙ ap (λ m. 128 * m) (length_entries_to b n ps ∙ sym e) in
-          let here : Begins (flat_map entry_bits (entry_of b n ps ∷ [])) (drop (128 * k) s) = subst (λ m. Begins (flat_map entry_bits (entry_of b n ps ∷ [])) (drop m s)) l (begins_second _ _ s both) in
+          let here : Begins (flat_map entry_bits (entry_of b n ps ∷ [])) (drop (128 * k) s) =
+          subst (λ m. Begins (flat_map entry_bits (entry_of b n ps ∷ [])) (drop m s)) l (begins_second _ _ s both) in
           subst (λ m. Begins (entry_bits (entry_of b m ps)) (drop (128 * k) s)) (sym e) (begins_first (entry_bits (entry_of b n ps)) [] _ here))
     ]
 
@@ -59,32 +60,43 @@ split_at [] n ps is = absurd cc
 split_at (qs ∷ lists) zero ps is = let e : qs ≡ ps = cc in ap (λ x. x ∷ lists) e
 split_at (qs ∷ lists) (suc n) ps is = ap (λ l. qs ∷ l) (split_at lists n ps is)
 
-bits_split : (all : ℕ) (a rest : List (List Posting)) (ps : List Posting) → lists_bits all (a ++ ps ∷ rest) ≡ lists_bits all a ++ (bits_of_list all ps ++ (digits (to_byte (length (bits_of_list all ps))) 0 ++ lists_bits all rest))
+bits_split : (all : ℕ) (a rest : List (List Posting)) (ps : List Posting) → lists_bits all (a ++ ps ∷ rest) ≡ lists_bits all a
+    ++ (bits_of_list all ps ++ (digits (to_byte (length (bits_of_list all ps))) 0 ++ lists_bits all rest))
 unfolding lists_bits filled
 bits_split all a rest ps =
-    flat_map-append (λ qs. filled (bits_of_list all qs)) a (ps ∷ rest) ∙ ap (λ l. lists_bits all a ++ l) (append_assoc (bits_of_list all ps) (digits (to_byte (length (bits_of_list all ps))) 0) (lists_bits all rest))
+    flat_map-append (λ qs. filled (bits_of_list all qs)) a (ps ∷ rest) ∙ ap (λ l. lists_bits all a ++ l)
+    (append_assoc (bits_of_list all ps) (digits (to_byte (length (bits_of_list all ps))) 0) (lists_bits all rest))
 
-entries_split : (all : ℕ) (a rest : List (List Posting)) (ps : List Posting) → flat_map entry_bits (lists_entries all (a ++ ps ∷ rest)) ≡ flat_map entry_bits (lists_entries all a) ++ (flat_map entry_bits (entries_of_list all ps) ++ flat_map entry_bits (lists_entries all rest))
+entries_split : (all : ℕ) (a rest : List (List Posting)) (ps : List Posting) → flat_map entry_bits (lists_entries all (a ++ ps ∷ rest))
+    ≡ flat_map entry_bits (lists_entries all a) ++ (flat_map entry_bits (entries_of_list all ps) ++ flat_map entry_bits (lists_entries all rest))
 unfolding lists_entries
 entries_split all a rest ps =
-    ap (flat_map entry_bits) (flat_map-append (entries_of_list all) a (ps ∷ rest)) ∙ flat_map-append entry_bits (flat_map (entries_of_list all) a) (entries_of_list all ps ++ flat_map (entries_of_list all) rest)
+    ap (flat_map entry_bits) (flat_map-append (entries_of_list all) a (ps ∷ rest)) ∙ flat_map-append entry_bits (flat_map (entries_of_list all) a)
+    (entries_of_list all ps ++ flat_map (entries_of_list all) rest)
     ∙ ap (λ l. flat_map entry_bits (flat_map (entries_of_list all) a) ++ l) (flat_map-append entry_bits (entries_of_list all ps) (flat_map (entries_of_list all) rest))
 
-pub list_stands : (all n : ℕ) (lists : List (List Posting)) (ps : List Posting) (post skip : List ℕ) → bits_of post ≡ lists_bits all lists → bits_of skip ≡ flat_map entry_bits (lists_entries all lists) →
+pub list_stands : (all n : ℕ) (lists : List (List Posting)) (ps : List Posting) (post skip : List ℕ) → bits_of post ≡ lists_bits all lists →
+    bits_of skip ≡ flat_map entry_bits (lists_entries all lists) →
     slice_get lists n ≡ Some ps → Rises all 0 ps → all < 2 ^ 32 - 1 → length (lists_bits all lists) ≤ 2 ^ 63 →
-    ListStands all (golomb_parameter all (length ps)) (Some post) (Some skip) (8 * (length (lists_bits all (take n lists)) / 8)) (length (lists_entries all (take n lists))) (length ps) (block_count (length ps)) ps
+    ListStands all (golomb_parameter all (length ps)) (Some post) (Some skip) (8 * (length (lists_bits all (take n lists)) / 8))
+    (length (lists_entries all (take n lists))) (length ps) (block_count (length ps)) ps
 list_stands all n lists ps post skip p s is rises few small =
     let a : List (List Posting) = take n lists in
     let rest : List (List Posting) = drop (suc n) lists in
     let split : lists ≡ take n lists ++ ps ∷ drop (suc n) lists = split_at lists n ps is in
-    let post_is : lists_bits all lists ≡ lists_bits all a ++ (bits_of_list all ps ++ (digits (to_byte (length (bits_of_list all ps))) 0 ++ lists_bits all rest)) = ap (lists_bits all) split ∙ bits_split all a rest ps in
-    let skip_is : flat_map entry_bits (lists_entries all lists) ≡ flat_map entry_bits (lists_entries all a) ++ (flat_map entry_bits (entries_of_list all ps) ++ flat_map entry_bits (lists_entries all rest)) = ap (λ l. flat_map entry_bits (lists_entries all l)) split ∙ entries_split all a rest ps in
+    let post_is : lists_bits all lists ≡ lists_bits all a
+    ++ (bits_of_list all ps ++ (digits (to_byte (length (bits_of_list all ps))) 0 ++ lists_bits all rest)) = ap (lists_bits all) split
+    ∙ bits_split all a rest ps in
+    let skip_is : flat_map entry_bits (lists_entries all lists) ≡ flat_map entry_bits (lists_entries all a)
+    ++ (flat_map entry_bits (entries_of_list all ps) ++ flat_map entry_bits (lists_entries all rest)) =
+    ap (λ l. flat_map entry_bits (lists_entries all l)) split ∙ entries_split all a rest ps in
     let at : 8 * (length (lists_bits all a) / 8) ≡ length (lists_bits all a) = omega (arith, lists_whole all a) in
     let long : length (lists_bits all lists) ≡ length (lists_bits all a) + (length (bits_of_list all ps) + length (digits (to_byte (length (bits_of_list all ps))) 0 ++ lists_bits all rest)) =
     ap length post_is ∙ length-append (lists_bits all a) (bits_of_list all ps ++ (digits (to_byte (length (bits_of_list all ps))) 0 ++ lists_bits all rest))
     ∙ ap (λ m. length (lists_bits all a) + m) (length-append (bits_of_list all ps) (digits (to_byte (length (bits_of_list all ps))) 0 ++ lists_bits all rest)) in
     let front : Begins (flat_map entry_bits (entries_of_list all ps)) (drop (length (flat_map entry_bits (lists_entries all a))) (bits_of skip)) =
-    subst (λ l. Begins (flat_map entry_bits (entries_of_list all ps)) (drop (length (flat_map entry_bits (lists_entries all a))) l)) (sym (s ∙ skip_is)) (stands_in (flat_map entry_bits (lists_entries all a)) (flat_map entry_bits (entries_of_list all ps)) (flat_map entry_bits (lists_entries all rest))) in
+    subst (λ l. Begins (flat_map entry_bits (entries_of_list all ps)) (drop (length (flat_map entry_bits (lists_entries all a))) l)) (sym (s ∙ skip_is))
+    (stands_in (flat_map entry_bits (lists_entries all a)) (flat_map entry_bits (entries_of_list all ps)) (flat_map entry_bits (lists_entries all rest))) in
     record {
       entries = record {
         rises = rises;
@@ -92,7 +104,8 @@ list_stands all n lists ps post skip p s is rises few small =
         entries = λ k lt.
             let here : Begins (entry_bits (entry_of (golomb_parameter all (length ps)) k ps)) (drop (128 * k) (drop (length (flat_map entry_bits (lists_entries all a))) (bits_of skip))) =
             entry_stands (golomb_parameter all (length ps)) (block_count (length ps)) k ps _ lt front in
-            let there : Begins (entry_bits (entry_of (golomb_parameter all (length ps)) k ps)) (drop (length (flat_map entry_bits (lists_entries all a)) + 128 * k) (bits_of skip)) = rw drop-drop at here in
+            let there : Begins (entry_bits (entry_of (golomb_parameter all (length ps)) k ps))
+            (drop (length (flat_map entry_bits (lists_entries all a)) + 128 * k) (bits_of skip)) = rw drop-drop at here in
             let e : length (flat_map entry_bits (lists_entries all a)) + 128 * k ≡ 128 * (length (lists_entries all a) + k) = omega (arith, length_entries (lists_entries all a)) in
             subst (λ m. Begins (entry_bits (entry_of (golomb_parameter all (length ps)) k ps)) (drop m (bits_of skip))) e there;
         most = omega arith;
@@ -100,7 +113,8 @@ list_stands all n lists ps post skip p s is rises few small =
       };
       bits =
           subst (λ m. Begins (bits_of_list all ps) (drop m (bits_of post))) (sym at)
-          (subst (λ l. Begins (bits_of_list all ps) (drop (length (lists_bits all a)) l)) (sym (p ∙ post_is)) (stands_in (lists_bits all a) (bits_of_list all ps) (digits (to_byte (length (bits_of_list all ps))) 0 ++ lists_bits all rest)));
+          (subst (λ l. Begins (bits_of_list all ps) (drop (length (lists_bits all a)) l)) (sym (p ∙ post_is))
+          (stands_in (lists_bits all a) (bits_of_list all ps) (digits (to_byte (length (bits_of_list all ps))) 0 ++ lists_bits all rest)));
       small = omega (arith, at, long, small);
       whole = refl;
       few = few;
@@ -111,11 +125,15 @@ got_mapped collection [] n t is = absurd cc
 got_mapped collection (u ∷ terms) zero t is = let e : u ≡ t = cc in ap (λ x. Some (postings collection x)) e
 got_mapped collection (u ∷ terms) (suc n) t is = got_mapped collection terms n t is
 
-pub term_stands : (collection : List ℕ) (n : ℕ) (t : List ℕ) (post skip : List ℕ) → length collection < 2 ^ 32 → length (documents collection) < 2 ^ 32 - 1 → bits_of post ≡ post_bits collection → bits_of skip ≡ skip_bits collection →
+pub term_stands : (collection : List ℕ) (n : ℕ) (t : List ℕ) (post skip : List ℕ) → length collection < 2 ^ 32 → length (documents collection) < 2 ^ 32 - 1 →
+    bits_of post ≡ post_bits collection → bits_of skip ≡ skip_bits collection →
     slice_get (dictionary collection) n ≡ Some t → length (post_bits collection) ≤ 2 ^ 63 →
-    ListStands (length (documents collection)) (golomb_parameter (length (documents collection)) (length (postings collection t))) (Some post) (Some skip) (8 * list_byte collection n) (first_entry collection n) (length (postings collection t)) (block_count (length (postings collection t))) (postings collection t)
+    ListStands (length (documents collection)) (golomb_parameter (length (documents collection)) (length (postings collection t))) (Some post) (Some skip)
+    (8 * list_byte collection n) (first_entry collection n) (length (postings collection t)) (block_count (length (postings collection t)))
+    (postings collection t)
 term_stands collection n t post skip short few p s is small =
-    list_stands (length (documents collection)) n (inverted collection) (postings collection t) post skip p s (got_mapped collection (dictionary collection) n t is) (list_rises collection t short) few small
+    list_stands (length (documents collection)) n (inverted collection) (postings collection t) post skip p s
+    (got_mapped collection (dictionary collection) n t is) (list_rises collection t short) few small
 
 pub ended : (c : Cursoring) (ps : List Posting) → ps ≢ [] → StandsAt c ps [] → c.ended ≡ true
 ended c ps some at = ended_after c.ended ps c.reached c.last c.held (by_case ps some) at.on
@@ -138,14 +156,16 @@ stands_same c d f g ps same told post skip stands =
     let skip_is : told_at g d.skip.name ≡ told_at f c.skip.name = ap (told_at g) same.skip ∙ told_same f g c.skip.name told skip in
     record { list = rw (post_is, skip_is, same.post_at, same.skip_at, same.docs, same.all, same.parameter) stands.list }
 
-pub fits_same : (c : Cursoring) (f g : Option Files) → is_some g ≡ is_some f → file_at g c.post.name ≡ file_at f c.post.name → file_at g c.skip.name ≡ file_at f c.skip.name → CursorFits c f → CursorFits c g
+pub fits_same : (c : Cursoring) (f g : Option Files) → is_some g ≡ is_some f → file_at g c.post.name ≡ file_at f c.post.name →
+    file_at g c.skip.name ≡ file_at f c.skip.name → CursorFits c f → CursorFits c g
 fits_same c f g told post skip fits = record {
   post = held_page_stays c.post f g told post fits.post;
   skip = held_page_stays c.skip f g told skip fits.skip;
   entries = fits.entries;
 }
 
-pub took_stays : (w : Listing) (f g : Option Files) (lists : List (List Posting)) (ps : List Posting) → is_some g ≡ is_some f → file_at g w.post.name ≡ file_at f w.post.name → file_at g w.skip.name ≡ file_at f w.skip.name → Took w f lists ps → Took w g lists ps
+pub took_stays : (w : Listing) (f g : Option Files) (lists : List (List Posting)) (ps : List Posting) → is_some g ≡ is_some f →
+    file_at g w.post.name ≡ file_at f w.post.name → file_at g w.skip.name ≡ file_at f w.skip.name → Took w f lists ps → Took w g lists ps
 took_stays w f g lists ps told post skip is = record {
   apart = is.apart;
   post_holds = holds_stay w.post f g told post is.post_holds;

@@ -236,7 +236,8 @@ module _ {Dev : Type 0} {device : Dev → Seen} {c : Cursoring} {d0 d1 : Dev} {d
 
   -- all blocks end before the document
   pub step_past : (held : List Posting) → ReadsFeed (SearchesBlock (search_of c doc blocks)) Fits (feeding_of 4096) device (reader c.skip place) skip d0 d1 (Ok None) → held ≡ [] →
-      CursorStep c (record c { skip = skip.feed; reached = blocks; held = held; ended = true }) doc doc (from_doc doc) (Ok None) (device d0).files (device d1).files (device d0).reads (device d1).reads (device d0).faults (device d1).faults
+      CursorStep c (record c { skip = skip.feed; reached = blocks; held = held; ended = true }) doc doc (from_doc doc) (Ok None) (device d0).files
+      (device d1).files (device d0).reads (device d1).reads (device d0).faults (device d1).faults
   step_past held s empty = record {
     fits = record { post = subst (Fits c.post) (sym s.calm.files) k.fits.post; skip = s.fits; entries = s.does.reads };
     same = record { post = refl; skip = (same_file c.skip skip.feed _ _ s.calm).name; post_at = refl; skip_at = refl; docs = refl; all = refl; parameter = refl };
@@ -248,7 +249,8 @@ module _ {Dev : Type 0} {device : Dev → Seen} {c : Cursoring} {d0 d1 : Dev} {d
     entered = λ ps left stands at. (λ le. refl, λ lt. refl);
     first = k.first;
     third = third_of c blocks skip.feed.count k.count s.does.most;
-    reads = reads_two c (record c { skip = skip.feed; reached = blocks; held = held; ended = true }) (device d0) (device d1) (device d1) k.post k.skip s.calm (calm_none (feeding_of 4096 c.post) (device d1)) k.first;
+    reads = reads_two c (record c { skip = skip.feed; reached = blocks; held = held; ended = true }) (device d0) (device d1) (device d1) k.post k.skip s.calm
+        (calm_none (feeding_of 4096 c.post) (device d1)) k.first;
     current = sym (ap head_of empty);
     sound = tt;
     forward = k.reached;
@@ -274,19 +276,29 @@ module _ {Dev : Type 0} {device : Dev → Seen} {c : Cursoring} {d0 d1 : Dev} {d
 
   -- ---- the block that was found is entered
 
-  module _ {d2 : Dev} {found : Found} {at : ℕ} {post : Reading Paging} (s : ReadsFeed (SearchesBlock (search_of c doc blocks)) Fits (feeding_of 4096) device (reader c.skip place) skip d0 d1 (Ok (Some found))) where
+  module _ {d2 : Dev} {found : Found} {at : ℕ} {post : Reading Paging}
+      (s : ReadsFeed (SearchesBlock (search_of c doc blocks)) Fits (feeding_of 4096) device (reader c.skip place) skip d0 d1 (Ok (Some found))) where
     -- its postings were refused
     pub step_missing : {refusal : Refusal} {held : List Posting} (e : PartErr) (read entered : ℕ) →
         ReadsFeed (EntersFound (list_of c) found doc held) Fits (feeding_of 4096) device (reader c.post at) post d1 d2 (Err refusal) →
         IsRefused refusal Post e → read ≡ post.feed.count - c.post.count → entered ≡ min (c.entered + read) (2 ^ 64 - 1) →
-        CursorStep c (record c { skip = skip.feed; post = post.feed; entered = entered }) doc doc (from_doc doc) (Err e) (device d0).files (device d2).files (device d0).reads (device d2).reads (device d0).faults (device d2).faults
+        CursorStep c (record c { skip = skip.feed; post = post.feed; entered = entered }) doc doc (from_doc doc) (Err e) (device d0).files (device d2).files
+        (device d0).reads (device d2).reads (device d0).faults (device d2).faults
     step_missing {refusal = refusal} {held = held} e read entered w is counted raised =
         let up = raised_by c.post.count post.feed.count c.entered read k.small k.first (omega (arith, counted, w.calm.counted.later)) in
         let first : min post.feed.count (2 ^ 64 - 1) ≤ entered = omega (arith, raised, up.1) in
         let least : c.entered ≤ entered = omega (arith, raised, up.0) in
         record {
           fits = tt;
-          same = record { post = (same_file c.post post.feed _ _ w.calm).name; skip = (same_file c.skip skip.feed _ _ s.calm).name; post_at = refl; skip_at = refl; docs = refl; all = refl; parameter = refl };
+          same = record {
+            post = (same_file c.post post.feed _ _ w.calm).name;
+            skip = (same_file c.skip skip.feed _ _ s.calm).name;
+            post_at = refl;
+            skip_at = refl;
+            docs = refl;
+            all = refl;
+            parameter = refl;
+          };
           answer = λ ps left stands on.
               let entries = at_blocks c (device d0).files blocks ps k.count stands.list.entries in
               refused_answer refusal Post e _ _ is
@@ -327,7 +339,8 @@ module _ {Dev : Type 0} {device : Dev → Seen} {c : Cursoring} {d0 d1 : Dev} {d
                 told = s.does.tells;
                 missing = λ ps stands.
                     let answer = w.does.block ps s.does.found.below s.does.found.within
-                    (subst (λ f. BlockStands c.all c.parameter (told_at f c.post.name) (8 * c.post_at + found.at) (min (c.docs - 64 * found.block) 64) found.before found.last ps) (sym s.calm.files) stands) in
+                    (subst (λ f. BlockStands c.all c.parameter (told_at f c.post.name) (8 * c.post_at + found.at) (min (c.docs - 64 * found.block) 64)
+                    found.before found.last ps) (sym s.calm.files) stands) in
                     rw damaged at answer;
                 at_is =
                     let lacks = rw damaged at w.does.lacks in
@@ -353,12 +366,21 @@ module _ {Dev : Type 0} {device : Dev → Seen} {c : Cursoring} {d0 d1 : Dev} {d
         let first : min post.feed.count (2 ^ 64 - 1) ≤ entered = omega (arith, raised, up.1) in
         record {
           fits = record { post = w.fits; skip = subst (Fits skip.feed) (sym w.calm.files) s.fits; entries = s.does.reads };
-          same = record { post = (same_file c.post post.feed _ _ w.calm).name; skip = (same_file c.skip skip.feed _ _ s.calm).name; post_at = refl; skip_at = refl; docs = refl; all = refl; parameter = refl };
+          same = record {
+            post = (same_file c.post post.feed _ _ w.calm).name;
+            skip = (same_file c.skip skip.feed _ _ s.calm).name;
+            post_at = refl;
+            skip_at = refl;
+            docs = refl;
+            all = refl;
+            parameter = refl;
+          };
           answer = λ ps left stands on.
               let entries = at_blocks c (device d0).files blocks ps k.count stands.list.entries in
               let f = found_at s ps left entries on in
               let e = w.does.told ps blocks entries.rises stands.list.whole (shows_at s ps stands.list) stands.list.small f in
-              let r = on_block c.ended c.all doc c.parameter ps c.reached c.last blocks found.block found.before found.last found.at (8 * c.post_at) inside.pages c.held left block held inside.posting k.on entries.rises k.beyond on.on f e swapped in
+              let r = on_block c.ended c.all doc c.parameter ps c.reached c.last blocks found.block found.before found.last found.at (8 * c.post_at)
+              inside.pages c.held left block held inside.posting k.on entries.rises k.beyond on.on f e swapped in
               (r.0, record { on = r.1 });
           entered = λ ps left stands on.
               let entries = at_blocks c (device d0).files blocks ps k.count stands.list.entries in
@@ -375,7 +397,8 @@ module _ {Dev : Type 0} {device : Dev → Seen} {c : Cursoring} {d0 d1 : Dev} {d
               );
           first = first;
           third = third_of c blocks skip.feed.count k.count s.does.most;
-          reads = reads_two c (record c { skip = skip.feed; post = post.feed; reached = found.block + 1; last = found.last; held = held; entered = entered }) (device d0) (device d1) (device d2) k.post k.skip s.calm w.calm first;
+          reads = reads_two c (record c { skip = skip.feed; post = post.feed; reached = found.block + 1; last = found.last; held = held; entered = entered })
+              (device d0) (device d1) (device d2) k.post k.skip s.calm w.calm first;
           current = sym (ap head_of swapped ∙ w.does.current);
           sound = w.does.from;
           forward = omega (arith, s.does.found.from);

@@ -24,8 +24,10 @@ use Rattle.mg_bits.proofs.CallerLemmas.{is_told}
 use Rattle.mg_post.proofs.StandLaws.{term_stands}
 use Rattle.mg_post.proofs.LifeLaws.{entered_more, entered_most, pages_few, reads_after}
 
-pub term_starts : (base collection asked t : List ℕ) (n all : ℕ) (info : TermInfo) (c : Cursoring) → IsInfoOf collection t info → all ≡ length (documents collection) → IsOver c (full_name base Post) (full_name base Skip) info.post_at info.skip_at info.docs all →
-    (1 ≤ info.docs → c.parameter ≡ golomb_parameter all info.docs) → ((ps : List Posting) → StandsAt c ps ps) → entered_pages c ≡ 0 → post_pages c ≤ entered_pages c → CursorFor base collection asked t n c
+pub term_starts : (base collection asked t : List ℕ) (n all : ℕ) (info : TermInfo) (c : Cursoring) → IsInfoOf collection t info →
+    all ≡ length (documents collection) → IsOver c (full_name base Post) (full_name base Skip) info.post_at info.skip_at info.docs all →
+    (1 ≤ info.docs → c.parameter ≡ golomb_parameter all info.docs) → ((ps : List Posting) → StandsAt c ps ps) → entered_pages c ≡ 0 →
+    post_pages c ≤ entered_pages c → CursorFor base collection asked t n c
 term_starts base collection asked t n all info c told all_is over parameter at none first =
     let docs_is : info.docs ≡ length (postings collection t) = ap (λ (i : defs.TermInfo). i.docs) told.is ∙ sym (length_postings collection t) in
     let some : 1 ≤ info.docs = omega (arith, ap (λ (i : defs.TermInfo). i.docs) told.is, term_some collection info.number t told.number) in
@@ -48,7 +50,8 @@ term_starts base collection asked t n all info c told all_is over parameter at n
       within = omega (arith, none);
     }
 
-pub cursor_stands : (base collection asked t : List ℕ) (n : ℕ) (files : Option Files) (c : Cursoring) → ListsStand base files collection → CursorFor base collection asked t n c → CursorStands c files (postings collection t)
+pub cursor_stands : (base collection asked t : List ℕ) (n : ℕ) (files : Option Files) (c : Cursoring) → ListsStand base files collection →
+    CursorFor base collection asked t n c → CursorStands c files (postings collection t)
 cursor_stands base collection asked t n files c stand f =
     let list = term_stands collection f.number t (bytes_at files (full_name base Post)) (bytes_at files (full_name base Skip)) stand.short stand.few stand.post stand.skip f.term stand.small in
     let post_is : told_at files c.post.name ≡ Some (bytes_at files (full_name base Post)) = ap (told_at files) f.over.post_is ∙ is_told files (full_name base Post) stand.told in
@@ -56,8 +59,10 @@ cursor_stands base collection asked t n files c stand f =
     record { list = rw (post_is, skip_is, f.over.post_at_is, f.over.skip_at_is, f.over.docs_is, f.over.all_is, f.parameter) list }
 
 -- after a call that was answered
-after_posting : (base collection asked t : List ℕ) (doc : ℕ) (c v : Cursoring) (found : Option Posting) (f : CursorFor base collection asked t doc c) → IsAmong asked (postings collection t) doc → SameList c v → c.reached ≤ v.reached → post_pages v ≤ entered_pages v →
-    (found ≡ head_of (from_doc doc (from_doc f.reached_doc (postings collection t)))) × StandsAt v (postings collection t) (from_doc doc (from_doc f.reached_doc (postings collection t))) → Enters (Ok found) (postings collection t) c doc v →
+after_posting : (base collection asked t : List ℕ) (doc : ℕ) (c v : Cursoring) (found : Option Posting) (f : CursorFor base collection asked t doc c) →
+    IsAmong asked (postings collection t) doc → SameList c v → c.reached ≤ v.reached → post_pages v ≤ entered_pages v →
+    (found ≡ head_of (from_doc doc (from_doc f.reached_doc (postings collection t)))) × StandsAt v (postings collection t)
+    (from_doc doc (from_doc f.reached_doc (postings collection t))) → Enters (Ok found) (postings collection t) c doc v →
     AnswersAsk base collection asked t doc found v
 after_posting base collection asked t doc c v found f may same forward first answer enters =
     let ps = postings collection t in
@@ -91,13 +96,17 @@ Answered files c doc r v = (ps left : List Posting) → CursorStands c files ps 
 abbrev Entered : Option Files → Cursoring → ℕ → Result (Option Posting) PartErr → Cursoring → Type 0
 Entered files c doc r v = (ps left : List Posting) → CursorStands c files ps → StandsAt c ps left → Enters r ps c doc v
 
-pub asked_answer : (base collection asked t : List ℕ) (doc : ℕ) (files : Option Files) (c v : Cursoring) (r : Result (Option Posting) PartErr) → MayAsk base collection asked t doc files c → SameList c v → c.reached ≤ v.reached → post_pages v ≤ entered_pages v → Answered files c doc r v → Entered files c doc r v →
+pub asked_answer : (base collection asked t : List ℕ) (doc : ℕ) (files : Option Files) (c v : Cursoring) (r : Result (Option Posting) PartErr) →
+    MayAsk base collection asked t doc files c → SameList c v → c.reached ≤ v.reached → post_pages v ≤ entered_pages v → Answered files c doc r v →
+    Entered files c doc r v →
     AnswersList r (λ found. AnswersAsk base collection asked t doc found v)
 asked_answer base collection asked t doc files c v (Ok found) m same forward first answer enters =
     let ps = postings collection t in
     let left = from_doc m.cursor.reached_doc ps in
     let stands = cursor_stands base collection asked t doc files c m.stand m.cursor in
-    after_posting base collection asked t doc c v found m.cursor m.among same forward first (answer (postings collection t) (from_doc m.cursor.reached_doc (postings collection t)) stands m.cursor.at) (enters (postings collection t) (from_doc m.cursor.reached_doc (postings collection t)) stands m.cursor.at)
+    after_posting base collection asked t doc c v found m.cursor m.among same forward first
+    (answer (postings collection t) (from_doc m.cursor.reached_doc (postings collection t)) stands m.cursor.at)
+    (enters (postings collection t) (from_doc m.cursor.reached_doc (postings collection t)) stands m.cursor.at)
 asked_answer base collection asked t doc files c v (Err err.Device) m same forward first answer enters = tt
 asked_answer base collection asked t doc files c v (Err err.Memory) m same forward first answer enters =
     absurd (answer (postings collection t) (from_doc m.cursor.reached_doc (postings collection t)) (cursor_stands base collection asked t doc files c m.stand m.cursor) m.cursor.at)
@@ -106,19 +115,22 @@ asked_answer base collection asked t doc files c v (Err (err.Bad bad)) m same fo
 
 -- ---- how many pages
 
-pub pages_are : (base collection asked t : List ℕ) (n : ℕ) (c : Cursoring) → CursorFor base collection asked t n c → met_pages asked c.parameter (8 * c.post_at) (block_count (length (postings collection t))) (postings collection t) ≡ pages_for collection asked t
+pub pages_are : (base collection asked t : List ℕ) (n : ℕ) (c : Cursoring) → CursorFor base collection asked t n c →
+    met_pages asked c.parameter (8 * c.post_at) (block_count (length (postings collection t))) (postings collection t) ≡ pages_for collection asked t
 unfolding pages_for
 pages_are base collection asked t n c f =
     let ps = postings collection t in
     let at : 8 * c.post_at ≡ list_bit collection t = ap (λ x. 8 * x) f.over.post_at_is ∙ ap (λ k. 8 * list_byte collection k) (sym (number_is collection f.number t f.term)) in
     ap (λ x. met_pages asked x (8 * c.post_at) (block_count (length ps)) ps) f.parameter ∙ ap (λ x. met_pages asked (parameter_of collection t) x (block_count (length ps)) ps) at
 
-pub asked_pages : (base collection asked t : List ℕ) (doc : ℕ) (files : Option Files) (c v : Cursoring) (r : Result (Option Posting) PartErr) (before now : Reads) → MayAsk base collection asked t doc files c → ReadsTwo c v before now → Entered files c doc r v →
+pub asked_pages : (base collection asked t : List ℕ) (doc : ℕ) (files : Option Files) (c v : Cursoring) (r : Result (Option Posting) PartErr)
+    (before now : Reads) → MayAsk base collection asked t doc files c → ReadsTwo c v before now → Entered files c doc r v →
     PagesWithin (pages_for collection asked t) (post_pages c) (post_pages v) before now
 asked_pages base collection asked t doc files c v r before now m two enters =
     let ps = postings collection t in
     let stands = cursor_stands base collection asked t doc files c m.stand m.cursor in
-    let most = entered_most asked (postings collection t) c v doc r m.among (enters (postings collection t) (from_doc m.cursor.reached_doc (postings collection t)) stands m.cursor.at) m.cursor.within in
+    let most = entered_most asked (postings collection t) c v doc r m.among
+    (enters (postings collection t) (from_doc m.cursor.reached_doc (postings collection t)) stands m.cursor.at) m.cursor.within in
     let few = pages_few asked (postings collection t) files c stands in
     let same = pages_are base collection asked t doc c m.cursor in
     record { within = omega (arith, two.first, most, same); post = reads_after c v before now two (omega (arith, most, few)) }

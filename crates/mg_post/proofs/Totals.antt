@@ -16,7 +16,13 @@ unfolding lists_bits
 byte_fits collection n short small few =
     let all = length (documents collection) in
     let f : List Posting → ℕ = λ ps. length (filled (bits_of_list all ps)) in
-    omega (arith, length-flat_map (λ ps. filled (bits_of_list all ps)) (take n (inverted collection)), length-flat_map (λ ps. filled (bits_of_list all ps)) (inverted collection), sum_by-take-le f (inverted collection) n, post_short collection short small few)
+    omega (
+      arith,
+      length-flat_map (λ ps. filled (bits_of_list all ps)) (take n (inverted collection)),
+      length-flat_map (λ ps. filled (bits_of_list all ps)) (inverted collection),
+      sum_by-take-le f (inverted collection) n,
+      post_short collection short small few,
+    )
 
 pub docs_fit : (collection t : List ℕ) → length (documents collection) ≤ 2 ^ 24 → docs collection t < 2 ^ 32
 docs_fit collection t small = omega (arith, count_by-le-length (λ doc. list_any (same_term t) (terms doc)) (documents collection), small)

@@ -19,7 +19,8 @@ unfolding pages_for list_pages
 pages_in_list collection asked t = met_whole asked (parameter_of collection t) (list_bit collection t) (block_count (length (postings collection t))) (postings collection t)
 
 -- a list may be asked for the document after its last one
-pub list_may_ask : (base collection t : List ℕ) (last : ℕ) (files : Option Files) (c : Cursoring) → ListsStand base files collection → ListFor base collection t last c → MayAsk base collection (numbers_in (postings collection t)) t (last + 1) files c
+pub list_may_ask : (base collection t : List ℕ) (last : ℕ) (files : Option Files) (c : Cursoring) → ListsStand base files collection →
+    ListFor base collection t last c → MayAsk base collection (numbers_in (postings collection t)) t (last + 1) files c
 list_may_ask base collection t last files c stand f = record {
   stand = stand;
   cursor = cursor_later base collection (numbers_in (postings collection t)) t last (last + 1) c (omega arith) f;

@@ -74,7 +74,8 @@ unfolding doc_before
 all_docs n ps le = ap (last_doc 0) (take_all n ps le)
 
 -- the entry of a block that ends the list
-last_entry : (b full last block_at : ℕ) (ps : List Posting) → length ps ≤ 64 * (full + 1) → last ≡ last_doc 0 ps → block_at ≡ bits_before b (64 * full) ps → entry_of b full ps ≡ skip_entry last block_at
+last_entry : (b full last block_at : ℕ) (ps : List Posting) → length ps ≤ 64 * (full + 1) → last ≡ last_doc 0 ps → block_at ≡ bits_before b (64 * full) ps →
+    entry_of b full ps ≡ skip_entry last block_at
 last_entry b full last block_at ps le last_is is =
     ap (λ d. skip_entry d (bits_before b (64 * full) ps)) (all_docs (64 * (full + 1)) ps le ∙ sym last_is) ∙ ap (λ n. skip_entry last n) (sym is)
 
@@ -82,7 +83,8 @@ one_entry : (es : List SkipEntry) (e : SkipEntry) → flat_map entry_bytes (es +
 one_entry es e = flat_map-append entry_bytes es (e ∷ []) ∙ ap (λ l. flat_map entry_bytes es ++ l) (append-nil (entry_bytes e))
 
 -- the bytes of the entries with one more
-entries_more : (had : List SkipEntry) (b full : ℕ) (ps : List Posting) (e : SkipEntry) → entry_of b full ps ≡ e → flat_map entry_bytes (had ++ entries_to b (full + 1) ps) ≡ flat_map entry_bytes (had ++ entries_to b full ps) ++ entry_bytes e
+entries_more : (had : List SkipEntry) (b full : ℕ) (ps : List Posting) (e : SkipEntry) → entry_of b full ps ≡ e →
+    flat_map entry_bytes (had ++ entries_to b (full + 1) ps) ≡ flat_map entry_bytes (had ++ entries_to b full ps) ++ entry_bytes e
 entries_more had b full ps e is =
     ap (λ l. flat_map entry_bytes (had ++ l)) (entries_next b full ps) ∙ ap (flat_map entry_bytes) (sym (append_assoc had (entries_to b full ps) (entry_of b full ps ∷ [])))
     ∙ one_entry (had ++ entries_to b full ps) (entry_of b full ps) ∙ ap (λ x. flat_map entry_bytes (had ++ entries_to b full ps) ++ entry_bytes x) is
@@ -100,7 +102,8 @@ took_posting w q f g r s lists ps p wrote to holds short within few part took =
       post_holds = holds;
       post_bits = λ told.
           let back : IsSome f = told_back f g to.told told in
-          wrote.told back ∙ ap (λ l. l ++ posting_bits w.parameter w.last p) (took.post_bits back) ∙ append_assoc (lists_bits w.all lists) (bits_after w.parameter 0 ps) (posting_bits w.parameter w.last p)
+          wrote.told back ∙ ap (λ l. l ++ posting_bits w.parameter w.last p) (took.post_bits back)
+          ∙ append_assoc (lists_bits w.all lists) (bits_after w.parameter 0 ps) (posting_bits w.parameter w.last p)
           ∙ ap (λ l. lists_bits w.all lists ++ l) (sym (bits_one w.parameter w.last ps p took.last));
       skip_bytes = λ told.
           bytes_stay w.skip w.post.name f g r s to (λ same. took.apart (sym same)) ∙ took.skip_bytes (told_back f g to.told told)
@@ -138,7 +141,8 @@ took_entry w q k f g h r s t lists ps p at wrote to holds short within few entry
           let mid : IsSome g = told_back g h entry_to.told told in
           let back : IsSome f = told_back f g to.told mid in
           put_stays q w.skip.name g h s t entry_to apart_q
-          ∙ wrote.told back ∙ ap (λ l. l ++ posting_bits w.parameter w.last p) (took.post_bits back) ∙ append_assoc (lists_bits w.all lists) (bits_after w.parameter 0 ps) (posting_bits w.parameter w.last p)
+          ∙ wrote.told back ∙ ap (λ l. l ++ posting_bits w.parameter w.last p) (took.post_bits back)
+          ∙ append_assoc (lists_bits w.all lists) (bits_after w.parameter 0 ps) (posting_bits w.parameter w.last p)
           ∙ ap (λ l. lists_bits w.all lists ++ l) (sym (bits_one w.parameter w.last ps p took.last));
       skip_bytes = λ told.
           let mid : IsSome g = told_back g h entry_to.told told in
@@ -147,7 +151,8 @@ took_entry w q k f g h r s t lists ps p at wrote to holds short within few entry
           ∙ ap (λ l. l ++ entry_bytes (skip_entry p.doc w.block_at)) (bytes_stay w.skip w.post.name f g r s to (λ same. took.apart (sym same)) ∙ took.skip_bytes back
           ∙ ap (λ l. flat_map entry_bytes (lists_entries w.all lists ++ l)) (sym (entries_keep w.parameter w.full ps (p ∷ []) took.full)))
           ∙ sym (entries_more (lists_entries w.all lists) w.parameter w.full (ps ++ p ∷ []) (skip_entry p.doc w.block_at)
-          (last_entry w.parameter w.full p.doc w.block_at (ps ++ p ∷ []) (omega (arith, all)) (sym (last_more 0 ps p)) (took.block_at ∙ sym (bits_keep w.parameter (64 * w.full) ps (p ∷ []) took.full))));
+          (last_entry w.parameter w.full p.doc w.block_at (ps ++ p ∷ []) (omega (arith, all)) (sym (last_more 0 ps p))
+          (took.block_at ∙ sym (bits_keep w.parameter (64 * w.full) ps (p ∷ []) took.full))));
       start = took.start;
       place = place_is;
       first = took.first;
@@ -190,7 +195,8 @@ skip_ended w k f g r s lists ps blocks some none to took =
             bytes = λ told.
                 let back : IsSome f = told_back f g to.told told in
                 put.1.bytes back ∙ ap (λ l. l ++ entry_bytes (skip_entry w.last w.block_at)) (took.skip_bytes back)
-                ∙ sym (entries_more (lists_entries w.all lists) w.parameter w.full ps (skip_entry w.last w.block_at) (last_entry w.parameter w.full w.last w.block_at ps (omega (arith, took.rest)) took.last took.block_at))
+                ∙ sym (entries_more (lists_entries w.all lists) w.parameter w.full ps (skip_entry w.last w.block_at)
+                (last_entry w.parameter w.full w.last w.block_at ps (omega (arith, took.rest)) took.last took.block_at))
                 ∙ ap (λ n. flat_map entry_bytes (lists_entries w.all lists ++ entries_to w.parameter n ps)) (sym is);
             few = omega (arith, is, more);
           })
@@ -215,7 +221,12 @@ filled_whole bits = omega (arith, length-append bits (digits (to_byte (length bi
 pub lists_whole : (all : ℕ) (lists : List (List Posting)) → length (lists_bits all lists) % 8 ≡ 0
 unfolding lists_bits
 lists_whole all [] = refl
-lists_whole all (ps ∷ lists) = omega (arith, length-append (filled (bits_of_list all ps)) (flat_map (λ qs. filled (bits_of_list all qs)) lists), filled_whole (bits_of_list all ps), lists_whole all lists)
+lists_whole all (ps ∷ lists) = omega (
+  arith,
+  length-append (filled (bits_of_list all ps)) (flat_map (λ qs. filled (bits_of_list all qs)) lists),
+  filled_whole (bits_of_list all ps),
+  lists_whole all lists,
+)
 
 pub one_list_more : (all : ℕ) (lists : List (List Posting)) (ps : List Posting) → lists_bits all (lists ++ ps ∷ []) ≡ lists_bits all lists ++ filled (bits_of_list all ps)
 unfolding lists_bits
@@ -251,7 +262,8 @@ unfolding last_doc
 no_last = refl
 
 pub took_ended : (w : Listing) (q : BitWriting) (k : Writing) (f g h : Option Files) (r s t : Reads) (lists : List (List Posting)) (ps : List Posting) (blocks : ℕ) →
-    SkipEnded w k g lists ps blocks → WroteTo w.skip.name f g r s → WroteBits w.post q g h (digits (to_byte w.post.place) 0) → WroteTo w.post.name g h s t → Holds q h → w.pushed ≡ w.docs → Took w f lists ps →
+    SkipEnded w k g lists ps blocks → WroteTo w.skip.name f g r s → WroteBits w.post q g h (digits (to_byte w.post.place) 0) → WroteTo w.post.name g h s t →
+    Holds q h → w.pushed ≡ w.docs → Took w f lists ps →
     Took (record w { post = q; skip = k; start = q.place; first = w.first + blocks; pushed = 0; last = 0; full = 0; block_at = 0 }) h (lists ++ ps ∷ []) []
 took_ended w q k f g h r s t lists ps blocks ended to align align_to align_holds whole took =
     let apart_k : k.name ≢ w.post.name = λ same. took.apart (sym same ∙ ended.name) in
@@ -276,10 +288,18 @@ took_ended w q k f g h r s t lists ps blocks ended to align align_to align_holds
       skip_bytes = λ told.
           let mid : IsSome g = told_back g h align_to.told told in
           bytes_stay k w.post.name g h s t align_to apart_k ∙ ended.bytes mid ∙ ap (λ l. flat_map entry_bytes (lists_entries w.all lists ++ l)) its
-          ∙ ap (flat_map entry_bytes) (sym (its_entries_more w.all lists ps) ∙ sym (append-nil (lists_entries w.all (lists ++ ps ∷ []))) ∙ ap (λ l. lists_entries w.all (lists ++ ps ∷ []) ++ l) (sym (no_entries w.parameter)));
+          ∙ ap (flat_map entry_bytes) (sym (its_entries_more w.all lists ps) ∙ sym (append-nil (lists_entries w.all (lists ++ ps ∷ [])))
+          ∙ ap (λ l. lists_entries w.all (lists ++ ps ∷ []) ++ l) (sym (no_entries w.parameter)));
       start = start_is;
       place = let none : length (bits_after w.parameter 0 []) ≡ 0 = ap length (nothing_after w.parameter) in omega (arith, none);
-      first = omega (arith, took.first, ap length its, length_entries_to w.parameter blocks ps, ap length (its_entries_more w.all lists ps), length-append (lists_entries w.all lists) (entries_of_list w.all ps));
+      first = omega (
+        arith,
+        took.first,
+        ap length its,
+        length_entries_to w.parameter blocks ps,
+        ap length (its_entries_more w.all lists ps),
+        length-append (lists_entries w.all lists) (entries_of_list w.all ps),
+      );
       pushed = refl;
       last = no_last;
       full = omega arith;
@@ -299,8 +319,10 @@ begun_at w files lists ps took whole = (ap (λ n. n / 8) took.start, took.first,
 
 -- ---- the first call, a list begun, and the last call
 
-pub took_none : (w : Listing) (f g h : Option Files) (r s t : Reads) → w.pushed ≡ 0 → w.last ≡ 0 → w.total ≡ 0 → w.start ≡ 0 → w.first ≡ 0 → w.full ≡ 0 → w.block_at ≡ 0 → w.post.place ≡ 0 → w.all ≤ 2 ^ 24 → 1 ≤ w.docs →
-    w.parameter ≡ golomb_parameter w.all w.docs → w.post.name ≢ w.skip.name → (IsSome f → bits_put w.post g ≡ []) → is_some g ≡ is_some f → Holds w.post g → (IsSome g → put_to w.skip h ≡ []) → WroteTo w.skip.name g h s t → Took w h [] []
+pub took_none : (w : Listing) (f g h : Option Files) (r s t : Reads) → w.pushed ≡ 0 → w.last ≡ 0 → w.total ≡ 0 → w.start ≡ 0 → w.first ≡ 0 → w.full ≡ 0 →
+    w.block_at ≡ 0 → w.post.place ≡ 0 → w.all ≤ 2 ^ 24 → 1 ≤ w.docs →
+    w.parameter ≡ golomb_parameter w.all w.docs → w.post.name ≢ w.skip.name → (IsSome f → bits_put w.post g ≡ []) → is_some g ≡ is_some f → Holds w.post g →
+    (IsSome g → put_to w.skip h ≡ []) → WroteTo w.skip.name g h s t → Took w h [] []
 unfolding lists_bits lists_entries
 took_none w f g h r s t pushed last total start first full block_at place few docs parameter apart empty told_too holds skip_empty to = record {
   apart = apart;
@@ -331,7 +353,8 @@ took_begun w files docs b lists some is took =
       apart = took.apart;
       post_holds = took.post_holds;
       post_bits = λ told. took.post_bits told ∙ ap (λ l. lists_bits w.all lists ++ l) (nothing_after w.parameter ∙ sym (nothing_after b));
-      skip_bytes = λ told. took.skip_bytes told ∙ ap (λ l. flat_map entry_bytes (lists_entries w.all lists ++ l)) (ap (λ n. entries_to w.parameter n []) nothing ∙ no_entries w.parameter ∙ sym (no_entries b));
+      skip_bytes = λ told. took.skip_bytes told ∙ ap (λ l. flat_map entry_bytes (lists_entries w.all lists ++ l))
+          (ap (λ n. entries_to w.parameter n []) nothing ∙ no_entries w.parameter ∙ sym (no_entries b));
       start = took.start;
       place = took.place ∙ ap (λ l. w.start + length l) (nothing_after w.parameter ∙ sym (nothing_after b));
       first = took.first;
@@ -356,18 +379,22 @@ whole_place w files lists took =
     ap (λ n. digits n 0) e
 
 -- what the file of skip entries holds once the writer holds nothing back
-skip_written : (w : Listing) (k : Writing) (f g h : Option Files) (r s : Reads) (lists : List (List Posting)) → IsSome f → is_some g ≡ is_some f → WroteTo w.post.name f g r s → Wrote w.skip k g h [] → k.buffered ≡ [] → Took w f lists [] →
+skip_written : (w : Listing) (k : Writing) (f g h : Option Files) (r s : Reads) (lists : List (List Posting)) → IsSome f → is_some g ≡ is_some f →
+    WroteTo w.post.name f g r s → Wrote w.skip k g h [] → k.buffered ≡ [] → Took w f lists [] →
     bytes_at h w.skip.name ≡ flat_map entry_bytes (lists_entries w.all lists)
 skip_written w k f g h r s lists told same to wrote nothing took =
     let none : w.full ≡ 0 = omega (arith, took.full) in
     sym (append-nil (bytes_at h w.skip.name)) ∙ ap (λ l. bytes_at h w.skip.name ++ l) (sym nothing) ∙ ap (λ n. bytes_at h n ++ k.buffered) (sym wrote.name)
     ∙ wrote.bytes (same ∙ told) ∙ append-nil (put_to w.skip g) ∙ bytes_stay w.skip w.post.name f g r s to (λ e. took.apart (sym e)) ∙ took.skip_bytes told
-    ∙ ap (λ l. flat_map entry_bytes (lists_entries w.all lists ++ l)) (ap (λ n. entries_to w.parameter n []) none ∙ no_entries w.parameter) ∙ ap (flat_map entry_bytes) (append-nil (lists_entries w.all lists))
+    ∙ ap (λ l. flat_map entry_bytes (lists_entries w.all lists ++ l)) (ap (λ n. entries_to w.parameter n []) none ∙ no_entries w.parameter)
+    ∙ ap (flat_map entry_bytes) (append-nil (lists_entries w.all lists))
 
-pub finished : (w : Listing) (k : Writing) (f g h : Option Files) (r s t : Reads) (lists : List (List Posting)) → IsSome f → is_some g ≡ is_some f → (IsSome f → bits_of (bytes_at g w.post.name) ≡ bits_put w.post f ++ digits (to_byte w.post.place) 0) → WroteTo w.post.name f g r s →
+pub finished : (w : Listing) (k : Writing) (f g h : Option Files) (r s t : Reads) (lists : List (List Posting)) → IsSome f → is_some g ≡ is_some f →
+    (IsSome f → bits_of (bytes_at g w.post.name) ≡ bits_put w.post f ++ digits (to_byte w.post.place) 0) → WroteTo w.post.name f g r s →
     Wrote w.skip k g h [] → k.buffered ≡ [] → WroteTo w.skip.name g h s t → Took w f lists [] → Finished w h lists
 finished w k f g h r s t lists told same post to wrote nothing skip_to took = record {
-  post = ap (λ o. bits_of (unwrap_or o [])) (skip_to.others w.post.name took.apart) ∙ post told ∙ ap (λ l. bits_put w.post f ++ l) (whole_place w f lists took) ∙ append-nil (bits_put w.post f) ∙ took.post_bits told
+  post = ap (λ o. bits_of (unwrap_or o [])) (skip_to.others w.post.name took.apart) ∙ post told ∙ ap (λ l. bits_put w.post f ++ l) (whole_place w f lists took)
+      ∙ append-nil (bits_put w.post f) ∙ took.post_bits told
       ∙ ap (λ l. lists_bits w.all lists ++ l) (nothing_after w.parameter) ∙ append-nil (lists_bits w.all lists);
   skip = ap bits_of (skip_written w k f g h r s lists told same to wrote nothing took) ∙ bits_of_entries (lists_entries w.all lists);
 }
@@ -376,7 +403,8 @@ finished w k f g h r s t lists told same post to wrote nothing skip_to took = re
 made_of : (bytes : List ℕ) (bits : Bits) → AreBytes bytes → bits_of bytes ≡ bits → bytes ≡ as_bytes bits
 made_of bytes bits small is = sym (bytes_again bytes small) ∙ ap as_bytes is
 
-pub finished_bytes : (w : Listing) (q : BitWriting) (k : Writing) (f g h : Option Files) (r s t : Reads) (lists : List (List Posting)) → IsSome f → is_some g ≡ is_some f → is_some h ≡ is_some g → q.name ≡ w.post.name → Holds q g → WroteTo w.post.name f g r s →
+pub finished_bytes : (w : Listing) (q : BitWriting) (k : Writing) (f g h : Option Files) (r s t : Reads) (lists : List (List Posting)) → IsSome f →
+    is_some g ≡ is_some f → is_some h ≡ is_some g → q.name ≡ w.post.name → Holds q g → WroteTo w.post.name f g r s →
     Wrote w.skip k g h [] → k.buffered ≡ [] → WroteTo w.skip.name g h s t → Took w f lists [] → Finished w h lists → InBytes w h lists
 finished_bytes w q k f g h r s t lists told same too post post_holds to wrote nothing skip_to took is =
     let still : Holds q h = holds_stays q w.skip.name g h s t skip_to (λ e. took.apart (sym post ∙ e)) post_holds in

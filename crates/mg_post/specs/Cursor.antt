@@ -45,7 +45,8 @@ unfoldable pub forward_to : ℕ → List Posting → List Posting
 forward_to doc ps = drop (prefix_len (λ (p : Posting). nat_lt p.doc doc) ps) ps
 
 -- the block that was entered, from the document asked for on, and its pages
-pub record Entered (b : ℕ) (ps : List Posting) (post_at block doc : ℕ) (p : Posting) (held : List Posting) (count : ℕ) : Type 0 where
+pub record Entered (b : ℕ) (ps : List Posting) (post_at block doc : ℕ) (p : Posting) (held : List Posting) (count : ℕ) :
+    Type 0 where
   pub held_is : held ≡ forward_to doc (block_of block ps)
   pub current : head_of held ≡ Some p
   pub pages : count ≡ block_pages b post_at block ps
@@ -95,7 +96,8 @@ pub record CursorFits (c : Cursoring) (files : Option Files) : Type 0 where
 
 -- its parts hold this list and its skip entries
 pub record CursorStands (c : Cursoring) (files : Option Files) (ps : List Posting) : Type 0 where
-  pub list : ListStands c.all c.parameter (told_at files c.post.name) (told_at files c.skip.name) (8 * c.post_at) c.skip_at c.docs (block_count c.docs) ps
+  pub list : ListStands c.all c.parameter (told_at files c.post.name) (told_at files c.skip.name) (8 * c.post_at)
+      c.skip_at c.docs (block_count c.docs) ps
 
 -- a fact where both stores tell alike and hold the same two parts of a cursor
 abbrev pub WhereSameLists : Cursoring → Option Files → Option Files → Type 0 → Type 0
@@ -209,5 +211,6 @@ MayRead ps c doc v = entered_pages c < entered_pages v → ReadsBlock ps c doc v
 
 -- how the second number rises in a call that asks for a document: not within the block at hand; else by the pages of the block whose range holds the document, or not at all where no block's does
 abbrev pub Enters : Result (Option Posting) PartErr → List Posting → Cursoring → ℕ → Cursoring → Type 0
-Enters (Ok found) ps c doc v = (doc ≤ c.last → entered_pages v ≡ entered_pages c) × (c.last < doc → EntersFor found ps c doc v)
+Enters (Ok found) ps c doc v = (doc ≤ c.last → entered_pages v ≡ entered_pages c)
+    × (c.last < doc → EntersFor found ps c doc v)
 Enters (Err refusal) ps c doc v = (entered_pages c ≤ entered_pages v) × MayRead ps c doc v

@@ -12,7 +12,9 @@ use Rattle.mg_post.specs.Cursor.{AnswersRest, CursorFits, Cursoring, Enters, For
 use Rattle.mg_post.specs.Damages.{EntriesStand, HasPostCause, HasSkipCause, NamesPart}
 
 -- a cursor goes to the first posting of the rest of its list from a document on; where it looks for another block, it looks for that of the document `wanted`
-pub record CursorStep (c v : Cursoring) (doc wanted : ℕ) (rest : List Posting → List Posting) (result : Result (Option Posting) PartErr) (files_before files_now : Option Files) (reads_before reads_now : Reads) (faults_before faults_now : ℕ) : Type 0 where
+pub record CursorStep (c v : Cursoring) (doc wanted : ℕ) (rest : List Posting → List Posting)
+    (result : Result (Option Posting) PartErr) (files_before files_now : Option Files) (reads_before reads_now : Reads)
+    (faults_before faults_now : ℕ) : Type 0 where
   -- what the cursor keeps agrees with its parts
   pub fits : OnOk result (CursorFits v files_now)
   -- it is over the same list
@@ -36,7 +38,8 @@ pub record CursorStep (c v : Cursoring) (doc wanted : ℕ) (rest : List Posting 
   -- a damage is one of Post or Skip
   pub part : IfErr result NamesItsPart
   -- where the list's entries stand, it is one of Post
-  pub post : (ps left : List Posting) → EntriesStand c files_before ps → StandsAt c ps left → IfErr result (NamesPart Post)
+  pub post : (ps left : List Posting) → EntriesStand c files_before ps → StandsAt c ps left →
+      IfErr result (NamesPart Post)
   -- a damage of Post is told where a block is missing
   pub block : IfErr result (HasPostCause c files_before wanted)
   -- a damage of Skip is told where an entry is missing

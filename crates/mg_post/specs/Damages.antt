@@ -43,8 +43,10 @@ pub record BlockIsMissing (c : Cursoring) (files : Option Files) (doc at : ℕ) 
   pub within : doc ≤ last
   pub most : last ≤ c.all
   pub told : TellsBlock (told_at files c.skip.name) c.skip_at c.reached c.last block before last bits
-  pub missing : (ps : List Posting) → BlockStands c.all c.parameter (told_at files c.post.name) (8 * c.post_at + bits) (min (c.docs - 64 * block) 64) before last ps → ⊥
-  pub at_is : LacksBlock c.all c.parameter (told_at files c.post.name) (8 * c.post_at + bits) (min (c.docs - 64 * block) 64) before last at
+  pub missing : (ps : List Posting) → BlockStands c.all c.parameter (told_at files c.post.name) (8 * c.post_at + bits)
+      (min (c.docs - 64 * block) 64) before last ps → ⊥
+  pub at_is : LacksBlock c.all c.parameter (told_at files c.post.name) (8 * c.post_at + bits)
+      (min (c.docs - 64 * block) 64) before last at
 
 -- a damage of Post has a cause: the block is missing, from the bit on where it is told
 abbrev pub HasPostCause : Cursoring → Option Files → ℕ → PartErr → Type 0
@@ -52,4 +54,5 @@ HasPostCause c files doc refusal = IfNames Post refusal (BlockIsMissing c files 
 
 -- a damage of Skip has a cause: of a block from where the cursor stands on, no entry stands, and a number of it is missing at the bit where it is told
 abbrev pub HasSkipCause : Cursoring → Option Files → PartErr → Type 0
-HasSkipCause c files refusal = IfNames Skip refusal (LacksAnEntry (told_at files c.skip.name) c.skip_at c.all c.reached (block_count c.docs))
+HasSkipCause c files refusal = IfNames Skip refusal
+    (LacksAnEntry (told_at files c.skip.name) c.skip_at c.all c.reached (block_count c.docs))

@@ -17,21 +17,25 @@ use Rattle.mg_post.specs.declared.refusal.Refusal.{Refusal}
 -- a fact on a list that stands from a byte of Post on, and of which this block was found for a document
 abbrev pub WhereFound : Option (List ℕ) → ListPlace → ℕ → Found → (List Posting → Type 0) → Type 0
 WhereFound post list doc found fact = (ps : List Posting) (blocks : ℕ) → Rises list.all 0 ps → list.docs ≡ length ps →
-    Shows post (8 * list.post_at) (bits_after list.parameter 0 ps) → 8 * list.post_at + length (bits_after list.parameter 0 ps) ≤ 2 ^ 63 →
+    Shows post (8 * list.post_at) (bits_after list.parameter 0 ps) →
+    8 * list.post_at + length (bits_after list.parameter 0 ps) ≤ 2 ^ 63 →
     IsFoundAt list.parameter ps blocks doc found.block found.before found.last found.at → fact ps
 
 -- a fact where the block that was found for a document stands, whatever the rest of the list is
 abbrev pub WhereBlockStands : Option (List ℕ) → ListPlace → ℕ → Found → Type 0 → Type 0
 WhereBlockStands post list doc found fact = (ps : List Posting) → found.before < doc → doc ≤ found.last →
-    BlockStands list.all list.parameter post (8 * list.post_at + found.at) (min (list.docs - 64 * found.block) 64) found.before found.last ps → fact
+    BlockStands list.all list.parameter post (8 * list.post_at + found.at) (min (list.docs - 64 * found.block) 64)
+    found.before found.last ps → fact
 
 -- the block that was found for a document in its range does not stand; this bit is the first of what is missing
 abbrev pub LacksFound : Option (List ℕ) → ListPlace → ℕ → Found → ℕ → Type 0
 LacksFound post list doc found at = found.before < doc → doc ≤ found.last →
-    LacksBlock list.all list.parameter post (8 * list.post_at + found.at) (min (list.docs - 64 * found.block) 64) found.before found.last at
+    LacksBlock list.all list.parameter post (8 * list.post_at + found.at) (min (list.docs - 64 * found.block) 64)
+    found.before found.last at
 
 -- the block that was found for a document is entered, by the bytes of Post that are told and the feed before and after
-pub record EntersFound (list : ListPlace) (found : Found) (doc : ℕ) (held : List Posting) (result : Result Inside Refusal) (post : Option (List ℕ)) (old new : Feeding) : Type 0 where
+pub record EntersFound (list : ListPlace) (found : Found) (doc : ℕ) (held : List Posting)
+    (result : Result Inside Refusal) (post : Option (List ℕ)) (old new : Feeding) : Type 0 where
   -- whatever Post has, documents rise, and the posting is one from the document on
   pub sound : OnOk result (HeldRises list.all found.last held)
   pub from : IfOk result (λ i. IsFrom doc list.all i.posting)
@@ -39,9 +43,11 @@ pub record EntersFound (list : ListPlace) (found : Found) (doc : ℕ) (held : Li
   -- no more pages are read than are answered
   pub count : IfOk result (λ i. new.count ≤ old.count + i.pages)
   -- where the list stands, the block is entered at its first posting from the document on, or the device failed
-  pub told : WhereFound post list doc found (λ ps. OrDevice result (λ i. Entered list.parameter ps (8 * list.post_at) found.block doc i.posting held i.pages))
+  pub told : WhereFound post list doc found
+      (λ ps. OrDevice result (λ i. Entered list.parameter ps (8 * list.post_at) found.block doc i.posting held i.pages))
   -- and no more pages are read than the block has
-  pub most : WhereFound post list doc found (λ ps. new.count ≤ old.count + block_pages list.parameter (8 * list.post_at) found.block ps)
+  pub most : WhereFound post list doc found (λ ps. new.count ≤ old.count
+      + block_pages list.parameter (8 * list.post_at) found.block ps)
   -- where the block alone stands, only the device may fail
   pub block : WhereBlockStands post list doc found (OrDevice result (λ _. Unit {0}))
   -- a damage is told at the first bit of what is missing

@@ -57,7 +57,8 @@ TellsFound skip skip_at reached known f = TellsBlock skip skip_at reached known 
 
 -- where the last document of the last block is told by its entry, what was found is told by the entries
 abbrev pub TellsOnPage : Option (List ℕ) → ℕ → ℕ → ℕ → ℕ → ℕ → Result Found Refusal → Type 0
-TellsOnPage skip skip_at low high before last result = TellsLast skip skip_at high last → IfOk result (TellsFound skip skip_at low before)
+TellsOnPage skip skip_at low high before last result = TellsLast skip skip_at high last →
+    IfOk result (TellsFound skip skip_at low before)
 
 -- Skip ends before the end of the number of 8 bytes that is to stand at this bit
 abbrev pub LacksNumber : Option (List ℕ) → ℕ → Type 0
@@ -79,7 +80,8 @@ LacksEntry skip skip_at all block at = LacksLast skip skip_at all block at ⊎ L
 
 -- an entry does not stand of one of the blocks from a first one to before a last one; this bit is the first of the number in it that does not
 abbrev pub LacksAnEntry : Option (List ℕ) → ℕ → ℕ → ℕ → ℕ → ℕ → Type 0
-LacksAnEntry skip skip_at all low high at = (block : ℕ) × (low ≤ block) × (block < high) × LacksEntry skip skip_at all block at
+LacksAnEntry skip skip_at all low high at = (block : ℕ) × (low ≤ block) × (block < high)
+    × LacksEntry skip skip_at all block at
 
 -- ---- the pages of the entries
 
@@ -110,10 +112,13 @@ blocks_after blocks (Some f) = f.block + 1
 
 -- among the blocks from one to another, whose entries lie on one page, the block whose range holds the document is found; the last documents before and of these blocks are known
 abbrev pub FindsOnPage : Option (List ℕ) → ℕ → ℕ → ℕ → ℕ → ℕ → ℕ → ℕ → Result Found Refusal → Type 0
-FindsOnPage skip skip_at all low high before last doc result = (ps : List Posting) (b blocks : ℕ) → SkipStands all b skip skip_at blocks ps → high < blocks →
-    before ≡ doc_before (64 * low) ps → last ≡ doc_before (64 * (high + 1)) ps → OrDevice result (λ f. IsFoundAt b ps blocks doc f.block f.before f.last f.at)
+FindsOnPage skip skip_at all low high before last doc result = (ps : List Posting) (b blocks : ℕ) →
+    SkipStands all b skip skip_at blocks ps → high < blocks →
+    before ≡ doc_before (64 * low) ps → last ≡ doc_before (64 * (high + 1)) ps →
+    OrDevice result (λ f. IsFoundAt b ps blocks doc f.block f.before f.last f.at)
 
 -- of so many blocks the one whose range holds the document is found, or none where all end before it; the last document before the blocks that are left is known
 abbrev pub FindsBlock : Option (List ℕ) → ℕ → ℕ → ℕ → ℕ → ℕ → ℕ → Result (Option Found) Refusal → Type 0
-FindsBlock skip skip_at all blocks reached last doc result = (ps : List Posting) (b : ℕ) → SkipStands all b skip skip_at blocks ps →
+FindsBlock skip skip_at all blocks reached last doc result = (ps : List Posting) (b : ℕ) →
+    SkipStands all b skip skip_at blocks ps →
     last ≡ doc_before (64 * reached) ps → OrDevice result (IsFound b ps blocks doc)

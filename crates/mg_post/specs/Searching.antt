@@ -17,15 +17,17 @@ pub record HoldsPage {T : Type 0} (page : ℕ) (result : Result T Refusal) (old 
   pub held : OnOk result (new.held ≡ Some page)
 
 -- the number of 8 bytes at a place of Skip is read
-pub record ReadsNumber (place : ℕ) (result : Result ℕ Refusal) (skip : Option (List ℕ)) (old new : Feeding) : Type 0 where
-  pub page : HoldsPage (place / 32768) result old new
-  pub shows : IfOk result (λ x. FromPlace skip place (Begins (digits 64 x)))
-  pub ends : IfDamaged result (λ _. LacksNumber skip place)
-  pub at : IfDamaged result (λ at. at ≡ place)
-  pub told : (y : ℕ) → y < 2 ^ 64 → Shows skip place (digits 64 y) → AnswersThis result y
+pub record ReadsNumber (place : ℕ) (result : Result ℕ Refusal) (skip : Option (List ℕ)) (old new : Feeding) : Type 0
+  where
+    pub page : HoldsPage (place / 32768) result old new
+    pub shows : IfOk result (λ x. FromPlace skip place (Begins (digits 64 x)))
+    pub ends : IfDamaged result (λ _. LacksNumber skip place)
+    pub at : IfDamaged result (λ at. at ≡ place)
+    pub told : (y : ℕ) → y < 2 ^ 64 → Shows skip place (digits 64 y) → AnswersThis result y
 
 -- the last document of a block is read from its entry
-pub record ReadsLast (skip_at all block : ℕ) (result : Result ℕ Refusal) (skip : Option (List ℕ)) (old new : Feeding) : Type 0 where
+pub record ReadsLast (skip_at all block : ℕ) (result : Result ℕ Refusal) (skip : Option (List ℕ)) (old new : Feeding) :
+    Type 0 where
   pub page : HoldsPage (entry_page (skip_at + block)) result old new
   pub within : IfOk result (λ last. last ≤ all)
   pub tells : IfOk result (TellsLast skip skip_at block)
@@ -33,14 +35,16 @@ pub record ReadsLast (skip_at all block : ℕ) (result : Result ℕ Refusal) (sk
   pub told : (e : SkipEntry) → e.last ≤ all → ShowsEntry skip skip_at block e → AnswersThis result e.last
 
 -- the bits of a list before a block are read from its entry
-pub record ReadsBits (skip_at block : ℕ) (result : Result ℕ Refusal) (skip : Option (List ℕ)) (old new : Feeding) : Type 0 where
+pub record ReadsBits (skip_at block : ℕ) (result : Result ℕ Refusal) (skip : Option (List ℕ)) (old new : Feeding) : Type
+    0 where
   pub page : HoldsPage (entry_page (skip_at + block)) result old new
   pub tells : IfOk result (TellsBits skip skip_at block)
   pub lacks : IfDamaged result (LacksBits skip skip_at block)
   pub told : (e : SkipEntry) → e.bits < 2 ^ 64 → ShowsEntry skip skip_at block e → AnswersThis result e.bits
 
 -- the block of a document is searched among those whose entries lie on the page that is held: no page is read
-pub record SearchesPage (s : SkipSearch) (p : PageBlocks) (result : Result Found Refusal) (skip : Option (List ℕ)) (old new : Feeding) : Type 0 where
+pub record SearchesPage (s : SkipSearch) (p : PageBlocks) (result : Result Found Refusal) (skip : Option (List ℕ))
+    (old new : Feeding) : Type 0 where
   pub count : new.count ≤ old.count
   pub held : OnOk result (new.held ≡ Some (entry_page (s.skip_at + p.high)))
   pub found : IfOk result (IsSound p.low (p.high + 1) s.all s.doc)
@@ -49,7 +53,8 @@ pub record SearchesPage (s : SkipSearch) (p : PageBlocks) (result : Result Found
   pub told : FindsOnPage skip s.skip_at s.all p.low p.high p.before p.last s.doc result
 
 -- the block of a document is searched: the pages of the entries are read in rising order, each once
-pub record SearchesBlock (s : SkipSearch) (result : Result (Option Found) Refusal) (skip : Option (List ℕ)) (old new : Feeding) : Type 0 where
+pub record SearchesBlock (s : SkipSearch) (result : Result (Option Found) Refusal) (skip : Option (List ℕ))
+    (old new : Feeding) : Type 0 where
   pub reads : IfOk result (λ found. SkipReads s.skip_at (blocks_after s.blocks found) new.held new.count)
   pub most : new.count ≤ entries_pages s.skip_at s.blocks
   pub found : IfOk result (λ found. IfSome found (IsSound s.reached s.blocks s.all s.doc))

@@ -17,7 +17,8 @@ pub record SkipStands (all b : ℕ) (skip : Option (List ℕ)) (skip_at blocks :
   pub whole : length ps ≤ 64 * blocks
 
 -- a list and its skip entries stand: the list from a bit place of Post on, its entries from the entry of a number on
-pub record ListStands (all b : ℕ) (post skip : Option (List ℕ)) (post_at skip_at docs blocks : ℕ) (ps : List Posting) : Type 0 where
+pub record ListStands (all b : ℕ) (post skip : Option (List ℕ)) (post_at skip_at docs blocks : ℕ) (ps : List Posting) :
+    Type 0 where
   pub entries : SkipStands all b skip skip_at blocks ps
   pub bits : Shows post post_at (bits_after b 0 ps)
   pub small : post_at + length (bits_after b 0 ps) ≤ 2 ^ 63
@@ -25,9 +26,10 @@ pub record ListStands (all b : ℕ) (post skip : Option (List ℕ)) (post_at ski
   pub few : all < 2 ^ 32 - 1
 
 -- a block of so many postings stands from a bit of Post on: they follow a document, and end with a last one
-pub record BlockStands (all b : ℕ) (post : Option (List ℕ)) (at count before last : ℕ) (ps : List Posting) : Type 0 where
-  pub count_is : length ps ≡ count
-  pub rises : Rises all before ps
-  pub last_is : last_doc before ps ≡ last
-  pub small : at + length (bits_after b before ps) ≤ 2 ^ 63
-  pub bits : Shows post at (bits_after b before ps)
+pub record BlockStands (all b : ℕ) (post : Option (List ℕ)) (at count before last : ℕ) (ps : List Posting) : Type 0
+  where
+    pub count_is : length ps ≡ count
+    pub rises : Rises all before ps
+    pub last_is : last_doc before ps ≡ last
+    pub small : at + length (bits_after b before ps) ≤ 2 ^ 63
+    pub bits : Shows post at (bits_after b before ps)

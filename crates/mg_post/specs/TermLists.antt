@@ -34,15 +34,18 @@ all_met asked c ps = met_pages asked c.parameter (8 * c.post_at) (block_count (l
 
 -- where a call was answered that is over the same list and goes no block back, the cursor keeps to these documents
 abbrev pub KeepsEntered : List ℕ → List Posting → Cursoring → Cursoring → ℕ → Option Posting → Type 0
-KeepsEntered asked ps c v doc found = SameList c v → c.reached ≤ v.reached → Enters (Ok found) ps c doc v → EnteredFor asked ps c → EnteredFor asked ps v
+KeepsEntered asked ps c v doc found = SameList c v → c.reached ≤ v.reached → Enters (Ok found) ps c doc v →
+    EnteredFor asked ps c → EnteredFor asked ps v
 
 -- where the cursor kept to these documents, a call comes to no more pages than all of their blocks have
 abbrev pub MostEntered : List ℕ → List Posting → Cursoring → Cursoring → ℕ → Result (Option Posting) PartErr → Type 0
-MostEntered asked ps c v doc result = Enters result ps c doc v → EnteredFor asked ps c → entered_pages v ≤ all_met asked c ps
+MostEntered asked ps c v doc result = Enters result ps c doc v → EnteredFor asked ps c →
+    entered_pages v ≤ all_met asked c ps
 
 -- a fact on documents that are asked of a list, a cursor over it before a call for one of them and after it, and what the call answers
 abbrev pub ForCalls : {A : Type 0} → (List ℕ → List Posting → Cursoring → Cursoring → ℕ → A → Type 0) → Type 0
-ForCalls {A = A} fact = (asked : List ℕ) (ps : List Posting) (c v : Cursoring) (doc : ℕ) (answer : A) → IsAmong asked ps doc → fact asked ps c v doc answer
+ForCalls {A = A} fact = (asked : List ℕ) (ps : List Posting) (c v : Cursoring) (doc : ℕ) (answer : A) →
+    IsAmong asked ps doc → fact asked ps c v doc answer
 
 -- ---- the lists of a collection
 
@@ -59,7 +62,8 @@ pub record ListsStand (base : List ℕ) (files : Option Files) (collection : Lis
 pub record CursorFor (base collection asked t : List ℕ) (n : ℕ) (c : Cursoring) : Type 0 where
   pub number : ℕ
   pub term : slice_get (dictionary collection) number ≡ Some t
-  pub over : IsOver c (full_name base part.Post) (full_name base part.Skip) (list_byte collection number) (first_entry collection number) (length (postings collection t)) (length (documents collection))
+  pub over : IsOver c (full_name base part.Post) (full_name base part.Skip) (list_byte collection number)
+      (first_entry collection number) (length (postings collection t)) (length (documents collection))
   pub parameter : c.parameter ≡ golomb_parameter (length (documents collection)) (length (postings collection t))
   pub reached_doc : ℕ
   pub early : reached_doc ≤ n
@@ -69,12 +73,14 @@ pub record CursorFor (base collection asked t : List ℕ) (n : ℕ) (c : Cursori
 
 -- a cursor over the list that the lexicon tells of, of a base
 abbrev pub IsOverInfo : Cursoring → List ℕ → TermInfo → ℕ → Type 0
-IsOverInfo c base info all = IsOver c (full_name base part.Post) (full_name base part.Skip) info.post_at info.skip_at info.docs all
+IsOverInfo c base info all = IsOver c (full_name base part.Post) (full_name base part.Skip) info.post_at info.skip_at
+    info.docs all
 
 -- a cursor over the list of each term of which the lexicon tells this
 abbrev pub CursorForInfo : List ℕ → TermInfo → ℕ → Cursoring → Type 0
 CursorForInfo base info all c =
-    (collection asked t : List ℕ) (n : ℕ) → IsInfoOf collection t info → all ≡ length (documents collection) → CursorFor base collection asked t n c
+    (collection asked t : List ℕ) (n : ℕ) → IsInfoOf collection t info → all ≡ length (documents collection) →
+    CursorFor base collection asked t n c
 
 -- it may be asked for the document: the lists stand, and each block of its list whose range holds the document is one that may be read
 pub record MayAsk (base collection asked t : List ℕ) (doc : ℕ) (files : Option Files) (c : Cursoring) : Type 0 where
@@ -83,17 +89,20 @@ pub record MayAsk (base collection asked t : List ℕ) (doc : ℕ) (files : Opti
   pub among : IsAmong asked (postings collection t) doc
 
 -- the answer: the first posting from the document on; then the cursor was asked for it
-pub record AnswersAsk (base collection asked t : List ℕ) (doc : ℕ) (found : Option Posting) (c : Cursoring) : Type 0 where
-  pub found_is : found ≡ head_of (from_doc doc (postings collection t))
-  pub cursor : CursorFor base collection asked t doc c
+pub record AnswersAsk (base collection asked t : List ℕ) (doc : ℕ) (found : Option Posting) (c : Cursoring) : Type 0
+  where
+    pub found_is : found ≡ head_of (from_doc doc (postings collection t))
+    pub cursor : CursorFor base collection asked t doc c
 
 -- a fact on a base, its collection, the documents that are asked, and a term over whose list a cursor is that may be asked for a document
 abbrev pub ForTerm : ℕ → Option Files → Cursoring → (List ℕ → List ℕ → List ℕ → List ℕ → Type 0) → Type 0
-ForTerm doc files c fact = (base collection asked t : List ℕ) → MayAsk base collection asked t doc files c → fact base collection asked t
+ForTerm doc files c fact = (base collection asked t : List ℕ) → MayAsk base collection asked t doc files c →
+    fact base collection asked t
 
 -- the first posting from the document on is answered, or the device failed
 abbrev pub AnswersForTerm : Result (Option Posting) PartErr → ℕ → Cursoring → List ℕ → List ℕ → List ℕ → List ℕ → Type 0
-AnswersForTerm result doc c base collection asked t = AnswersList result (λ found. AnswersAsk base collection asked t doc found c)
+AnswersForTerm result doc c base collection asked t = AnswersList result
+    (λ found. AnswersAsk base collection asked t doc found c)
 
 -- ---- what a call reads
 
@@ -109,7 +118,8 @@ pub record PagesWithin (bound old new : ℕ) (before now : Reads) : Type 0 where
 
 -- the pages of Post that a cursor over the list of a term read before and now are within those that may be read
 abbrev pub TermPages : Cursoring → Cursoring → Reads → Reads → List ℕ → List ℕ → List ℕ → List ℕ → Type 0
-TermPages old new before now base collection asked t = PagesWithin (pages_for collection asked t) (post_pages old) (post_pages new) before now
+TermPages old new before now base collection asked t = PagesWithin (pages_for collection asked t) (post_pages old)
+    (post_pages new) before now
 
 -- the store's count of Post rose by no more than the pages of it that the cursor read
 abbrev pub PostRises : Cursoring → Cursoring → Reads → Reads → Type 0

@@ -17,24 +17,29 @@ ListFor base collection t last c = CursorFor base collection (numbers_in (postin
 
 -- a fact on each whole list that a cursor may go over behind this document
 abbrev pub ForList : Option Files → ℕ → Cursoring → (List ℕ → List ℕ → List ℕ → Type 0) → Type 0
-ForList files last c claim = (base collection t : List ℕ) → ListsStand base files collection → ListFor base collection t last c → claim base collection t
+ForList files last c claim = (base collection t : List ℕ) → ListsStand base files collection →
+    ListFor base collection t last c → claim base collection t
 
 -- the answer: the first posting of the list behind this document
 abbrev pub AnswersBehind : List ℕ → List ℕ → List ℕ → ℕ → Cursoring → Option Posting → Type 0
-AnswersBehind base collection t last c found = AnswersAsk base collection (numbers_in (postings collection t)) t (last + 1) found c
+AnswersBehind base collection t last c found = AnswersAsk base collection (numbers_in (postings collection t)) t
+    (last + 1) found c
 
 -- a cursor goes to the first posting behind a document
-pub record WalkStep (c v : Cursoring) (last : ℕ) (result : Result (Option Posting) PartErr) (files_before files_now : Option Files) (reads_before reads_now : Reads) (faults_before faults_now : ℕ) : Type 0 where
-  pub fits : OnOk result (CursorFits v files_now)
-  pub same : SameList c v
-  -- where the lists stand, that posting is answered, or the device failed
-  pub answer : ForList files_before last c (λ base collection t. AnswersList result (AnswersBehind base collection t last v))
-  -- no more pages of Post were read than the list has, and the store's count rose by no more than the cursor's
-  pub within : ForList files_before last c (λ _ collection t. post_pages v ≤ list_pages collection t)
-  pub post : ForList files_before last c (λ _ _ _. PostRises c v reads_before reads_now)
-  -- whatever the parts have, what is answered is behind the document
-  pub sound : IfOk result (λ found. IfSome found (IsFrom (last + 1) c.all))
-  pub reads : ReadsLists reads_before reads_now
-  pub files : files_now ≡ files_before
-  pub memory : result ≢ Err err.Memory
-  pub cause : HasPartCause faults_before faults_now result
+pub record WalkStep (c v : Cursoring) (last : ℕ) (result : Result (Option Posting) PartErr)
+    (files_before files_now : Option Files) (reads_before reads_now : Reads) (faults_before faults_now : ℕ) : Type 0
+  where
+    pub fits : OnOk result (CursorFits v files_now)
+    pub same : SameList c v
+    -- where the lists stand, that posting is answered, or the device failed
+    pub answer : ForList files_before last c (λ base collection t.
+        AnswersList result (AnswersBehind base collection t last v))
+    -- no more pages of Post were read than the list has, and the store's count rose by no more than the cursor's
+    pub within : ForList files_before last c (λ _ collection t. post_pages v ≤ list_pages collection t)
+    pub post : ForList files_before last c (λ _ _ _. PostRises c v reads_before reads_now)
+    -- whatever the parts have, what is answered is behind the document
+    pub sound : IfOk result (λ found. IfSome found (IsFrom (last + 1) c.all))
+    pub reads : ReadsLists reads_before reads_now
+    pub files : files_now ≡ files_before
+    pub memory : result ≢ Err err.Memory
+    pub cause : HasPartCause faults_before faults_now result

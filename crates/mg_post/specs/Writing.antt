@@ -91,7 +91,8 @@ WhereTaken w files fact = (lists : List (List Posting)) → Took w files lists [
 
 -- the bytes of these lists, and the number of their skip entries
 abbrev pub AreSizesOf : ℕ → List (List Posting) → ℕ × ℕ → Type 0
-AreSizesOf all lists sizes = (sizes.0 ≡ length (lists_bits all lists) / 8) × (sizes.1 ≡ length (lists_entries all lists))
+AreSizesOf all lists sizes = (sizes.0 ≡ length (lists_bits all lists) / 8)
+    × (sizes.1 ≡ length (lists_entries all lists))
 
 -- the skip entry of a block, by its last document and the bits before it, was written
 abbrev pub WroteEntry : Writing → Writing → Option Files → Option Files → ℕ → ℕ → Type 0

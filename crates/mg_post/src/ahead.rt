@@ -89,7 +89,8 @@ pub fn gap_code(parameter: u64) -> GapCode
 fn unary_ahead(ahead: Ahead) -> Option<Coded>
     requires below { ahead.bits < 2 ^ ahead.count }
     requires few { ahead.count ≤ 57 }
-    ensures takes { IfSome result (λ c. Takes (unary (1 + c.value)) ahead.bits ahead.count c.left.bits c.left.count) }
+    ensures takes { IfSome result (λ c.
+        Takes (unary (1 + c.value)) ahead.bits ahead.count c.left.bits c.left.count) }
     ensures small { IfSome result (λ c. c.value < 57) }
     ensures fewer { IfSome result (λ c. c.left.count < ahead.count) }
 {
@@ -113,7 +114,8 @@ fn short_ahead(ahead: Ahead, parameter: u64, code: GapCode) -> Option<Coded>
     requires below { ahead.bits < 2 ^ ahead.count }
     requires few { ahead.count ≤ 57 }
     requires code { IsGapCode parameter code.size code.few }
-    ensures takes { IfSome result (λ c. Takes (short parameter c.value) ahead.bits ahead.count c.left.bits c.left.count) }
+    ensures takes { IfSome result (λ c.
+        Takes (short parameter c.value) ahead.bits ahead.count c.left.bits c.left.count) }
     ensures low { IfSome result (λ c. c.value < parameter) }
 {
     if code.size == 0 {
@@ -151,7 +153,8 @@ fn gap_ahead(ahead: Ahead, parameter: u64, code: GapCode) -> Option<Coded>
     requires below { ahead.bits < 2 ^ ahead.count }
     requires few { ahead.count ≤ 57 }
     requires code { IsGapCode parameter code.size code.few }
-    ensures takes { IfSome result (λ c. Takes (golomb parameter c.value) ahead.bits ahead.count c.left.bits c.left.count) }
+    ensures takes { IfSome result (λ c.
+        Takes (golomb parameter c.value) ahead.bits ahead.count c.left.bits c.left.count) }
     ensures some { IfSome result (λ c. 1 ≤ c.value) }
     ensures fewer { IfSome result (λ c. c.left.count < ahead.count) }
 {
@@ -172,7 +175,8 @@ fn gap_ahead(ahead: Ahead, parameter: u64, code: GapCode) -> Option<Coded>
 fn count_ahead(ahead: Ahead) -> Option<Coded>
     requires below { ahead.bits < 2 ^ ahead.count }
     requires few { ahead.count ≤ 57 }
-    ensures takes { IfSome result (λ c. Takes (gamma c.value) ahead.bits ahead.count c.left.bits c.left.count) }
+    ensures takes { IfSome result (λ c.
+        Takes (gamma c.value) ahead.bits ahead.count c.left.bits c.left.count) }
     ensures some { IfSome result (λ c. 1 ≤ c.value) }
     ensures small { IfSome result (λ c. c.value < 2 ^ 29) }
 {
@@ -216,7 +220,9 @@ pub fn posting_ahead(
     requires few { ahead.count ≤ 57 }
     requires code { IsGapCode parameter code.size code.few }
     requires before { before ≤ all }
-    ensures takes { IfSome result (λ p. Takes (posting_bits parameter before p.posting) ahead.bits ahead.count p.left.bits p.left.count) }
+    ensures takes { IfSome result (λ p.
+        Takes (posting_bits parameter before p.posting) ahead.bits ahead.count p.left.bits
+        p.left.count) }
     ensures follows { IfSome result (λ p. Follows all before p.posting) }
     ensures fewer { IfSome result (λ p. p.left.count < ahead.count) }
 {

@@ -35,7 +35,8 @@ fn first_from(postings: &Vec<Posting>, len: usize, from: usize, doc: u32) -> usi
     requires len { len ≤ length postings.now.items }
     requires from { from ≤ len }
     ensures within { result ≤ len }
-    ensures left { drop result (take len postings.now.items) ≡ forward_to doc (drop from (take len postings.now.items)) }
+    ensures left { drop result (take len postings.now.items)
+        ≡ forward_to doc (drop from (take len postings.now.items)) }
 {
     for i in from..len {
         if doc <= postings[i].doc {

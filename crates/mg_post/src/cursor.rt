@@ -248,7 +248,8 @@ impl<'a, S: Store> Cursor<'a, S> {
     pub fn next(&mut self, store: &mut S) -> Result<Option<Posting>, PartErr>
         requires fits { CursorFits self.old (S.files store.old) }
         ensures step { Between S.files S.reads S.faults store.old store.new
-            (CursorStep self.old self.new (next_doc self.old.held) (self.old.last + 1) (after self.old.held) result) }
+            (CursorStep self.old self.new (next_doc self.old.held) (self.old.last + 1)
+            (after self.old.held) result) }
         ensures ended { self.old.ended ≡ true →
             (result ≡ Ok None) × (self.new ≡ self.old) × (store.new ≡ store.old) }
     {
@@ -278,10 +279,12 @@ impl<'a, S: Store> Cursor<'a, S> {
         requires some { 1 ≤ doc }
         ensures fits { OnOk result (CursorFits self.new (S.files store.new)) }
         ensures same { SameList self.old self.new }
-        ensures answer { ForTerm doc (S.files store.old) self.old (AnswersForTerm result doc self.new) }
+        ensures answer { ForTerm doc (S.files store.old) self.old
+            (AnswersForTerm result doc self.new) }
         ensures pages { ForTerm doc (S.files store.old) self.old
             (TermPages self.old self.new (S.reads store.old) (S.reads store.new)) }
-        ensures third { skip_pages self.new ≤ entries_pages self.new.skip_at (block_count self.new.docs) }
+        ensures third { skip_pages self.new ≤ entries_pages self.new.skip_at
+            (block_count self.new.docs) }
         ensures reads { ReadsLists (S.reads store.old) (S.reads store.new) }
         ensures sound { IfOk result (λ found. IfSome found (IsFrom doc self.old.all)) }
         ensures part { IfErr result NamesItsPart }

@@ -49,7 +49,8 @@ fn number_at<F: Feed>(r: &mut BitReader<F>, dev: &mut F::Dev, place: u64) -> Res
     requires feed { FeedsPages F.fits F.feeding F.device r.old dev.old }
     requires place { place < 2 ^ 42 }
     requires whole { place % 64 ≡ 0 }
-    ensures { ReadsFeed (ReadsNumber place) F.fits F.feeding F.device r.old r.new dev.old dev.new result }
+    ensures { ReadsFeed (ReadsNumber place) F.fits F.feeding F.device r.old r.new dev.old dev.new
+        result }
 {
     r.seek(place);
     match r.bits(dev, 64) {
@@ -127,8 +128,10 @@ fn search_page<F: Feed>(
 ) -> Result<Found, Refusal>
     requires feed { FeedsPages F.fits F.feeding F.device r.old dev.old }
     requires order { page.low ≤ page.high }
-    requires one_page { entry_page (search.now.skip_at + page.low) ≡ entry_page (search.now.skip_at + page.high) }
-    requires held { (F.feeding r.old.feed).held ≡ Some (entry_page (search.now.skip_at + page.high)) }
+    requires one_page { entry_page (search.now.skip_at + page.low)
+        ≡ entry_page (search.now.skip_at + page.high) }
+    requires held { (F.feeding r.old.feed).held
+        ≡ Some (entry_page (search.now.skip_at + page.high)) }
     requires known { page.before ≤ search.now.all }
     requires below { page.before < search.now.doc }
     requires within { search.now.doc ≤ page.last }

@@ -27,10 +27,12 @@ pub fn put_posting<S: Store>(
     requires after { before < doc }
     requires some { 1 ≤ freq }
     ensures holds { OnOk result (Holds w.new (S.files store.new)) }
-    ensures bits { OnOk result (WroteBits w.old w.new (S.files store.old) (S.files store.new) (posting_bits parameter before (posting_of doc freq))) }
+    ensures bits { OnOk result (WroteBits w.old w.new (S.files store.old) (S.files store.new)
+        (posting_bits parameter before (posting_of doc freq))) }
     ensures short { OnOk result (w.new.place ≤ w.old.place + (doc - before) + 256) }
     ensures name { w.new.name ≡ w.old.name }
-    ensures wrote { WroteTo w.old.name (S.files store.old) (S.files store.new) (S.reads store.old) (S.reads store.new) }
+    ensures wrote { WroteTo w.old.name (S.files store.old) (S.files store.new) (S.reads store.old)
+        (S.reads store.new) }
     ensures cause { HasPutCause (S.faults store.old) (S.faults store.new) result }
 {
     put_golomb(w, store, parameter, u64::from(doc - before))?;
@@ -45,9 +47,11 @@ pub fn put_entry<S: Store>(
     last: u32,
     bits: u64,
 ) -> Result<(), PutErr>
-    ensures bytes { OnOk result (Wrote w.old w.new (S.files store.old) (S.files store.new) (entry_bytes (skip_entry last bits))) }
+    ensures bytes { OnOk result (Wrote w.old w.new (S.files store.old) (S.files store.new)
+        (entry_bytes (skip_entry last bits))) }
     ensures name { w.new.name ≡ w.old.name }
-    ensures wrote { WroteTo w.old.name (S.files store.old) (S.files store.new) (S.reads store.old) (S.reads store.new) }
+    ensures wrote { WroteTo w.old.name (S.files store.old) (S.files store.new) (S.reads store.old)
+        (S.reads store.new) }
     ensures cause { HasPutCause (S.faults store.old) (S.faults store.new) result }
 {
     w.put_all(store, &eight_bytes(u64::from(last)))?;

@@ -34,14 +34,22 @@ fn read_posting<F: Feed>(
     requires parameter { 1 ≤ parameter }
     requires limit { parameter < 2 ^ 48 }
     ensures fits { F.fits r.new.feed (F.device dev.new).files }
-    ensures calm { Calm (F.feeding r.old.feed) (F.feeding r.new.feed) (F.device dev.old) (F.device dev.new) }
-    ensures read { IfOk result (λ p. ReadNext F.feeding F.device r.old r.new dev.old dev.new (length (posting_bits parameter before p))) }
-    ensures pages { OnErr result (OnlyPostingPages F.feeding F.device r.old r.new dev.old dev.new all parameter before) }
-    ensures place { MatchResult result (λ p. r.new.place ≡ r.old.place + length (posting_bits parameter before p)) (λ _. r.new.place ≡ r.old.place) }
-    ensures shows { IfOk result (λ p. FromNext F.feeding F.device r.old dev.old (Begins (posting_bits parameter before p))) }
+    ensures calm { Calm (F.feeding r.old.feed) (F.feeding r.new.feed) (F.device dev.old)
+        (F.device dev.new) }
+    ensures read { IfOk result (λ p.
+        ReadNext F.feeding F.device r.old r.new dev.old dev.new
+        (length (posting_bits parameter before p))) }
+    ensures pages { OnErr result (OnlyPostingPages F.feeding F.device r.old r.new dev.old dev.new
+        all parameter before) }
+    ensures place { MatchResult result (λ p. r.new.place
+        ≡ r.old.place + length (posting_bits parameter before p)) (λ _. r.new.place ≡ r.old.place) }
+    ensures shows { IfOk result (λ p.
+        FromNext F.feeding F.device r.old dev.old (Begins (posting_bits parameter before p))) }
     ensures follows { IfOk result (Follows all before) }
-    ensures at { IfDamaged result (IsBitOfPosting all parameter (told_bytes F.feeding F.device r.old dev.old) before r.old.place) }
-    ensures told { ForNextPosting F.feeding F.device r.old dev.old all parameter before (λ p. AnswersThis result p) }
+    ensures at { IfDamaged result (IsBitOfPosting all parameter
+        (told_bytes F.feeding F.device r.old dev.old) before r.old.place) }
+    ensures told { ForNextPosting F.feeding F.device r.old dev.old all parameter before
+        (λ p. AnswersThis result p) }
     ensures cause { RefusalCause result (F.device dev.old).faults (F.device dev.new).faults }
 {
     let start = r.place();
@@ -73,8 +81,10 @@ fn read_posting<F: Feed>(
 /// ones, where the page that is held has them.
 #[inline]
 fn look<F: Feed>(r: &BitReader<F>, ahead: Ahead) -> Ahead
-    requires { IsAhead (F.feeding r.now.feed) (F.fits r.now.feed) r.now.place ahead.bits ahead.count }
-    ensures { IsAhead (F.feeding r.now.feed) (F.fits r.now.feed) r.now.place result.bits result.count }
+    requires { IsAhead (F.feeding r.now.feed) (F.fits r.now.feed) r.now.place ahead.bits
+        ahead.count }
+    ensures { IsAhead (F.feeding r.now.feed) (F.fits r.now.feed) r.now.place result.bits
+        result.count }
 {
     if ahead.count >= 24 || r.place() > LAST {
         return ahead;
@@ -97,10 +107,12 @@ fn next_posting<F: Feed>(
     all: u32,
 ) -> Result<Posting, Refusal>
     requires fits { F.fits r.old.feed (F.device dev.old).files }
-    requires ahead { IsAhead (F.feeding r.old.feed) (F.fits r.old.feed) r.old.place ahead.old.bits ahead.old.count }
+    requires ahead { IsAhead (F.feeding r.old.feed) (F.fits r.old.feed) r.old.place ahead.old.bits
+        ahead.old.count }
     requires before { before ≤ all }
     requires code { IsGapCode parameter code.size code.few }
-    ensures ahead { IsAhead (F.feeding r.new.feed) (F.fits r.new.feed) r.new.place ahead.new.bits ahead.new.count }
+    ensures ahead { IsAhead (F.feeding r.new.feed) (F.fits r.new.feed) r.new.place ahead.new.bits
+        ahead.new.count }
     ensures posting { ReadsPosting all parameter before F.fits F.feeding F.device
         r.old r.new dev.old dev.new result }
 {
@@ -138,15 +150,22 @@ pub fn read_block<F: Feed>(
     requires limit { parameter < 2 ^ 48 }
     requires room { count ≤ length out.old.items }
     ensures fits { F.fits r.new.feed (F.device dev.new).files }
-    ensures calm { Calm (F.feeding r.old.feed) (F.feeding r.new.feed) (F.device dev.old) (F.device dev.new) }
+    ensures calm { Calm (F.feeding r.old.feed) (F.feeding r.new.feed) (F.device dev.old)
+        (F.device dev.new) }
     ensures kept { length out.new.items ≡ length out.old.items }
-    ensures read { OnOk result (ReadNext F.feeding F.device r.old r.new dev.old dev.new (length (bits_after parameter before (take count out.new.items)))) }
-    ensures pages { OnErr result (OnlyListPages F.feeding F.device r.old r.new dev.old dev.new all parameter before count) }
-    ensures place { GoesBehind result r.old.place r.new.place (length (bits_after parameter before (take count out.new.items))) }
+    ensures read { OnOk result (ReadNext F.feeding F.device r.old r.new dev.old dev.new
+        (length (bits_after parameter before (take count out.new.items)))) }
+    ensures pages { OnErr result (OnlyListPages F.feeding F.device r.old r.new dev.old dev.new all
+        parameter before count) }
+    ensures place { GoesBehind result r.old.place r.new.place
+        (length (bits_after parameter before (take count out.new.items))) }
     ensures last { IfOk result (λ last. last ≡ last_doc before (take count out.new.items)) }
     ensures rises { OnOk result (Rises all before (take count out.new.items)) }
-    ensures shows { OnOk result (FromNext F.feeding F.device r.old dev.old (Begins (bits_after parameter before (take count out.new.items)))) }
-    ensures lacks { IfDamaged result (LacksPosting all parameter (told_bytes F.feeding F.device r.old dev.old) before r.old.place count) }
+    ensures shows { OnOk result (FromNext F.feeding F.device r.old dev.old
+        (Begins (bits_after parameter before (take count out.new.items)))) }
+    ensures lacks { IfDamaged result
+        (LacksPosting all parameter (told_bytes F.feeding F.device r.old dev.old) before r.old.place
+        count) }
     ensures told { ForNextList F.feeding F.device r.old dev.old all parameter before count
         (λ ps. OrDevice result (λ _. take count out.new.items ≡ take count ps)) }
     ensures cause { RefusalCause result (F.device dev.old).faults (F.device dev.new).faults }

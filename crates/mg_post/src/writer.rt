@@ -82,10 +82,14 @@ fn put_last<S: Store>(
 ) -> Result<u64, PutErr>
     requires full { 64 * full ≤ pushed }
     ensures some { 64 * full < pushed →
-        IfOk result (λ blocks. (blocks ≡ full + 1) × WroteEntry w.old w.new (S.files store.old) (S.files store.new) last block_at) }
-    ensures none { pushed ≤ 64 * full → IfOk result (λ blocks. (blocks ≡ full) × Wrote w.old w.new (S.files store.old) (S.files store.new) []) }
+        IfOk result (λ blocks. (blocks ≡ full + 1) × WroteEntry w.old w.new (S.files store.old)
+        (S.files store.new) last block_at) }
+    ensures none { pushed ≤ 64 * full →
+        IfOk result (λ blocks. (blocks ≡ full) × Wrote w.old w.new (S.files store.old)
+        (S.files store.new) []) }
     ensures name { w.new.name ≡ w.old.name }
-    ensures wrote { WroteTo w.old.name (S.files store.old) (S.files store.new) (S.reads store.old) (S.reads store.new) }
+    ensures wrote { WroteTo w.old.name (S.files store.old) (S.files store.new) (S.reads store.old)
+        (S.reads store.new) }
     ensures cause { HasPutCause (S.faults store.old) (S.faults store.new) result }
 {
     if pushed > 64 * full {
@@ -111,7 +115,8 @@ impl<'a> ListWriter<'a> {
         ensures nothing { IfOk result (λ w. w.total ≡ 0) }
         ensures empty { OnOk result (S.files store.new
             ≡ with_empty_lists base.entry.now (S.files store.old)) }
-        ensures others { KeepsOthers (full_name base.entry.now part.Post) (full_name base.entry.now part.Skip) (S.files store.old) (S.files store.new) }
+        ensures others { KeepsOthers (full_name base.entry.now part.Post)
+            (full_name base.entry.now part.Skip) (S.files store.old) (S.files store.new) }
         ensures told { is_some (S.files store.new) ≡ is_some (S.files store.old) }
         ensures reads { SameReads (S.reads store.old) (S.reads store.new) }
         ensures cause { HasPutCause (S.faults store.old) (S.faults store.new) result }
@@ -150,10 +155,12 @@ impl<'a> ListWriter<'a> {
 
     /// Begins a list of so many postings, from 1 to the number of documents. Nothing is written.
     pub fn begin<S: Store>(&mut self, _store: &mut S, docs: u32) -> Result<(), PutErr>
-        requires took { (lists : List (List Posting)) × Took self.old (S.files _store.old) lists [] }
+        requires took { (lists : List (List Posting)) × Took self.old (S.files _store.old) lists
+            [] }
         requires some { 1 ≤ docs }
         requires within { docs ≤ self.old.all }
-        ensures took { (lists : List (List Posting)) → Took self.old (S.files _store.old) lists [] → Took self.new (S.files _store.new) lists [] }
+        ensures took { (lists : List (List Posting)) → Took self.old (S.files _store.old) lists [] →
+            Took self.new (S.files _store.new) lists [] }
         ensures between { IsBetween self.old self.new docs }
         ensures same { SameFiles self.old self.new }
         ensures sure { result ≡ Ok tt }
@@ -171,16 +178,19 @@ impl<'a> ListWriter<'a> {
     /// One posting more of the list that was begun. Documents rise, from 1 to the number of them.
     /// At most 2^32 postings are pushed to one writer, so that the bits stay below 2^63.
     pub fn push<S: Store>(&mut self, store: &mut S, doc: u32, freq: u32) -> Result<(), PutErr>
-        requires took { (lists : List (List Posting)) × (ps : List Posting) × Took self.old (S.files store.old) lists ps }
+        requires took { (lists : List (List Posting)) × (ps : List Posting)
+            × Took self.old (S.files store.old) lists ps }
         requires more { self.old.pushed < self.old.docs }
         requires total { self.old.total < 2 ^ 32 }
         requires after { self.old.last < doc }
         requires within { doc ≤ self.old.all }
         requires some { 1 ≤ freq }
-        ensures took { OnOk result (TookPosting self.old self.new (S.files store.old) (S.files store.new) (posting_of doc freq)) }
+        ensures took { OnOk result (TookPosting self.old self.new (S.files store.old)
+            (S.files store.new) (posting_of doc freq)) }
         ensures pushed { OnOk result (Pushed self.old self.new doc) }
         ensures same { SameFiles self.old self.new }
-        ensures others { KeepsOthers self.old.post.name self.old.skip.name (S.files store.old) (S.files store.new) }
+        ensures others { KeepsOthers self.old.post.name self.old.skip.name (S.files store.old)
+            (S.files store.new) }
         ensures told { is_some (S.files store.new) ≡ is_some (S.files store.old) }
         ensures reads { SameReads (S.reads store.old) (S.reads store.new) }
         ensures cause { HasPutCause (S.faults store.old) (S.faults store.new) result }
@@ -200,13 +210,18 @@ impl<'a> ListWriter<'a> {
     /// Ends the list that was begun, of which all postings were pushed. Answers the byte of Post
     /// where it begins, and the number of its first skip entry.
     pub fn end_list<S: Store>(&mut self, store: &mut S) -> Result<(u64, u32), PutErr>
-        requires took { (lists : List (List Posting)) × (ps : List Posting) × Took self.old (S.files store.old) lists ps }
+        requires took { (lists : List (List Posting)) × (ps : List Posting)
+            × Took self.old (S.files store.old) lists ps }
         requires whole { self.old.pushed ≡ self.old.docs }
-        ensures took { OnOk result (TookList self.old self.new (S.files store.old) (S.files store.new)) }
-        ensures answer { IfOk result (λ at. ForTook self.old (S.files store.old) (λ lists ps. AreSizesOf self.old.all lists at)) }
+        ensures took { OnOk result (TookList self.old self.new (S.files store.old)
+            (S.files store.new)) }
+        ensures answer { IfOk result
+            (λ at. ForTook self.old (S.files store.old) (λ lists ps.
+            AreSizesOf self.old.all lists at)) }
         ensures between { OnOk result (IsBetween self.old self.new self.old.docs) }
         ensures same { SameFiles self.old self.new }
-        ensures others { KeepsOthers self.old.post.name self.old.skip.name (S.files store.old) (S.files store.new) }
+        ensures others { KeepsOthers self.old.post.name self.old.skip.name (S.files store.old)
+            (S.files store.new) }
         ensures told { is_some (S.files store.new) ≡ is_some (S.files store.old) }
         ensures reads { SameReads (S.reads store.old) (S.reads store.new) }
         ensures cause { HasPutCause (S.faults store.old) (S.faults store.new) result }
@@ -234,12 +249,16 @@ impl<'a> ListWriter<'a> {
     /// of Post and the number of skip entries.
     pub fn finish<S: Store>(&mut self, store: &mut S) -> Result<(u64, u64), PutErr>
         requires took { (lists : List (List Posting)) × Took self.old (S.files store.old) lists [] }
-        ensures finished { OnOk result (WhereTaken self.old (S.files store.old) (Finished self.old (S.files store.new))) }
-        ensures bytes { OnOk result (WhereTaken self.old (S.files store.old) (InBytes self.old (S.files store.new))) }
-        ensures answer { IfOk result (λ sizes. (lists : List (List Posting)) → Took self.old (S.files store.old) lists [] →
+        ensures finished { OnOk result
+            (WhereTaken self.old (S.files store.old) (Finished self.old (S.files store.new))) }
+        ensures bytes { OnOk result (WhereTaken self.old (S.files store.old)
+            (InBytes self.old (S.files store.new))) }
+        ensures answer { IfOk result (λ sizes. (lists : List (List Posting)) →
+            Took self.old (S.files store.old) lists [] →
             AreSizesOf self.old.all lists sizes) }
         ensures same { SameFiles self.old self.new }
-        ensures others { KeepsOthers self.old.post.name self.old.skip.name (S.files store.old) (S.files store.new) }
+        ensures others { KeepsOthers self.old.post.name self.old.skip.name (S.files store.old)
+            (S.files store.new) }
         ensures told { is_some (S.files store.new) ≡ is_some (S.files store.old) }
         ensures reads { SameReads (S.reads store.old) (S.reads store.new) }
         ensures cause { HasPutCause (S.faults store.old) (S.faults store.new) result }

@@ -26,8 +26,10 @@ fn put_list<S: Store>(
     requires total { w.old.total + length postings.now < 2 ^ 32 }
     requires all { w.old.all ≡ all }
     requires short { length postings.now < 2 ^ 32 }
-    ensures took { IfOk result (λ at. IfSome at (λ _. (lists : List (List Posting)) × Took w.new (S.files store.new) lists [])) }
-    ensures total { IfOk result (λ at. IfSome at (λ _. w.new.total ≡ w.old.total + length postings.now)) }
+    ensures took { IfOk result (λ at.
+        IfSome at (λ _. (lists : List (List Posting)) × Took w.new (S.files store.new) lists [])) }
+    ensures total { IfOk result (λ at.
+        IfSome at (λ _. w.new.total ≡ w.old.total + length postings.now)) }
     ensures all { IfOk result (λ at. IfSome at (λ _. w.new.all ≡ all)) }
 {
     let count = postings.len() as u32;

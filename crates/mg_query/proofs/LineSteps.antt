@@ -20,10 +20,14 @@ never-many r line h at e = many-not-refused line at (refused-refusal line (too_m
 
 -- ---- a token more of a ranked line
 
-pub ranked-goes : (line : List ℕ) (terms more : List (List ℕ)) (t : PlacedToken) (before after : List PlacedToken) → ranked line ≡ ranked_from (reads terms) before → before ≡ t ∷ after → ranked_next (reads terms) t ≡ reads more → ranked line ≡ ranked_from (reads more) after
+pub ranked-goes : (line : List ℕ) (terms more : List (List ℕ)) (t : PlacedToken) (before after : List PlacedToken) →
+    ranked line ≡ ranked_from (reads terms) before → before ≡ t ∷ after → ranked_next (reads terms) t ≡ reads more →
+    ranked line ≡ ranked_from (reads more) after
 ranked-goes line terms more t before after so_far e h = so_far ∙ (ap (ranked_from (reads terms)) e ∙ ap (λ r. ranked_from r after) h)
 
-pub ranked-refused : (e : QueryErr) (line : List ℕ) (terms : List (List ℕ)) (t : PlacedToken) (before after : List PlacedToken) → ranked line ≡ ranked_from (reads terms) before → before ≡ t ∷ after → IfSome (refusal_of e) (λ why. ranked_next (reads terms) t ≡ refused why) → IfSome (refusal_of e) (λ why. ranked line ≡ refused why)
+pub ranked-refused : (e : QueryErr) (line : List ℕ) (terms : List (List ℕ)) (t : PlacedToken) (before after : List PlacedToken) →
+    ranked line ≡ ranked_from (reads terms) before → before ≡ t ∷ after → IfSome (refusal_of e) (λ why. ranked_next (reads terms) t ≡ refused why) →
+    IfSome (refusal_of e) (λ why. ranked line ≡ refused why)
 ranked-refused (Syntax at) line terms t before after so_far e h = so_far ∙ (ap (ranked_from (reads terms)) e ∙ (ap (λ r. ranked_from r after) h ∙ refused-stays (syntax at) after))
 ranked-refused (TooDeep at) line terms t before after so_far e h = so_far ∙ (ap (ranked_from (reads terms)) e ∙ (ap (λ r. ranked_from r after) h ∙ refused-stays (too_deep at) after))
 ranked-refused (TermTooLong at) line terms t before after so_far e h = so_far ∙ (ap (ranked_from (reads terms)) e ∙ (ap (λ r. ranked_from r after) h ∙ refused-stays (too_long at) after))

@@ -46,10 +46,13 @@ reads-word-at d size at v before after e h = record {
 first-is : (t : PlacedToken) (k : Token) (before after : List PlacedToken) → before ≡ t ∷ after → t.token ≡ k → before ≡ placed t.at k ∷ after
 first-is t k before after e is = e ∙ ap (λ (u : Token). placed t.at u ∷ after) is
 
-pub reads-word : (d size : ℕ) (t : PlacedToken) (v r : List ℕ) (before after : List PlacedToken) → before ≡ t ∷ after → t.token ≡ word v → length v ≤ 255 → r ≡ folded v → Reads not_level d size before after (term r)
-reads-word d size t v r before after e is h same = subst (λ (f : List ℕ). Reads not_level d size before after (term f)) (sym same) (reads-word-at d size t.at v before after (first-is t (word v) before after e is) h)
+pub reads-word : (d size : ℕ) (t : PlacedToken) (v r : List ℕ) (before after : List PlacedToken) → before ≡ t ∷ after → t.token ≡ word v → length v ≤ 255 →
+    r ≡ folded v → Reads not_level d size before after (term r)
+reads-word d size t v r before after e is h same = subst (λ (f : List ℕ). Reads not_level d size before after (term f)) (sym same)
+    (reads-word-at d size t.at v before after (first-is t (word v) before after e is) h)
 
-reads-inside-at : (d size at place : ℕ) (before mid rest after : List PlacedToken) (q : Query) → before ≡ placed at opening ∷ mid → d < 32 → Reads or_level (suc d) size mid rest q → rest ≡ placed place closing ∷ after → Reads not_level d size before after q
+reads-inside-at : (d size at place : ℕ) (before mid rest after : List PlacedToken) (q : Query) → before ≡ placed at opening ∷ mid → d < 32 →
+    Reads or_level (suc d) size mid rest q → rest ≡ placed place closing ∷ after → Reads not_level d size before after q
 reads-inside-at d size at place before mid rest after q e h r k = record {
   read = opening ∷ (r.read ++ closing ∷ []);
   whole = ap bare e ∙ (ap (λ (xs : List Token). opening ∷ xs) (r.whole ∙ (ap (λ (xs : List PlacedToken). r.read ++ bare xs) k ∙ sym (append_assoc r.read (closing ∷ []) (bare after)))));
@@ -57,13 +60,15 @@ reads-inside-at d size at place before mid rest after q e h r k = record {
   goes_on = λ w. ap (refusal_from (at_depth w d) size) e ∙ (opening-goes w d size at mid h ∙ (r.goes_on true ∙ ap (refusal_from (at_depth false (suc d)) size) k));
 }
 
-pub reads-inside : (d size inner place : ℕ) (t : PlacedToken) (before mid rest after : List PlacedToken) (q : Query) → before ≡ t ∷ mid → t.token ≡ opening → d < 32 → inner ≡ size → Reads or_level (d + 1) inner mid rest q → rest ≡ placed place closing ∷ after → Reads not_level d size before after q
+pub reads-inside : (d size inner place : ℕ) (t : PlacedToken) (before mid rest after : List PlacedToken) (q : Query) → before ≡ t ∷ mid → t.token ≡ opening →
+    d < 32 → inner ≡ size → Reads or_level (d + 1) inner mid rest q → rest ≡ placed place closing ∷ after → Reads not_level d size before after q
 reads-inside d size inner place t before mid rest after q e is h same r k =
     let here = subst (λ (n : ℕ). Reads or_level (d + 1) n mid rest q) same r in
     let there = subst (λ (n : ℕ). Reads or_level n size mid rest q) (add-one d) here in
     reads-inside-at d size t.at place before mid rest after q (first-is t opening before mid e is) h there k
 
-amped : (d size at : ℕ) (before ts next after : List PlacedToken) (p q : Query) → Reads and_level d size before (placed at amp ∷ ts) p → next ≡ ts → Reads not_level d size next after q → Reads and_level d size before after (both p q)
+amped : (d size at : ℕ) (before ts next after : List PlacedToken) (p q : Query) → Reads and_level d size before (placed at amp ∷ ts) p → next ≡ ts →
+    Reads not_level d size next after q → Reads and_level d size before after (both p q)
 amped d size at before ts next after p q r e k = record {
   read = r.read ++ (amp ∷ k.read);
   whole = r.whole ∙ (ap (λ (xs : List Token). r.read ++ (amp ∷ xs)) (ap bare (sym e) ∙ k.whole) ∙ sym (append_assoc r.read (amp ∷ k.read) (bare after)));
@@ -71,7 +76,8 @@ amped d size at before ts next after p q r e k = record {
   goes_on = λ w. r.goes_on w ∙ (ap (refusal_from (at_depth true d) size) (sym e) ∙ k.goes_on true);
 }
 
-beside : (d size : ℕ) (before mid next after : List PlacedToken) (p q : Query) → Reads and_level d size before mid p → next ≡ mid → Reads not_level d size next after q → Reads and_level d size before after (both p q)
+beside : (d size : ℕ) (before mid next after : List PlacedToken) (p q : Query) → Reads and_level d size before mid p → next ≡ mid →
+    Reads not_level d size next after q → Reads and_level d size before after (both p q)
 beside d size before mid next after p q r e k = record {
   read = r.read ++ k.read;
   whole = r.whole ∙ (ap (λ (xs : List Token). r.read ++ xs) (ap bare (sym e) ∙ k.whole) ∙ sym (append_assoc r.read k.read (bare after)));
@@ -79,7 +85,8 @@ beside d size before mid next after p q r e k = record {
   goes_on = λ w. r.goes_on w ∙ (ap (refusal_from (at_depth false d) size) (sym e) ∙ k.goes_on false);
 }
 
-joined-at : (d size at : ℕ) (t : Token) (before ts next after : List PlacedToken) (p q : Query) → Reads and_level d size before (placed at t ∷ ts) p → JoinsBy t (placed at t) ts next → Reads not_level d size next after q → Reads and_level d size before after (both p q)
+joined-at : (d size at : ℕ) (t : Token) (before ts next after : List PlacedToken) (p q : Query) → Reads and_level d size before (placed at t ∷ ts) p →
+    JoinsBy t (placed at t) ts next → Reads not_level d size next after q → Reads and_level d size before after (both p q)
 joined-at d size at amp before ts next after p q r j k = amped d size at before ts next after p q r j k
 joined-at d size at (word v) before ts next after p q r j k = beside d size before (placed at (word v) ∷ ts) next after p q r j k
 joined-at d size at bang before ts next after p q r j k = beside d size before (placed at bang ∷ ts) next after p q r j k
@@ -87,16 +94,19 @@ joined-at d size at opening before ts next after p q r j k = beside d size befor
 joined-at d size at bar before ts next after p q r j k = absurd j
 joined-at d size at closing before ts next after p q r j k = absurd j
 
-joined : (d size : ℕ) (before mid next after : List PlacedToken) (p q : Query) → Reads and_level d size before mid p → JoinsTo mid next → Reads not_level d size next after q → Reads and_level d size before after (both p q)
+joined : (d size : ℕ) (before mid next after : List PlacedToken) (p q : Query) → Reads and_level d size before mid p → JoinsTo mid next →
+    Reads not_level d size next after q → Reads and_level d size before after (both p q)
 joined d size before [] next after p q r j k = absurd j
 joined d size before (t ∷ ts) next after p q r j k = joined-at d size t.at t.token before ts next after p q r j k
 
-pub reads-and : (d size inner : ℕ) (before mid next after : List PlacedToken) (p q whole : Query) → Reads and_level d size before mid p → JoinsTo mid next → inner ≡ size → Reads not_level d inner next after q → whole ≡ both p q → Reads and_level d size before after whole
+pub reads-and : (d size inner : ℕ) (before mid next after : List PlacedToken) (p q whole : Query) → Reads and_level d size before mid p → JoinsTo mid next →
+    inner ≡ size → Reads not_level d inner next after q → whole ≡ both p q → Reads and_level d size before after whole
 reads-and d size inner before mid next after p q whole r j same k is =
     let here = subst (λ (n : ℕ). Reads not_level d n next after q) same k in
     subst (Reads and_level d size before after) (sym is) (joined d size before mid next after p q r j here)
 
-chosen : (d size at : ℕ) (before mid next after : List PlacedToken) (p q : Query) → Reads or_level d size before mid p → mid ≡ placed at bar ∷ next → Reads and_level d size next after q → Reads or_level d size before after (either p q)
+chosen : (d size at : ℕ) (before mid next after : List PlacedToken) (p q : Query) → Reads or_level d size before mid p → mid ≡ placed at bar ∷ next →
+    Reads and_level d size next after q → Reads or_level d size before after (either p q)
 chosen d size at before mid next after p q r e k = record {
   read = r.read ++ (bar ∷ k.read);
   whole = r.whole ∙ (ap (λ (xs : List PlacedToken). r.read ++ bare xs) e ∙ (ap (λ (xs : List Token). r.read ++ (bar ∷ xs)) k.whole ∙ sym (append_assoc r.read (bar ∷ k.read) (bare after))));
@@ -104,7 +114,8 @@ chosen d size at before mid next after p q r e k = record {
   goes_on = λ w. r.goes_on w ∙ (ap (refusal_from (at_depth false d) size) e ∙ k.goes_on true);
 }
 
-pub reads-or : (d size inner at : ℕ) (before mid next after : List PlacedToken) (p q whole : Query) → Reads or_level d size before mid p → mid ≡ placed at bar ∷ next → inner ≡ size → Reads and_level d inner next after q → whole ≡ either p q → Reads or_level d size before after whole
+pub reads-or : (d size inner at : ℕ) (before mid next after : List PlacedToken) (p q whole : Query) → Reads or_level d size before mid p →
+    mid ≡ placed at bar ∷ next → inner ≡ size → Reads and_level d inner next after q → whole ≡ either p q → Reads or_level d size before after whole
 reads-or d size inner at before mid next after p q whole r e same k is =
     let here = subst (λ (n : ℕ). Reads and_level d n next after q) same k in
     subst (Reads or_level d size before after) (sym is) (chosen d size at before mid next after p q r e here)
@@ -210,12 +221,14 @@ tokens-few at (b ∷ bytes) =
 -- ---- whole lines
 
 -- nothing is left
-pub whole-line : (line : List ℕ) (size : ℕ) (before after : List PlacedToken) (q : Query) → before ≡ tokens line → size ≡ length line → Reads or_level 0 size before after q → after ≡ [] → boolean line ≡ reads q
+pub whole-line : (line : List ℕ) (size : ℕ) (before after : List PlacedToken) (q : Query) → before ≡ tokens line → size ≡ length line →
+    Reads or_level 0 size before after q → after ≡ [] → boolean line ≡ reads q
 unfolding boolean
 whole-line line size before after q is long r nothing =
     let all : bare (tokens line) ≡ r.read = ap bare (sym is) ∙ (r.whole ∙ (ap (λ (ts : List PlacedToken). r.read ++ bare ts) nothing ∙ append-nil r.read)) in
     let derives : Derives or_level (bare (tokens line)) q = subst (λ (ts : List Token). Derives or_level ts q) (sym all) r.derives in
-    let free : refusal_from start_spot (length line) (tokens line) ≡ None = ap (λ (ts : List PlacedToken). refusal_from start_spot (length line) ts) (sym is) ∙ (ap (λ (n : ℕ). refusal_from start_spot n before) (sym long) ∙ (r.goes_on true ∙ ap (refusal_from (at_depth false 0) size) nothing)) in
+    let free : refusal_from start_spot (length line) (tokens line) ≡ None = ap (λ (ts : List PlacedToken). refusal_from start_spot (length line) ts) (sym is)
+    ∙ (ap (λ (n : ℕ). refusal_from start_spot n before) (sym long) ∙ (r.goes_on true ∙ ap (refusal_from (at_depth false 0) size) nothing)) in
     ap (λ o. boolean_or o (query_of (bare (tokens line))) (length line)) free ∙ ap (λ o. boolean_or None o (length line)) (query_is (bare (tokens line)) q derives)
 
 closing-refused : (size : ℕ) (t : PlacedToken) (ts : List PlacedToken) → StopsOr (t ∷ ts) → refusal_from (at_depth false 0) size (t ∷ ts) ≡ Some (syntax t.at)
@@ -230,20 +243,26 @@ closing-refused size t ts stops = closing-at size t.at t.token ts stops
     closing-at size at opening ts stops = absurd stops
 
 -- a closing parenthesis is left
-pub line-goes-on : (line : List ℕ) (size : ℕ) (before after ts : List PlacedToken) (t : PlacedToken) (q : Query) → before ≡ tokens line → size ≡ length line → Reads or_level 0 size before after q → StopsOr after → after ≡ t ∷ ts → boolean line ≡ refused (syntax t.at)
+pub line-goes-on : (line : List ℕ) (size : ℕ) (before after ts : List PlacedToken) (t : PlacedToken) (q : Query) → before ≡ tokens line → size ≡ length line →
+    Reads or_level 0 size before after q → StopsOr after → after ≡ t ∷ ts → boolean line ≡ refused (syntax t.at)
 unfolding boolean
 line-goes-on line size before after ts t q is long r stops left =
     let closed = closing-refused size t ts (subst StopsOr left stops) in
-    let stopped : refusal_from start_spot (length line) (tokens line) ≡ Some (syntax t.at) = ap (λ (ts : List PlacedToken). refusal_from start_spot (length line) ts) (sym is) ∙ (ap (λ (n : ℕ). refusal_from start_spot n before) (sym long) ∙ (r.goes_on true ∙ (ap (refusal_from (at_depth false 0) size) left ∙ closed))) in
+    let stopped : refusal_from start_spot (length line) (tokens line) ≡ Some (syntax t.at) =
+    ap (λ (ts : List PlacedToken). refusal_from start_spot (length line) ts) (sym is)
+    ∙ (ap (λ (n : ℕ). refusal_from start_spot n before) (sym long) ∙ (r.goes_on true ∙ (ap (refusal_from (at_depth false 0) size) left ∙ closed))) in
     ap (λ o. boolean_or o (query_of (bare (tokens line))) (length line)) stopped
 
-line-stops : (line : List ℕ) (size : ℕ) (before : List PlacedToken) (why : Refusal) → before ≡ tokens line → size ≡ length line → refusal_from (at_depth true 0) size before ≡ Some why → boolean line ≡ refused why
+line-stops : (line : List ℕ) (size : ℕ) (before : List PlacedToken) (why : Refusal) → before ≡ tokens line → size ≡ length line →
+    refusal_from (at_depth true 0) size before ≡ Some why → boolean line ≡ refused why
 unfolding boolean
 line-stops line size before why is long h =
-    let stopped : refusal_from start_spot (length line) (tokens line) ≡ Some why = ap (λ (ts : List PlacedToken). refusal_from start_spot (length line) ts) (sym is) ∙ (ap (λ (n : ℕ). refusal_from start_spot n before) (sym long) ∙ h) in
+    let stopped : refusal_from start_spot (length line) (tokens line) ≡ Some why = ap (λ (ts : List PlacedToken). refusal_from start_spot (length line) ts)
+    (sym is) ∙ (ap (λ (n : ℕ). refusal_from start_spot n before) (sym long) ∙ h) in
     ap (λ o. boolean_or o (query_of (bare (tokens line))) (length line)) stopped
 
-pub line-refused : (e : QueryErr) (line : List ℕ) (size : ℕ) (before : List PlacedToken) → before ≡ tokens line → size ≡ length line → IsStopped e 0 size before → IfSome (refusal_of e) (λ why. boolean line ≡ refused why)
+pub line-refused : (e : QueryErr) (line : List ℕ) (size : ℕ) (before : List PlacedToken) → before ≡ tokens line → size ≡ length line →
+    IsStopped e 0 size before → IfSome (refusal_of e) (λ why. boolean line ≡ refused why)
 line-refused (Syntax at) line size before is long h = line-stops line size before (syntax at) is long h
 line-refused (TooDeep at) line size before is long h = line-stops line size before (too_deep at) is long h
 line-refused (TermTooLong at) line size before is long h = line-stops line size before (too_long at) is long h

@@ -16,7 +16,8 @@ pub record Reads (level : Level) (depth size : ℕ) (before after : List PlacedT
   pub read : List Token
   pub whole : bare before ≡ read ++ bare after
   pub derives : Derives level read q
-  pub goes_on : (wants : Bool) → refusal_from (at_depth wants depth) size before ≡ refusal_from (at_depth false depth) size after
+  pub goes_on : (wants : Bool) → refusal_from (at_depth wants depth) size before
+      ≡ refusal_from (at_depth false depth) size after
 
 -- The error is the first refusal of the tokens before, where an operand must come next.
 abbrev pub IsStopped : QueryErr → ℕ → ℕ → List PlacedToken → Type 0

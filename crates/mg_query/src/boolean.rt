@@ -22,7 +22,8 @@ use std::alloc::Global;
 pub fn parse_boolean(alloc: Global, line: &[u8]) -> Result<Query, QueryErr>
     requires { length line.now ≤ 1024 }
     ensures reads { IfOk result (λ q. boolean line.now ≡ reads (query_of q)) }
-    ensures refused { IfErr result (λ e. IfSome (refusal_of e) (λ why. boolean line.now ≡ refused why)) }
+    ensures refused { IfErr result (λ e.
+        IfSome (refusal_of e) (λ why. boolean line.now ≡ refused why)) }
     ensures never_many { (at : ℕ) → result ≢ Err (QueryErr.TooManyTerms at) }
 {
     let mut parser = Parser::new(alloc, line);

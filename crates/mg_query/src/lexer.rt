@@ -45,7 +45,8 @@ impl<'a> Lexer<'a> {
 
     /// The next token.
     pub(crate) fn next(&mut self) -> Option<Placed<'a>>
-        ensures some { IfSome result (λ t. tokens_left self.old ≡ placed_of t ∷ tokens_left self.new) }
+        ensures some { IfSome result (λ t. tokens_left self.old ≡ placed_of t ∷
+            tokens_left self.new) }
         ensures none { IfNone result (tokens_left self.old ≡ []) }
     {
         'bytes: while !self.rest.is_empty() {
@@ -65,7 +66,8 @@ impl<'a> Lexer<'a> {
 /// The token at the front, if one begins there, and how many bytes it takes.
 fn lex<'a>(text: &'a [u8]) -> (Option<Token<'a>>, usize)
     requires { 0 < length text.now }
-    ensures tokens { (p : ℕ) → tokens_from p text.now ≡ onto_sign p (option_map token_of result.0) (tokens_from (p + result.1) (drop result.1 text.now)) }
+    ensures tokens { (p : ℕ) → tokens_from p text.now ≡ onto_sign p (option_map token_of result.0)
+        (tokens_from (p + result.1) (drop result.1 text.now)) }
     ensures used { (0 < result.1) × (result.1 ≤ length text.now) }
 {
     if !is_word_byte(text[0]) {

@@ -52,7 +52,8 @@ impl<'a> Parser<'a> {
     #[cycle(parser)]
     pub(crate) fn or(&mut self, depth: u32) -> Result<Query, QueryErr>
         requires { depth ≤ 32 }
-        ensures reads { IfOk result (λ q. Reads or_level depth self.old.end (ahead self.old) (ahead self.new) (query_of q)) }
+        ensures reads { IfOk result (λ q.
+            Reads or_level depth self.old.end (ahead self.old) (ahead self.new) (query_of q)) }
         ensures stops { OnOk result (StopsOr (ahead self.new)) }
         ensures stopped { IfErr result (λ e. IsStopped e depth self.old.end (ahead self.old)) }
         ensures end { self.new.end ≡ self.old.end }
@@ -69,7 +70,8 @@ impl<'a> Parser<'a> {
     #[cycle(parser)]
     fn and(&mut self, depth: u32) -> Result<Query, QueryErr>
         requires { depth ≤ 32 }
-        ensures reads { IfOk result (λ q. Reads and_level depth self.old.end (ahead self.old) (ahead self.new) (query_of q)) }
+        ensures reads { IfOk result (λ q.
+            Reads and_level depth self.old.end (ahead self.old) (ahead self.new) (query_of q)) }
         ensures stops { OnOk result (StopsAnd (ahead self.new)) }
         ensures stopped { IfErr result (λ e. IsStopped e depth self.old.end (ahead self.old)) }
         ensures end { self.new.end ≡ self.old.end }
@@ -86,7 +88,8 @@ impl<'a> Parser<'a> {
     #[cycle(parser)]
     fn not(&mut self, depth: u32) -> Result<Query, QueryErr>
         requires { depth ≤ 32 }
-        ensures reads { IfOk result (λ q. Reads not_level depth self.old.end (ahead self.old) (ahead self.new) (query_of q)) }
+        ensures reads { IfOk result (λ q.
+            Reads not_level depth self.old.end (ahead self.old) (ahead self.new) (query_of q)) }
         ensures stopped { IfErr result (λ e. IsStopped e depth self.old.end (ahead self.old)) }
         ensures end { self.new.end ≡ self.old.end }
     {
@@ -104,7 +107,8 @@ impl<'a> Parser<'a> {
     fn operand(&mut self, depth: u32) -> Result<Query, QueryErr>
         requires shallow { depth ≤ 32 }
         requires no_bang { NoBang (ahead self.old) }
-        ensures reads { IfOk result (λ q. Reads not_level depth self.old.end (ahead self.old) (ahead self.new) (query_of q)) }
+        ensures reads { IfOk result (λ q.
+            Reads not_level depth self.old.end (ahead self.old) (ahead self.new) (query_of q)) }
         ensures stopped { IfErr result (λ e. IsStopped e depth self.old.end (ahead self.old)) }
         ensures end { self.new.end ≡ self.old.end }
     {
@@ -184,7 +188,8 @@ impl<'a> Parser<'a> {
 
     /// Takes a sign `!`, if it is in hand.
     fn takes_bang(&mut self) -> bool
-        ensures yes { OnTrue result ((at : ℕ) × (ahead self.old ≡ placed at bang ∷ ahead self.new)) }
+        ensures yes { OnTrue result ((at : ℕ)
+            × (ahead self.old ≡ placed at bang ∷ ahead self.new)) }
         ensures no { OnFalse result (NoBang (ahead self.old)) }
         ensures same { OnFalse result (ahead self.new ≡ ahead self.old) }
         ensures end { self.new.end ≡ self.old.end }
@@ -207,7 +212,8 @@ impl<'a> Parser<'a> {
 
     /// Takes a closing parenthesis, if it is in hand.
     fn takes_closing(&mut self) -> bool
-        ensures yes { OnTrue result ((at : ℕ) × (ahead self.old ≡ placed at closing ∷ ahead self.new)) }
+        ensures yes { OnTrue result ((at : ℕ)
+            × (ahead self.old ≡ placed at closing ∷ ahead self.new)) }
         ensures no { OnFalse result (StopsOr (ahead self.old) → ahead self.old ≡ []) }
         ensures same { OnFalse result (ahead self.new ≡ ahead self.old) }
         ensures end { self.new.end ≡ self.old.end }

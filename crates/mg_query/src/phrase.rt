@@ -26,7 +26,8 @@ const MOST_WORDS: usize = 64;
 pub fn parse_phrase(alloc: Global, line: &[u8]) -> Result<Terms, QueryErr>
     requires { length line.now ≤ 1024 }
     ensures reads { IfOk result (λ phrase. phrase_of line.now ≡ reads phrase) }
-    ensures refused { IfErr result (λ e. IfSome (refusal_of e) (λ why. phrase_of line.now ≡ refused why)) }
+    ensures refused { IfErr result (λ e.
+        IfSome (refusal_of e) (λ why. phrase_of line.now ≡ refused why)) }
     ensures never_syntax { (at : ℕ) → result ≢ Err (QueryErr.Syntax at) }
     ensures never_deep { (at : ℕ) → result ≢ Err (QueryErr.TooDeep at) }
 {
@@ -40,8 +41,11 @@ pub fn parse_phrase(alloc: Global, line: &[u8]) -> Result<Terms, QueryErr>
 
 /// Adds the word of a token that is one.
 fn add_token(alloc: Global, phrase: &mut Terms, next: Placed<'_>) -> Result<(), QueryErr>
-    ensures added { OnOk result (phrase_next (reads phrase.old) (placed_of next.entry) ≡ reads phrase.new) }
-    ensures refused { IfErr result (λ e. IfSome (refusal_of e) (λ why. phrase_next (reads phrase.old) (placed_of next.entry) ≡ refused why)) }
+    ensures added { OnOk result (phrase_next (reads phrase.old) (placed_of next.entry)
+        ≡ reads phrase.new) }
+    ensures refused { IfErr result (λ e.
+        IfSome (refusal_of e) (λ why. phrase_next (reads phrase.old) (placed_of next.entry)
+        ≡ refused why)) }
     ensures never_syntax { (at : ℕ) → result ≢ Err (QueryErr.Syntax at) }
     ensures never_deep { (at : ℕ) → result ≢ Err (QueryErr.TooDeep at) }
 {
@@ -58,7 +62,8 @@ fn add_token(alloc: Global, phrase: &mut Terms, next: Placed<'_>) -> Result<(), 
 /// Adds a word at a place.
 fn add_word(alloc: Global, phrase: &mut Terms, word: &[u8], at: u32) -> Result<(), QueryErr>
     ensures added { OnOk result (phrase_with phrase.old at word.now ≡ reads phrase.new) }
-    ensures refused { IfErr result (λ e. IfSome (refusal_of e) (λ why. phrase_with phrase.old at word.now ≡ refused why)) }
+    ensures refused { IfErr result (λ e.
+        IfSome (refusal_of e) (λ why. phrase_with phrase.old at word.now ≡ refused why)) }
     ensures never_syntax { (at : ℕ) → result ≢ Err (QueryErr.Syntax at) }
     ensures never_deep { (at : ℕ) → result ≢ Err (QueryErr.TooDeep at) }
 {

@@ -140,7 +140,9 @@ impl Query {
     /// there.
     pub fn holds(&self, there: &[bool]) -> bool
         ensures value { result ≡ holds_spec (query_of self.now) there.now }
-        ensures satisfied { (doc : List ℕ) → AreThere doc (query_terms (query_of self.now)) there.now → result ≡ satisfies (query_of self.now) doc }
+        ensures satisfied { (doc : List ℕ) →
+            AreThere doc (query_terms (query_of self.now)) there.now →
+            result ≡ satisfies (query_of self.now) doc }
     {
         self.holds_first(there).0
     }

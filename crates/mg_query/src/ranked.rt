@@ -25,7 +25,8 @@ const TERM_LIMIT: usize = 64;
 pub fn parse_ranked(alloc: Global, line: &[u8]) -> Result<Terms, QueryErr>
     requires { length line.now ≤ 1024 }
     ensures reads { IfOk result (λ terms. ranked line.now ≡ reads terms) }
-    ensures refused { IfErr result (λ e. IfSome (refusal_of e) (λ why. ranked line.now ≡ refused why)) }
+    ensures refused { IfErr result (λ e.
+        IfSome (refusal_of e) (λ why. ranked line.now ≡ refused why)) }
     ensures never_syntax { (at : ℕ) → result ≢ Err (QueryErr.Syntax at) }
     ensures never_deep { (at : ℕ) → result ≢ Err (QueryErr.TooDeep at) }
 {
@@ -39,8 +40,11 @@ pub fn parse_ranked(alloc: Global, line: &[u8]) -> Result<Terms, QueryErr>
 
 /// Adds the term of a token that is a word, unless it is there.
 fn add_token(alloc: Global, terms: &mut Terms, next: Placed<'_>) -> Result<(), QueryErr>
-    ensures added { OnOk result (ranked_next (reads terms.old) (placed_of next.entry) ≡ reads terms.new) }
-    ensures refused { IfErr result (λ e. IfSome (refusal_of e) (λ why. ranked_next (reads terms.old) (placed_of next.entry) ≡ refused why)) }
+    ensures added { OnOk result (ranked_next (reads terms.old) (placed_of next.entry)
+        ≡ reads terms.new) }
+    ensures refused { IfErr result (λ e.
+        IfSome (refusal_of e) (λ why. ranked_next (reads terms.old) (placed_of next.entry)
+        ≡ refused why)) }
 {
     match next.token {
         Token::Word(word) => add_word(alloc, terms, word, next.at),
@@ -55,7 +59,8 @@ fn add_token(alloc: Global, terms: &mut Terms, next: Placed<'_>) -> Result<(), Q
 /// Adds the term of a word at a place, unless it is there.
 fn add_word(alloc: Global, terms: &mut Terms, word: &[u8], at: u32) -> Result<(), QueryErr>
     ensures added { OnOk result (ranked_with terms.old at word.now ≡ reads terms.new) }
-    ensures refused { IfErr result (λ e. IfSome (refusal_of e) (λ why. ranked_with terms.old at word.now ≡ refused why)) }
+    ensures refused { IfErr result (λ e.
+        IfSome (refusal_of e) (λ why. ranked_with terms.old at word.now ≡ refused why)) }
 {
     if word.len() > WORD_LIMIT {
         return Err(QueryErr::TermTooLong { at });

@@ -28,7 +28,8 @@ sums_end collection ts k sums s le = subst (λ us. SumsFor collection us sums) (
 pub sums_start : (collection : List ℕ) (ts : List (List ℕ)) → SumsFor collection (take 0 ts) []
 sums_start collection ts = record { each = λ d some. refl; apart = tt }
 
-pub sums_next : (collection : List ℕ) (ts : List (List ℕ)) (k : ℕ) (sums : List (ℕ × ℕ)) → k < length ts → SumsFor collection (take k ts ++ get_or ts k [] ∷ []) sums → SumsFor collection (take (k + 1) ts) sums
+pub sums_next : (collection : List ℕ) (ts : List (List ℕ)) (k : ℕ) (sums : List (ℕ × ℕ)) → k < length ts →
+    SumsFor collection (take k ts ++ get_or ts k [] ∷ []) sums → SumsFor collection (take (k + 1) ts) sums
 sums_next collection ts k sums lt s = subst (λ us. SumsFor collection us sums) (sym (take_more ts k [] lt)) s
 
 any_default : (infos : List TermInfo) (k : ℕ) (d e : TermInfo) → k < length infos → slice_index_or infos k d ≡ slice_index_or infos k e
@@ -36,15 +37,23 @@ any_default [] k d e lt = absurd (omega (arith, lt))
 any_default (x ∷ infos) zero d e lt = refl
 any_default (x ∷ infos) (suc k) d e lt = any_default infos k d e (omega (arith, lt))
 
-pub info_at : (collection : List ℕ) (ts : List (List ℕ)) (infos : List TermInfo) (k : ℕ) (d : TermInfo) → AreTold collection ts infos → k < length infos → (k < length ts) × IsInfoOf collection (get_or ts k []) (slice_index_or infos k d)
+pub info_at : (collection : List ℕ) (ts : List (List ℕ)) (infos : List TermInfo) (k : ℕ) (d : TermInfo) → AreTold collection ts infos → k < length infos →
+    (k < length ts) × IsInfoOf collection (get_or ts k []) (slice_index_or infos k d)
 info_at collection ts infos k d told lt =
     let l : k < length ts = omega (arith, lt, told.size) in
     (l, told.each k (slice_index_or infos k d) l (any_default infos k (slice_index_or infos k d) d lt))
 
-pages_more : (collection : List ℕ) (ts : List (List ℕ)) (k : ℕ) → k < length ts → sum_by (list_pages collection) (take (k + 1) ts) ≡ sum_by (list_pages collection) (take k ts) + list_pages collection (get_or ts k [])
-pages_more collection ts k lt = omega (arith, ap (sum_by (list_pages collection)) (take_more ts k [] lt), sum_by-append (list_pages collection) (take k ts) (get_or ts k [] ∷ []), sum_by-cons (list_pages collection) (get_or ts k []) [])
+pages_more : (collection : List ℕ) (ts : List (List ℕ)) (k : ℕ) → k < length ts → sum_by (list_pages collection) (take (k + 1) ts)
+    ≡ sum_by (list_pages collection) (take k ts) + list_pages collection (get_or ts k [])
+pages_more collection ts k lt = omega (
+  arith,
+  ap (sum_by (list_pages collection)) (take_more ts k [] lt),
+  sum_by-append (list_pages collection) (take k ts) (get_or ts k [] ∷ []),
+  sum_by-cons (list_pages collection) (get_or ts k []) [],
+)
 
-pub post_next : (collection : List ℕ) (ts : List (List ℕ)) (k before mid now : ℕ) → k < length ts → mid ≤ before + sum_by (list_pages collection) (take k ts) → now ≤ mid + list_pages collection (get_or ts k []) → now ≤ before + sum_by (list_pages collection) (take (k + 1) ts)
+pub post_next : (collection : List ℕ) (ts : List (List ℕ)) (k before mid now : ℕ) → k < length ts → mid ≤ before + sum_by (list_pages collection) (take k ts) →
+    now ≤ mid + list_pages collection (get_or ts k []) → now ≤ before + sum_by (list_pages collection) (take (k + 1) ts)
 post_next collection ts k before mid now lt a b = omega (arith, a, b, pages_more collection ts k lt)
 
 pub post_end : (collection : List ℕ) (ts : List (List ℕ)) (k before now : ℕ) → now ≤ before + sum_by (list_pages collection) (take k ts) → now ≤ before + ranked_bound collection ts
@@ -76,7 +85,12 @@ length_filter p (x ∷ xs) =
     ]
 
 pub hits_few : (collection : List ℕ) (ts : List (List ℕ)) → length (hits_over collection ts) ≤ length (documents collection)
-hits_few collection ts = omega (arith, length_map (hit collection ts) (filter (met ts) (enumerate_from 1 (documents collection))), length_filter (met ts) (enumerate_from 1 (documents collection)), length_numbers 1 (documents collection))
+hits_few collection ts = omega (
+  arith,
+  length_map (hit collection ts) (filter (met ts) (enumerate_from 1 (documents collection))),
+  length_filter (met ts) (enumerate_from 1 (documents collection)),
+  length_numbers 1 (documents collection),
+)
   where
     met : List (List ℕ) → ℕ × List ℕ → Bool
     met ts d = list_any (has_term d.1) ts

@@ -44,7 +44,8 @@ entry_found (e ∷ es) (suc k) d apart lt =
     let key = (slice_index_or es k d).0 in
     let there = entry_found es k d apart.1 (omega (arith, lt)) in
     elim (cases_Bool (nat_eq key e.0)) [
-      | inl is ↦ absurd (let none : lookup (nat_eq key) es ≡ None = subst (λ x. lookup (nat_eq x) es ≡ None) (sym (eqb-true key e.0 is)) apart.0 in let bad : Some (slice_index_or es k d).1 ≡ None = sym there ∙ none in cc)
+      | inl is ↦ absurd (let none : lookup (nat_eq key) es ≡ None = subst (λ x. lookup (nat_eq x) es ≡ None) (sym (eqb-true key e.0 is)) apart.0 in
+          let bad : Some (slice_index_or es k d).1 ≡ None = sym there ∙ none in cc)
       | inr isnt ↦ look_past key e es isnt ∙ there
     ]
 
@@ -73,7 +74,8 @@ length_weights : (ds : List (List ℕ)) → length (map weight ds) ≡ length ds
 length_weights [] = refl
 length_weights (d ∷ ds) = omega (arith, length_weights ds)
 
-pub weight_stands : (collection bytes : List ℕ) (d : ℕ) → bytes ≡ weights_part collection → 1 ≤ d → d ≤ length (documents collection) → take 4 (drop (4 * (d - 1)) bytes) ≡ four (weight (document collection d))
+pub weight_stands : (collection bytes : List ℕ) (d : ℕ) → bytes ≡ weights_part collection → 1 ≤ d → d ≤ length (documents collection) →
+    take 4 (drop (4 * (d - 1)) bytes) ≡ four (weight (document collection d))
 weight_stands collection bytes d stand some le =
     let ds = documents collection in
     ap (λ b. take 4 (drop (4 * (d - 1)) b)) stand ∙ four_part (map weight ds) (d - 1) (omega (arith, some, le, length_weights ds)) ∙ ap four (weight_got ds (d - 1) (omega (arith, some, le)))
@@ -135,11 +137,14 @@ has_some collection ts d v is =
 
 -- ---- the rows so far
 
-pub rows_more : (collection : List ℕ) (sums : List (ℕ × ℕ)) (k : ℕ) (d e : ℕ × ℕ) → k < length sums → e ≡ slice_index_or sums k d → map (row_of collection) (take (k + 1) sums) ≡ map (row_of collection) (take k sums) ++ row_of collection e ∷ []
+pub rows_more : (collection : List ℕ) (sums : List (ℕ × ℕ)) (k : ℕ) (d e : ℕ × ℕ) → k < length sums → e ≡ slice_index_or sums k d →
+    map (row_of collection) (take (k + 1) sums) ≡ map (row_of collection) (take k sums) ++ row_of collection e ∷ []
 rows_more collection sums k d e lt is =
-    ap (map (row_of collection)) (take_more sums k d lt) ∙ map-append (row_of collection) (take k sums) (slice_index_or sums k d ∷ []) ∙ ap (λ x. map (row_of collection) (take k sums) ++ row_of collection x ∷ []) (sym is)
+    ap (map (row_of collection)) (take_more sums k d lt) ∙ map-append (row_of collection) (take k sums) (slice_index_or sums k d ∷ [])
+    ∙ ap (λ x. map (row_of collection) (take k sums) ++ row_of collection x ∷ []) (sym is)
 
-pub row_is : (collection : List ℕ) (document sum w : ℕ) (score : ℕ) → score ≡ score_of sum w → w ≡ weight (Rattle.mg_defs.specs.Terms.document collection document) → record { number = document; score = score } ≡ row_of collection (document, sum)
+pub row_is : (collection : List ℕ) (document sum w : ℕ) (score : ℕ) → score ≡ score_of sum w →
+    w ≡ weight (Rattle.mg_defs.specs.Terms.document collection document) → record { number = document; score = score } ≡ row_of collection (document, sum)
 row_is collection document sum w score is weight_is =
     let e : score ≡ score_of sum (weight (Rattle.mg_defs.specs.Terms.document collection document)) = is ∙ ap (score_of sum) weight_is in
     ap (λ (s : ℕ). record { number = document; score = s }) e

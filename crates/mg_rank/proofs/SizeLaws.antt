@@ -25,7 +25,8 @@ pub weights_long : (collection : List ℕ) → length (weights_part collection) 
 weights_long collection = omega (arith, fours_long (map weight (documents collection)), each_four (documents collection))
 
 -- weights of their size are not refused
-pub not_sized : (e : PartErr) (bytes collection : List ℕ) (ts : List (List ℕ)) (wanted most : ℕ) → length bytes ≡ wanted → AnswersSize Weights wanted bytes (Err e) → AnswersTop (Err e) collection ts most
+pub not_sized : (e : PartErr) (bytes collection : List ℕ) (ts : List (List ℕ)) (wanted most : ℕ) → length bytes ≡ wanted →
+    AnswersSize Weights wanted bytes (Err e) → AnswersTop (Err e) collection ts most
 not_sized Device bytes collection ts wanted most same answer = tt
 not_sized Memory bytes collection ts wanted most same answer = absurd answer
 not_sized (Bad bad) bytes collection ts wanted most same answer = absurd (answer.0 same)

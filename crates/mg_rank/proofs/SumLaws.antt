@@ -64,18 +64,22 @@ head_list t n doc ds p h is =
     front : nat_lt 0 (freq_in doc t) ≡ true → head_of (list_from t n (doc ∷ ds)) ≡ Some posting
     front e = rw e refl
 
-pub freq_is : (collection t : List ℕ) (p : Posting) → 1 ≤ p.doc → p.doc ≤ length (documents collection) → head_of (from_doc p.doc (postings collection t)) ≡ Some p → has_term (document collection p.doc) t ≡ true → p.freq ≡ freq_in (document collection p.doc) t
+pub freq_is : (collection t : List ℕ) (p : Posting) → 1 ≤ p.doc → p.doc ≤ length (documents collection) →
+    head_of (from_doc p.doc (postings collection t)) ≡ Some p → has_term (document collection p.doc) t ≡ true → p.freq ≡ freq_in (document collection p.doc) t
 freq_is collection t p some le is h =
     let ds = documents collection in
     let d = p.doc - 1 in
     let split : ds ≡ take d ds ++ get_or ds d [] ∷ drop (d + 1) ds = docs_from ds d (omega (arith, some, le)) in
     let at : p.doc ≡ 1 + length (take d ds) = omega (arith, length_front ds d (omega (arith, le)), some) in
-    let from : from_doc p.doc (list_from t 1 ds) ≡ list_from t p.doc (get_or ds d [] ∷ drop (d + 1) ds) = ap (λ l. from_doc p.doc (list_from t 1 l)) split ∙ from_front t 1 p.doc (take d ds) (get_or ds d [] ∷ drop (d + 1) ds) at in
+    let from : from_doc p.doc (list_from t 1 ds) ≡ list_from t p.doc (get_or ds d [] ∷ drop (d + 1) ds) = ap (λ l. from_doc p.doc (list_from t 1 l)) split
+    ∙ from_front t 1 p.doc (take d ds) (get_or ds d [] ∷ drop (d + 1) ds) at in
     head_list t p.doc (get_or ds d []) (drop (d + 1) ds) p h (sym (ap head_of from) ∙ is)
 
-pub head_freq : (collection t : List ℕ) (last : ℕ) (p : Posting) → head_of (from_doc (last + 1) (postings collection t)) ≡ Some p → last < p.doc → p.doc ≤ length (documents collection) → p.freq ≡ freq_in (document collection p.doc) t
+pub head_freq : (collection t : List ℕ) (last : ℕ) (p : Posting) → head_of (from_doc (last + 1) (postings collection t)) ≡ Some p → last < p.doc →
+    p.doc ≤ length (documents collection) → p.freq ≡ freq_in (document collection p.doc) t
 head_freq collection t last p is low le =
-    freq_is collection t p (omega (arith, low)) le (later last p.doc (postings collection t) p is low (omega arith)) (has_at collection t last p.doc p is low (omega arith) le ∙ eq-eqb p.doc p.doc refl)
+    freq_is collection t p (omega (arith, low)) le (later last p.doc (postings collection t) p is low (omega arith))
+    (has_at collection t last p.doc p is low (omega arith) le ∙ eq-eqb p.doc p.doc refl)
 
 -- ---- one term more
 
@@ -100,10 +104,13 @@ sum_so_far collection done d =
       | inr none ↦ ap (λ b. unwrap_or (if b then Some (part_sum collection done d) else None) 0) none ∙ sym (none_part collection done d none)
     ]
 
-part_more : (collection : List ℕ) (done : List (List ℕ)) (t : List ℕ) (d : ℕ) → part_sum collection (done ++ t ∷ []) d ≡ part_sum collection done d + sum_by (one collection d) (filter (has_term (document collection d)) (t ∷ []))
-part_more collection done t d = ap (sum_by (one collection d)) (filter-append (has_term (document collection d)) done (t ∷ [])) ∙ sum_by-append (one collection d) (filter (has_term (document collection d)) done) (filter (has_term (document collection d)) (t ∷ []))
+part_more : (collection : List ℕ) (done : List (List ℕ)) (t : List ℕ) (d : ℕ) → part_sum collection (done ++ t ∷ []) d
+    ≡ part_sum collection done d + sum_by (one collection d) (filter (has_term (document collection d)) (t ∷ []))
+part_more collection done t d = ap (sum_by (one collection d)) (filter-append (has_term (document collection d)) done (t ∷ []))
+    ∙ sum_by-append (one collection d) (filter (has_term (document collection d)) done) (filter (has_term (document collection d)) (t ∷ []))
 
-pub so_far_hit : (collection : List ℕ) (done : List (List ℕ)) (t : List ℕ) (d : ℕ) → has_term (document collection d) t ≡ true → so_far collection (done ++ t ∷ []) d ≡ Some (unwrap_or (so_far collection done d) 0 + wd (document collection d) t * wt collection t)
+pub so_far_hit : (collection : List ℕ) (done : List (List ℕ)) (t : List ℕ) (d : ℕ) → has_term (document collection d) t ≡ true →
+    so_far collection (done ++ t ∷ []) d ≡ Some (unwrap_or (so_far collection done d) 0 + wd (document collection d) t * wt collection t)
 so_far_hit collection done t d hit =
     let p = has_term (document collection d) in
     let any : list_any p (done ++ t ∷ []) ≡ true = list_any-append p done (t ∷ []) ∙ or_right (list_any p done) (list_any p (t ∷ [])) (or_left (p t) false hit) in
@@ -138,13 +145,16 @@ walk_start collection done t sums s = record {
   apart = s.apart;
 }
 
-pub walk_next : (collection : List ℕ) (done : List (List ℕ)) (t : List ℕ) (last : ℕ) (sums : List (ℕ × ℕ)) (p : Posting) (w : ℕ) → Walking collection done t last sums → head_of (from_doc (last + 1) (postings collection t)) ≡ Some p → last < p.doc → p.doc ≤ length (documents collection) → w ≡ wt collection t →
+pub walk_next : (collection : List ℕ) (done : List (List ℕ)) (t : List ℕ) (last : ℕ) (sums : List (ℕ × ℕ)) (p : Posting) (w : ℕ) →
+    Walking collection done t last sums → head_of (from_doc (last + 1) (postings collection t)) ≡ Some p → last < p.doc →
+    p.doc ≤ length (documents collection) → w ≡ wt collection t →
     Walking collection done t p.doc (with_more p.doc (weight_in_doc p.freq * w) sums)
 walk_next collection done t last sums p w walk is low le weight = record {
   near = λ d some high. elim (cases_eq p.doc d) [
     | inl same ↦ here d same
     | inr other ↦ elim (cases_lt last d) [
-      | inl behind ↦ found_other p.doc (weight_in_doc p.freq * w) d sums other ∙ walk.far d some behind ∙ sym (so_far_miss collection done t d (has_at collection t last d p is behind high (omega (arith, high, le)) ∙ ne_eqb p.doc d other))
+      | inl behind ↦ found_other p.doc (weight_in_doc p.freq * w) d sums other ∙ walk.far d some behind
+          ∙ sym (so_far_miss collection done t d (has_at collection t last d p is behind high (omega (arith, high, le)) ∙ ne_eqb p.doc d other))
       | inr before ↦ found_other p.doc (weight_in_doc p.freq * w) d sums other ∙ walk.near d some before
     ]
   ];
@@ -156,14 +166,17 @@ walk_next collection done t last sums p w walk is low le weight = record {
     there =
         let hit : has_term (document collection p.doc) t ≡ true = has_at collection t last p.doc p is low (omega arith) le ∙ eq-eqb p.doc p.doc refl in
         let before : sum_of p.doc sums ≡ unwrap_or (so_far collection done p.doc) 0 = ap (λ o. unwrap_or o 0) (walk.far p.doc (omega (arith, low)) low) in
-        let product : weight_in_doc p.freq * w ≡ wd (document collection p.doc) t * wt collection t = ap (λ f. weight_in_doc f * w) (head_freq collection t last p is low le) ∙ ap (λ v. wd (document collection p.doc) t * v) weight in
-        found_same p.doc (weight_in_doc p.freq * w) sums ∙ ap (λ n. Some (n + weight_in_doc p.freq * w)) before ∙ ap (λ n. Some (unwrap_or (so_far collection done p.doc) 0 + n)) product ∙ sym (so_far_hit collection done t p.doc hit)
+        let product : weight_in_doc p.freq * w ≡ wd (document collection p.doc) t * wt collection t =
+        ap (λ f. weight_in_doc f * w) (head_freq collection t last p is low le) ∙ ap (λ v. wd (document collection p.doc) t * v) weight in
+        found_same p.doc (weight_in_doc p.freq * w) sums ∙ ap (λ n. Some (n + weight_in_doc p.freq * w)) before
+        ∙ ap (λ n. Some (unwrap_or (so_far collection done p.doc) 0 + n)) product ∙ sym (so_far_hit collection done t p.doc hit)
 
     here : (d : ℕ) → p.doc ≡ d → lookup (nat_eq d) (with_more p.doc (weight_in_doc p.freq * w) sums) ≡ so_far collection (done ++ t ∷ []) d
     here d same = subst (λ x. lookup (nat_eq x) (with_more p.doc (weight_in_doc p.freq * w) sums) ≡ so_far collection (done ++ t ∷ []) x) same there
 
 -- where no document is left
-pub walk_end : (collection : List ℕ) (done : List (List ℕ)) (t : List ℕ) (last : ℕ) (sums : List (ℕ × ℕ)) → Walking collection done t last sums → ((d : ℕ) → last < d → d ≤ length (documents collection) → has_term (document collection d) t ≡ false) → SumsFor collection (done ++ t ∷ []) sums
+pub walk_end : (collection : List ℕ) (done : List (List ℕ)) (t : List ℕ) (last : ℕ) (sums : List (ℕ × ℕ)) → Walking collection done t last sums →
+    ((d : ℕ) → last < d → d ≤ length (documents collection) → has_term (document collection d) t ≡ false) → SumsFor collection (done ++ t ∷ []) sums
 walk_end collection done t last sums walk none = record {
   each = λ d some. elim (cases_lt last d) [
     | inl behind ↦ walk.far d some behind ∙ sym (so_far_miss collection done t d (elim (cases_lt (length (documents collection)) d) [

@@ -29,7 +29,8 @@ use Rattle.mg_rank.specs.Sums.{AreApart}
 -- what is told of these distinct terms, each of them of the collection
 pub record AreTold (collection : List ℕ) (ts : List (List ℕ)) (infos : List TermInfo) : Type 0 where
   pub size : length infos ≡ length ts
-  pub each : (k : ℕ) (info : TermInfo) → k < length ts → slice_index_or infos k info ≡ info → IsInfoOf collection (get_or ts k []) info
+  pub each : (k : ℕ) (info : TermInfo) → k < length ts → slice_index_or infos k info ≡ info →
+      IsInfoOf collection (get_or ts k []) info
   pub apart : IsDistinct bytes_eq ts
 
 pub record WeightsStand (base : List ℕ) (files : Option Files) (collection : List ℕ) : Type 0 where
@@ -47,7 +48,8 @@ IsNumbered all h = (1 ≤ h.number) × (h.number ≤ all)
 
 -- where the parts stand: the first of the documents with a term, by score and number, and how many there are; or want of memory or a device's failure
 abbrev pub AnswersTop : Result Ranking PartErr → List ℕ → List (List ℕ) → ℕ → Type 0
-AnswersTop (Ok r) collection ts most = (r.rows ≡ take most (by_score (hits collection ts))) × (r.total ≡ length (hits collection ts))
+AnswersTop (Ok r) collection ts most = (r.rows ≡ take most (by_score (hits collection ts)))
+    × (r.total ≡ length (hits collection ts))
 AnswersTop (Err Device) collection ts most = Unit {0}
 AnswersTop (Err Memory) collection ts most = Unit {0}
 AnswersTop (Err (Bad bad)) collection ts most = ⊥
@@ -68,11 +70,13 @@ AnswersOr (Err (Bad bad)) fact = ⊥
 
 -- what these terms add to a document
 abbrev pub part_sum : List ℕ → List (List ℕ) → ℕ → ℕ
-part_sum collection done doc = sum_by (λ t. wd (document collection doc) t * wt collection t) (filter (has_term (document collection doc)) done)
+part_sum collection done doc = sum_by (λ t. wd (document collection doc) t * wt collection t)
+    (filter (has_term (document collection doc)) done)
 
 -- the sum of a document, where it has one of these terms
 abbrev pub so_far : List ℕ → List (List ℕ) → ℕ → Option ℕ
-so_far collection done doc = if list_any (has_term (document collection doc)) done then Some (part_sum collection done doc) else None
+so_far collection done doc = if list_any (has_term (document collection doc)) done
+    then Some (part_sum collection done doc) else None
 
 -- the sums of all documents for these terms
 pub record SumsFor (collection : List ℕ) (done : List (List ℕ)) (sums : List (ℕ × ℕ)) : Type 0 where
@@ -96,30 +100,39 @@ PostRoseWith reads before now old new = PostRises old new (reads before) (reads 
 
 -- for each term of which this is told
 abbrev pub ForTerm : List ℕ → Option Files → TermInfo → ℕ → (List ℕ → List ℕ → Type 0) → Type 0
-ForTerm base files info all claim = (collection t : List ℕ) → ListsStand base files collection → IsInfoOf collection t info → all ≡ length (documents collection) → claim collection t
+ForTerm base files info all claim = (collection t : List ℕ) → ListsStand base files collection →
+    IsInfoOf collection t info → all ≡ length (documents collection) → claim collection t
 
 -- to the sums of some terms, what the term adds of which this is told
-abbrev pub AddsTerm : {T : Type 0} → List ℕ → Option Files → TermInfo → ℕ → List (ℕ × ℕ) → List (ℕ × ℕ) → Result T PartErr → Type 0
-AddsTerm base files info all old new result = (collection t : List ℕ) (done : List (List ℕ)) → ListsStand base files collection → IsInfoOf collection t info → all ≡ length (documents collection) → SumsFor collection done old → AnswersOr result (λ _. SumsFor collection (done ++ t ∷ []) new)
+abbrev pub AddsTerm : {T : Type 0} → List ℕ → Option Files → TermInfo → ℕ → List (ℕ × ℕ) → List (ℕ × ℕ) →
+    Result T PartErr → Type 0
+AddsTerm base files info all old new result = (collection t : List ℕ) (done : List (List ℕ)) →
+    ListsStand base files collection → IsInfoOf collection t info → all ≡ length (documents collection) →
+    SumsFor collection done old → AnswersOr result (λ _. SumsFor collection (done ++ t ∷ []) new)
 
 -- for all terms of which these are told
 abbrev pub ForTerms : List ℕ → Option Files → List TermInfo → ℕ → (List ℕ → List (List ℕ) → Type 0) → Type 0
-ForTerms base files infos all claim = (collection : List ℕ) (ts : List (List ℕ)) → ListsStand base files collection → AreTold collection ts infos → all ≡ length (documents collection) → claim collection ts
+ForTerms base files infos all claim = (collection : List ℕ) (ts : List (List ℕ)) → ListsStand base files collection →
+    AreTold collection ts infos → all ≡ length (documents collection) → claim collection ts
 
 -- the same, where the weights stand too
 abbrev pub ForRanked : List ℕ → Option Files → List TermInfo → ℕ → (List ℕ → List (List ℕ) → Type 0) → Type 0
-ForRanked base files infos all claim = (collection : List ℕ) (ts : List (List ℕ)) → WeightsStand base files collection → AreTold collection ts infos → all ≡ length (documents collection) → claim collection ts
+ForRanked base files infos all claim = (collection : List ℕ) (ts : List (List ℕ)) → WeightsStand base files collection →
+    AreTold collection ts infos → all ≡ length (documents collection) → claim collection ts
 
 -- for all terms whose sums these are
 abbrev pub ForSums : List ℕ → Option Files → ℕ → List (ℕ × ℕ) → (List ℕ → List (List ℕ) → Type 0) → Type 0
-ForSums base files all sums claim = (collection : List ℕ) (ts : List (List ℕ)) → WeightsStand base files collection → all ≡ length (documents collection) → SumsFor collection ts sums → claim collection ts
+ForSums base files all sums claim = (collection : List ℕ) (ts : List (List ℕ)) → WeightsStand base files collection →
+    all ≡ length (documents collection) → SumsFor collection ts sums → claim collection ts
 
 -- ---- weights in four bytes each
 
 -- for each number that the file may have from this byte on
 abbrev pub ForFour : Paging → Option Files → ℕ → (ℕ → Type 0) → Type 0
-ForFour weights files at claim = (w : ℕ) → w < 2 ^ 32 → take 4 (drop at (bytes_at files weights.name)) ≡ four w → claim w
+ForFour weights files at claim = (w : ℕ) → w < 2 ^ 32 → take 4 (drop at (bytes_at files weights.name)) ≡ four w →
+    claim w
 
 -- for each weight that it may have for a document
 abbrev pub ForWeight : Paging → Option Files → ℕ → (ℕ → Type 0) → Type 0
-ForWeight weights files doc claim = (w : ℕ) → 1 ≤ w → w < 2 ^ 32 → take 4 (drop (4 * (doc - 1)) (bytes_at files weights.name)) ≡ four w → claim w
+ForWeight weights files doc claim = (w : ℕ) → 1 ≤ w → w < 2 ^ 32 →
+    take 4 (drop (4 * (doc - 1)) (bytes_at files weights.name)) ≡ four w → claim w

@@ -56,7 +56,8 @@ fn add_posting(sums: &mut Sums, weight: u32, posting: Posting) -> Result<(), All
     requires small { sum_of posting.doc sums.old ≤ 2 ^ 41 }
     requires high { weight < 2 ^ 14 }
     requires some { 1 ≤ posting.freq }
-    ensures added { OnOk result (sums.new ≡ with_more posting.doc (weight_in_doc posting.freq * weight) sums.old) }
+    ensures added { OnOk result (sums.new ≡ with_more posting.doc
+        (weight_in_doc posting.freq * weight) sums.old) }
     ensures err { OnErr result (sums.new ≡ sums.old) }
     ensures few { weight_in_doc posting.freq * weight ≤ 2 ^ 29 }
 {
@@ -74,11 +75,13 @@ pub(crate) fn add_list<S: Store>(
     sums: &mut Sums,
 ) -> Result<(), PartErr>
     requires small { (d : ℕ) → sum_of d sums.old ≤ 2 ^ 40 }
-    ensures small { (n : ℕ) → ((d : ℕ) → sum_of d sums.old ≤ n) → (d : ℕ) → sum_of d sums.new ≤ n + 2 ^ 29 }
+    ensures small { (n : ℕ) → ((d : ℕ) → sum_of d sums.old ≤ n) → (d : ℕ) →
+        sum_of d sums.new ≤ n + 2 ^ 29 }
     ensures within { AreWithin all sums.old → AreWithin all sums.new }
     ensures apart { AreApart sums.old → AreApart sums.new }
     ensures answer { AddsTerm base.now (S.files store.old) info.now all sums.old sums.new result }
-    ensures pages { ForTerm base.now (S.files store.old) info.now all (λ collection t. PostWithin S.reads store.old store.new (list_pages collection t)) }
+    ensures pages { ForTerm base.now (S.files store.old) info.now all
+        (λ collection t. PostWithin S.reads store.old store.new (list_pages collection t)) }
     ensures reads { ReadsLists (S.reads store.old) (S.reads store.new) }
     ensures files { S.files store.new ≡ S.files store.old }
     ensures cause { HasPartCause (S.faults store.old) (S.faults store.new) result }

@@ -105,11 +105,13 @@ fn sum_lists<S: Store>(
     all: u32,
 ) -> Result<Sums, PartErr>
     requires few { length terms.now ≤ 64 }
-    ensures answer { ForTerms base.now (S.files store.old) terms.now all (λ collection ts. AnswersOr result (λ sums. SumsFor collection ts sums)) }
+    ensures answer { ForTerms base.now (S.files store.old) terms.now all
+        (λ collection ts. AnswersOr result (λ sums. SumsFor collection ts sums)) }
     ensures small { IfOk result (λ sums. (d : ℕ) → sum_of d sums < 2 ^ 56) }
     ensures within { IfOk result (λ sums. AreWithin all sums) }
     ensures apart { IfOk result (λ sums. AreApart sums) }
-    ensures pages { ForTerms base.now (S.files store.old) terms.now all (λ collection ts. PostWithin S.reads store.old store.new (ranked_bound collection ts)) }
+    ensures pages { ForTerms base.now (S.files store.old) terms.now all
+        (λ collection ts. PostWithin S.reads store.old store.new (ranked_bound collection ts)) }
     ensures reads { ReadsLists (S.reads store.old) (S.reads store.new) }
     ensures files { S.files store.new ≡ S.files store.old }
     ensures cause { HasPartCause (S.faults store.old) (S.faults store.new) result }
@@ -152,9 +154,11 @@ fn rank_sized<S: Store>(
     most: u32,
 ) -> Result<Ranked, PartErr>
     requires few { length terms.now ≤ 64 }
-    ensures answer { ForRanked base.now (S.files store.old) terms.now all (λ collection ts. AnswersTop result collection ts most) }
+    ensures answer { ForRanked base.now (S.files store.old) terms.now all
+        (λ collection ts. AnswersTop result collection ts most) }
     ensures range { IfOk result (λ r. All (IsNumbered all) r.rows) }
-    ensures pages { ForTerms base.now (S.files store.old) terms.now all (λ collection ts. PostWithin S.reads store.old store.new (ranked_bound collection ts)) }
+    ensures pages { ForTerms base.now (S.files store.old) terms.now all
+        (λ collection ts. PostWithin S.reads store.old store.new (ranked_bound collection ts)) }
     ensures reads { ReadsRanked (S.reads store.old) (S.reads store.new) }
     ensures none { most ≡ 0 → S.reads store.new part.Weights ≡ S.reads store.old part.Weights }
     ensures files { S.files store.new ≡ S.files store.old }
@@ -198,10 +202,14 @@ pub fn rank<S: Store>(
     most: u32,
 ) -> Result<Ranked, PartErr>
     requires few { length terms.now ≤ 64 }
-    ensures answer { ForRanked base.now (S.files store.old) terms.now all (λ collection ts. AnswersTop result collection ts most) }
-    ensures sized { IsSome (S.files store.old) → OnOk result (length (bytes_at (S.files store.old) (full_name base.now part.Weights)) ≡ 4 * all) }
+    ensures answer { ForRanked base.now (S.files store.old) terms.now all
+        (λ collection ts. AnswersTop result collection ts most) }
+    ensures sized { IsSome (S.files store.old) →
+        OnOk result (length (bytes_at (S.files store.old) (full_name base.now part.Weights))
+        ≡ 4 * all) }
     ensures range { IfOk result (λ r. All (IsNumbered all) r.rows) }
-    ensures pages { ForTerms base.now (S.files store.old) terms.now all (λ collection ts. PostWithin S.reads store.old store.new (ranked_bound collection ts)) }
+    ensures pages { ForTerms base.now (S.files store.old) terms.now all
+        (λ collection ts. PostWithin S.reads store.old store.new (ranked_bound collection ts)) }
     ensures reads { ReadsRanked (S.reads store.old) (S.reads store.new) }
     ensures none { most ≡ 0 → S.reads store.new part.Weights ≡ S.reads store.old part.Weights }
     ensures files { S.files store.new ≡ S.files store.old }

@@ -66,7 +66,8 @@ begins_is (b ∷ line) some = refl
 pub begins_none : (line : List ℕ) → line ≡ [] → false ≡ begins_with_stop line
 begins_none line e = rw e
 
-pub word_at : (line rest word after : List ℕ) (n m : ℕ) → rest ≡ drop n line → n ≡ prefix_len is_blank line → 0 < length rest → m ≡ prefix_len is_word rest → word ≡ take m rest → after ≡ drop m rest → words line ≡ word ∷ words after
+pub word_at : (line rest word after : List ℕ) (n m : ℕ) → rest ≡ drop n line → n ≡ prefix_len is_blank line → 0 < length rest → m ≡ prefix_len is_word rest →
+    word ≡ take m rest → after ≡ drop m rest → words line ≡ word ∷ words after
 word_at line rest word after n m er en some em ew ea =
     let from : rest ≡ drop (prefix_len is_blank line) line = er ∙ ap (λ k. drop k line) en in
     let begins : begins_blank rest ≡ false = let P : List ℕ → Type 0 = λ r. 0 < length r in ap begins_blank from ∙ skipped-begins line (subst P from some) in

@@ -18,7 +18,8 @@ pub pass_after : (w0 w1 : Option (List ℕ)) (waited waiting bytes : List ℕ) �
 pass_after w0 w1 waited waiting bytes given e = record { sent = waited; given = given; whole = ap (λ b. waited ++ b) e }
 
 -- all went to the sink, the bytes after what waited
-pub pass_through : {T E : Type 0} (w0 w1 w2 : Option (List ℕ)) (waited waiting bytes : List ℕ) (r : Result T E) → w1 ≡ appended w0 waited → waiting ≡ [] → AfterPut w1 w2 bytes r → AfterPass w0 w2 waited waiting bytes r
+pub pass_through : {T E : Type 0} (w0 w1 w2 : Option (List ℕ)) (waited waiting bytes : List ℕ) (r : Result T E) → w1 ≡ appended w0 waited → waiting ≡ [] →
+    AfterPut w1 w2 bytes r → AfterPass w0 w2 waited waiting bytes r
 pass_through w0 w1 w2 waited waiting bytes (Ok t) first none after = record {
   sent = waited ++ bytes;
   given = after ∙ ap (λ w. appended w bytes) first ∙ appended-appended w0 waited bytes;

@@ -87,21 +87,68 @@ going_more b now next line n x g took ne = record {
 }
 
 -- the line ended here
-pub closed : (old new : Reading) (b now next : Option (List ℕ)) (n : ℕ) (event : LineEvent) → Going b now new.line n → now ≡ prepended (10 ∷ []) next → IsEvent n event → new.used ≡ old.used + (n + 1) → new.used ≤ input_limit → AfterLine old new b next (Ok event)
+pub closed : (old new : Reading) (b now next : Option (List ℕ)) (n : ℕ) (event : LineEvent) → Going b now new.line n → now ≡ prepended (10 ∷ []) next →
+    IsEvent n event → new.used ≡ old.used + (n + 1) → new.used ≤ input_limit → AfterLine old new b next (Ok event)
 closed old new b now next n Line g took short used within =
-    let whole : new.line ≡ g.front = g.kept ∙ take_all 1024 g.front (omega (arith, g.count, short)) in
-    (n + 1, record { plain = subst HasNoEnd (sym whole) g.plain; ends = inl (omega (arith, ap length whole, g.count), g.taken ∙ ap (prepended g.front) took ∙ prepended-prepended next g.front (10 ∷ []) ∙ ap (λ (l : List ℕ). prepended (l ++ 10 ∷ []) next) (sym whole)) }, omega (arith, ap length whole, g.count, short), used, within)
-closed old new b now next n TooLong g took long used within =
-    (g.front, n + 1, record { plain = g.plain; ends = inl (omega (arith, g.count), g.taken ∙ ap (prepended g.front) took ∙ prepended-prepended next g.front (10 ∷ [])) }, omega (arith, g.count, long), used, within)
+    let whole : new.line ≡ g.front = g.kept ∙ take_all 1024 g.front (omega (arith, g.count, short)) in (
+      n + 1,
+      record {
+        plain = subst HasNoEnd (sym whole) g.plain;
+        ends = inl (
+          omega (arith, ap length whole, g.count),
+          g.taken ∙ ap (prepended g.front) took ∙ prepended-prepended next g.front (10 ∷ [])
+              ∙ ap (λ (l : List ℕ). prepended (l ++ 10 ∷ []) next) (sym whole),
+        );
+      },
+      omega (arith, ap length whole, g.count, short),
+      used,
+      within,
+    )
+closed old new b now next n TooLong g took long used within = (
+  g.front,
+  n + 1,
+  record { plain = g.plain; ends = inl (omega (arith, g.count), g.taken ∙ ap (prepended g.front) took ∙ prepended-prepended next g.front (10 ∷ [])) },
+  omega (arith, g.count, long),
+  used,
+  within,
+)
 closed old new b now next n End g took none used within = absurd none
 
 -- the input ended here
-pub ended : (old new : Reading) (b now next : Option (List ℕ)) (n : ℕ) (event : LineEvent) → Going b now new.line n → next ≡ now → IsAtEnd now → 0 < n → IsEvent n event → new.used ≡ old.used + n → new.used ≤ input_limit → AfterLine old new b next (Ok event)
+pub ended : (old new : Reading) (b now next : Option (List ℕ)) (n : ℕ) (event : LineEvent) → Going b now new.line n → next ≡ now → IsAtEnd now → 0 < n →
+    IsEvent n event → new.used ≡ old.used + n → new.used ≤ input_limit → AfterLine old new b next (Ok event)
 ended old new b now next n Line g same end some short used within =
-    let whole : new.line ≡ g.front = g.kept ∙ take_all 1024 g.front (omega (arith, g.count, short)) in
-    (n, record { plain = subst HasNoEnd (sym whole) g.plain; ends = inr (omega (arith, ap length whole, g.count), omega (arith, ap length whole, g.count, some), g.taken ∙ ap (λ (l : List ℕ). prepended l now) (sym whole) ∙ ap (prepended new.line) (sym same), subst IsAtEnd (sym same) end) }, omega (arith, ap length whole, g.count, short), used, within)
-ended old new b now next n TooLong g same end some long used within =
-    (g.front, n, record { plain = g.plain; ends = inr (omega (arith, g.count), omega (arith, g.count, some), g.taken ∙ ap (prepended g.front) (sym same), subst IsAtEnd (sym same) end) }, omega (arith, g.count, long), used, within)
+    let whole : new.line ≡ g.front = g.kept ∙ take_all 1024 g.front (omega (arith, g.count, short)) in (
+      n,
+      record {
+        plain = subst HasNoEnd (sym whole) g.plain;
+        ends = inr (
+          omega (arith, ap length whole, g.count),
+          omega (arith, ap length whole, g.count, some),
+          g.taken ∙ ap (λ (l : List ℕ). prepended l now) (sym whole) ∙ ap (prepended new.line) (sym same),
+          subst IsAtEnd (sym same) end,
+        );
+      },
+      omega (arith, ap length whole, g.count, short),
+      used,
+      within,
+    )
+ended old new b now next n TooLong g same end some long used within = (
+  g.front,
+  n,
+  record {
+    plain = g.plain;
+    ends = inr (
+      omega (arith, g.count),
+      omega (arith, g.count, some),
+      g.taken ∙ ap (prepended g.front) (sym same),
+      subst IsAtEnd (sym same) end,
+    );
+  },
+  omega (arith, g.count, long),
+  used,
+  within,
+)
 ended old new b now next n End g same end some none used within = absurd none
 
 -- nothing was left
@@ -122,7 +169,8 @@ unfolding prepended
 left_now None bytes all e = cc
 left_now (Some rest) bytes all e = (rest, refl, cc)
 
-pub first_line : (line all : List ℕ) (size : ℕ) (before after : Option (List ℕ)) → IsFirst line size before after → before ≡ Some all → (rest : List ℕ) × (after ≡ Some rest) × (lines all ≡ line ∷ lines rest)
+pub first_line : (line all : List ℕ) (size : ℕ) (before after : Option (List ℕ)) → IsFirst line size before after → before ≡ Some all →
+    (rest : List ℕ) × (after ≡ Some rest) × (lines all ≡ line ∷ lines rest)
 first_line line all size before after f told =
     elim f.ends [
       | inl e ↦

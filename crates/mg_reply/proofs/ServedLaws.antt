@@ -27,7 +27,8 @@ use Rattle.mg_reply.proofs.ReadingLaws.{first_line, left_now, empty}
 
 -- ---- what was printed and answered
 
-pub served_start : {A : Type 0} (hearing : Hearing) (After : A → A → List Question → Type 0) (a : A) (reply : Settings → List ℕ → List ℕ) (left written : Option (List ℕ)) → After a a [] → Served hearing After a a reply left left written written first_settings
+pub served_start : {A : Type 0} (hearing : Hearing) (After : A → A → List Question → Type 0) (a : A) (reply : Settings → List ℕ → List ℕ)
+    (left written : Option (List ℕ)) → After a a [] → Served hearing After a a reply left left written written first_settings
 served_start hearing After a reply left written none = record {
   done = [];
   answered = [];
@@ -46,7 +47,10 @@ abbrev pub Joins : {A : Type 0} → (A → A → List Question → Type 0) → T
 Joins {A} After = (s t u : A) (xs ys : List Question) → After s t xs → After t u ys → After s u (xs ++ ys)
 
 -- a line more
-pub served_line : {A : Type 0} (hearing : Hearing) (After : A → A → List Question → Type 0) (old new next : A) (reply : Settings → List ℕ → List ℕ) (before left left2 w0 w1 w2 : Option (List ℕ)) (now after : Settings) (line text : List ℕ) (asking : List Question) (size : ℕ) → Joins After → Served hearing After old new reply before left w0 w1 now → IsFirst line size left left2 → Gives hearing reply now line text asking after → After new next asking → w2 ≡ appended w1 text → Served hearing After old next reply before left2 w0 w2 after
+pub served_line : {A : Type 0} (hearing : Hearing) (After : A → A → List Question → Type 0) (old new next : A) (reply : Settings → List ℕ → List ℕ)
+    (before left left2 w0 w1 w2 : Option (List ℕ)) (now after : Settings) (line text : List ℕ) (asking : List Question) (size : ℕ) → Joins After →
+    Served hearing After old new reply before left w0 w1 now → IsFirst line size left left2 → Gives hearing reply now line text asking after →
+    After new next asking → w2 ≡ appended w1 text → Served hearing After old next reply before left2 w0 w2 after
 served_line hearing After old new next reply before left left2 w0 w1 w2 now after line text asking size joins s first gives step given = record {
   done = s.done ++ text;
   answered = s.answered ++ asking;
@@ -58,13 +62,18 @@ served_line hearing After old new next reply before left left2 w0 w1 w2 now afte
       record {
         rest = f.0;
         told = f.1;
-        goes_on = r.goes_on ∙ ap (λ ls. s.done ++ replies hearing reply now ls) f.2 ∙ ap (λ t. s.done ++ t) (gives.goes_on (lines f.0)) ∙ sym (append_assoc s.done text (replies hearing reply after (lines f.0)));
-        asks = r.asks ∙ ap (λ ls. s.answered ++ questions hearing now ls) f.2 ∙ ap (λ t. s.answered ++ t) (gives.asks (lines f.0)) ∙ sym (append_assoc s.answered asking (questions hearing after (lines f.0)));
+        goes_on = r.goes_on ∙ ap (λ ls. s.done ++ replies hearing reply now ls) f.2 ∙ ap (λ t. s.done ++ t) (gives.goes_on (lines f.0))
+            ∙ sym (append_assoc s.done text (replies hearing reply after (lines f.0)));
+        asks = r.asks ∙ ap (λ ls. s.answered ++ questions hearing now ls) f.2 ∙ ap (λ t. s.answered ++ t) (gives.asks (lines f.0))
+            ∙ sym (append_assoc s.answered asking (questions hearing after (lines f.0)));
       };
 }
 
 -- a part of a line's text
-pub served_part : {A : Type 0} (hearing : Hearing) (After : A → A → List Question → Type 0) (old new : A) (reply : Settings → List ℕ → List ℕ) (before left next w0 w1 w2 : Option (List ℕ)) (now after : Settings) (line text : List ℕ) (asking : List Question) (size : ℕ) → Served hearing After old new reply before left w0 w1 now → IsFirst line size left next → Gives hearing reply now line text asking after → GrewByPrefix w1 w2 text → (all : List ℕ) → before ≡ Some all → GrewByPrefix w0 w2 (heard_session hearing reply all)
+pub served_part : {A : Type 0} (hearing : Hearing) (After : A → A → List Question → Type 0) (old new : A) (reply : Settings → List ℕ → List ℕ)
+    (before left next w0 w1 w2 : Option (List ℕ)) (now after : Settings) (line text : List ℕ) (asking : List Question) (size : ℕ) →
+    Served hearing After old new reply before left w0 w1 now → IsFirst line size left next → Gives hearing reply now line text asking after →
+    GrewByPrefix w1 w2 text → (all : List ℕ) → before ≡ Some all → GrewByPrefix w0 w2 (heard_session hearing reply all)
 unfolding heard_session
 served_part hearing After old new reply before left next w0 w1 w2 now after line text asking size s first gives grew all told =
     let r = s.goes_on all told in
@@ -74,14 +83,18 @@ served_part hearing After old new reply before left next w0 w1 w2 now after line
     subst (GrewByPrefix w0 w2) (sym e) (grew_second w0 w1 w2 s.done (text ++ replies hearing reply after (lines f.0)) s.given (grew_first w1 w2 text (replies hearing reply after (lines f.0)) grew))
 
 -- what was printed so far
-pub served_some : {A : Type 0} (hearing : Hearing) (After : A → A → List Question → Type 0) (old new : A) (reply : Settings → List ℕ → List ℕ) (before left w0 w1 : Option (List ℕ)) (now : Settings) → Served hearing After old new reply before left w0 w1 now → (all : List ℕ) → before ≡ Some all → GrewByPrefix w0 w1 (heard_session hearing reply all)
+pub served_some : {A : Type 0} (hearing : Hearing) (After : A → A → List Question → Type 0) (old new : A) (reply : Settings → List ℕ → List ℕ)
+    (before left w0 w1 : Option (List ℕ)) (now : Settings) → Served hearing After old new reply before left w0 w1 now → (all : List ℕ) → before ≡ Some all →
+    GrewByPrefix w0 w1 (heard_session hearing reply all)
 unfolding heard_session
 served_some hearing After old new reply before left w0 w1 now s all told =
     let r = s.goes_on all told in
     subst (GrewByPrefix w0 w1) (sym r.goes_on) (grew_second w0 w1 w1 s.done (replies hearing reply now (lines r.rest)) s.given (grew_nothing w1 (replies hearing reply now (lines r.rest))))
 
 -- the queries answered so far
-pub served_asked : {A : Type 0} (hearing : Hearing) (After : A → A → List Question → Type 0) (old new : A) (reply : Settings → List ℕ → List ℕ) (before left w0 w1 : Option (List ℕ)) (now : Settings) → Served hearing After old new reply before left w0 w1 now → AnsweredSome hearing After old new before
+pub served_asked : {A : Type 0} (hearing : Hearing) (After : A → A → List Question → Type 0) (old new : A) (reply : Settings → List ℕ → List ℕ)
+    (before left w0 w1 : Option (List ℕ)) (now : Settings) → Served hearing After old new reply before left w0 w1 now →
+    AnsweredSome hearing After old new before
 unfolding heard_questions
 served_asked hearing After old new reply before left w0 w1 now s = record {
   answered = s.answered;
@@ -96,7 +109,9 @@ nothing left rest told end =
     let e = sym told ∙ end is_told in cc
 
 -- the input is at its end
-pub served_all : {A : Type 0} (hearing : Hearing) (After : A → A → List Question → Type 0) (old new : A) (reply : Settings → List ℕ → List ℕ) (before left w0 w1 : Option (List ℕ)) (now : Settings) → Served hearing After old new reply before left w0 w1 now → IsAtEnd left → (all : List ℕ) → before ≡ Some all → w1 ≡ appended w0 (heard_session hearing reply all)
+pub served_all : {A : Type 0} (hearing : Hearing) (After : A → A → List Question → Type 0) (old new : A) (reply : Settings → List ℕ → List ℕ)
+    (before left w0 w1 : Option (List ℕ)) (now : Settings) → Served hearing After old new reply before left w0 w1 now → IsAtEnd left → (all : List ℕ) →
+    before ≡ Some all → w1 ≡ appended w0 (heard_session hearing reply all)
 unfolding heard_session replies
 served_all hearing After old new reply before left w0 w1 now s end all told =
     let r = s.goes_on all told in
@@ -104,7 +119,10 @@ served_all hearing After old new reply before left w0 w1 now s end all told =
     s.given ∙ ap (appended w0) (sym (r.goes_on ∙ ap (λ x. s.done ++ replies hearing reply now (lines x)) none ∙ append-nil s.done))
 
 -- a line ends it
-pub served_quit : {A : Type 0} (hearing : Hearing) (After : A → A → List Question → Type 0) (old new : A) (reply : Settings → List ℕ → List ℕ) (before left next w0 w1 : Option (List ℕ)) (now : Settings) (line : List ℕ) (size : ℕ) → Served hearing After old new reply before left w0 w1 now → IsFirst line size left next → length line ≤ 1024 → stops (read now line) ≡ true → (all : List ℕ) → before ≡ Some all → w1 ≡ appended w0 (heard_session hearing reply all)
+pub served_quit : {A : Type 0} (hearing : Hearing) (After : A → A → List Question → Type 0) (old new : A) (reply : Settings → List ℕ → List ℕ)
+    (before left next w0 w1 : Option (List ℕ)) (now : Settings) (line : List ℕ) (size : ℕ) → Served hearing After old new reply before left w0 w1 now →
+    IsFirst line size left next → length line ≤ 1024 → stops (read now line) ≡ true → (all : List ℕ) → before ≡ Some all →
+    w1 ≡ appended w0 (heard_session hearing reply all)
 unfolding heard_session
 served_quit hearing After old new reply before left next w0 w1 now line size s first short quits all told =
     let r = s.goes_on all told in
@@ -114,7 +132,8 @@ served_quit hearing After old new reply before left next w0 w1 now line size s f
 
 -- ---- what is said of a line's answer
 
-no_text : (reply : Settings → List ℕ → List ℕ) (wrong : List ℕ) (now : Settings) (line : List ℕ) (c : Command) → stops c ≡ true → (command_text reply wrong now line c ≡ []) × (asked_by now line c ≡ [])
+no_text : (reply : Settings → List ℕ → List ℕ) (wrong : List ℕ) (now : Settings) (line : List ℕ) (c : Command) → stops c ≡ true →
+    (command_text reply wrong now line c ≡ []) × (asked_by now line c ≡ [])
 no_text reply wrong now line Skip h = (refl, refl)
 no_text reply wrong now line Ask h = absurd (false≢true h)
 no_text reply wrong now line Quit h = (refl, refl)
@@ -143,23 +162,33 @@ heard hearing now cut = hears hearing (command cut now)
 abbrev pub answer : Hearing → (Settings → List ℕ → List ℕ) → Settings → List ℕ → List ℕ
 answer hearing answering now cut = command_text answering bad_command now cut (heard hearing now cut)
 
-pub answered_gives : (hearing : Hearing) (reply answering : Settings → List ℕ → List ℕ) (now : Settings) (line cut : List ℕ) → Answered reply answering now line cut → stops (command cut now) ≡ false → Gives hearing reply now line (answer hearing answering now cut) (asked_by now cut (heard hearing now cut)) (settings_after now (heard hearing now cut))
+pub answered_gives : (hearing : Hearing) (reply answering : Settings → List ℕ → List ℕ) (now : Settings) (line cut : List ℕ) →
+    Answered reply answering now line cut → stops (command cut now) ≡ false →
+    Gives hearing reply now line (answer hearing answering now cut) (asked_by now cut (heard hearing now cut)) (settings_after now (heard hearing now cut))
 answered_gives hearing reply answering now line cut a goes =
-    let P : (Settings → List ℕ → List ℕ) → List ℕ → Type 0 = λ r l. Gives hearing reply now line (answer hearing r now l) (asked_by now l (heard hearing now l)) (settings_after now (heard hearing now l)) in
+    let P : (Settings → List ℕ → List ℕ) → List ℕ → Type 0 = λ r l.
+    Gives hearing reply now line (answer hearing r now l) (asked_by now l (heard hearing now l)) (settings_after now (heard hearing now l)) in
     let goes2 : stops (read now line) ≡ false = ap (λ l. stops (command l now)) (sym a.cut_is) ∙ goes in
     subst (λ r. P r cut) (sym a.same) (subst (λ l. P reply l) (sym a.cut_is) (gives_line hearing reply now line a.short goes2))
 
-pub answered_quits : {A : Type 0} (hearing : Hearing) (After : A → A → List Question → Type 0) (old new : A) (reply answering : Settings → List ℕ → List ℕ) (before left next w0 w1 w2 : Option (List ℕ)) (now : Settings) (line cut : List ℕ) (size : ℕ) → Served hearing After old new reply before left w0 w1 now → IsFirst line size left next → Answered reply answering now line cut → stops (command cut now) ≡ true → w2 ≡ appended w1 (answer hearing answering now cut) → (all : List ℕ) → before ≡ Some all → w2 ≡ appended w0 (heard_session hearing reply all)
+pub answered_quits : {A : Type 0} (hearing : Hearing) (After : A → A → List Question → Type 0) (old new : A) (reply answering : Settings → List ℕ → List ℕ)
+    (before left next w0 w1 w2 : Option (List ℕ)) (now : Settings) (line cut : List ℕ) (size : ℕ) → Served hearing After old new reply before left w0 w1 now →
+    IsFirst line size left next → Answered reply answering now line cut → stops (command cut now) ≡ true → w2 ≡ appended w1 (answer hearing answering now cut) →
+    (all : List ℕ) → before ≡ Some all → w2 ≡ appended w0 (heard_session hearing reply all)
 answered_quits hearing After old new reply answering before left next w0 w1 w2 now line cut size s first a quits given all told =
     let quits2 : stops (read now line) ≡ true = ap (λ l. stops (command l now)) (sym a.cut_is) ∙ quits in
-    given ∙ ap (appended w1) ((no_text answering bad_command now cut (heard hearing now cut) (stops_heard hearing (command cut now) ∙ quits)).0) ∙ appended-nil w1 ∙ served_quit hearing After old new reply before left next w0 w1 now line size s first a.short quits2 all told
+    given ∙ ap (appended w1) ((no_text answering bad_command now cut (heard hearing now cut) (stops_heard hearing (command cut now) ∙ quits)).0)
+    ∙ appended-nil w1 ∙ served_quit hearing After old new reply before left next w0 w1 now line size s first a.short quits2 all told
 
 -- all of it is a prefix of it
 pub all_grew : (w0 w1 : Option (List ℕ)) (text : List ℕ) → w1 ≡ appended w0 text → GrewByPrefix w0 w1 text
 all_grew w0 w1 text e = record { count = length text; within = omega arith; is = e ∙ ap (appended w0) (sym (take-length text)) }
 
 -- a refused answer: it printed a part of its text, whatever the line was to do
-pub answered_part : {A : Type 0} (hearing : Hearing) (After : A → A → List Question → Type 0) (old new : A) (reply answering : Settings → List ℕ → List ℕ) (before left next w0 w1 w2 : Option (List ℕ)) (now : Settings) (line cut : List ℕ) (size : ℕ) → Served hearing After old new reply before left w0 w1 now → IsFirst line size left next → Answered reply answering now line cut → GrewByPrefix w1 w2 (answer hearing answering now cut) → (all : List ℕ) → before ≡ Some all → GrewByPrefix w0 w2 (heard_session hearing reply all)
+pub answered_part : {A : Type 0} (hearing : Hearing) (After : A → A → List Question → Type 0) (old new : A) (reply answering : Settings → List ℕ → List ℕ)
+    (before left next w0 w1 w2 : Option (List ℕ)) (now : Settings) (line cut : List ℕ) (size : ℕ) → Served hearing After old new reply before left w0 w1 now →
+    IsFirst line size left next → Answered reply answering now line cut → GrewByPrefix w1 w2 (answer hearing answering now cut) → (all : List ℕ) →
+    before ≡ Some all → GrewByPrefix w0 w2 (heard_session hearing reply all)
 answered_part hearing After old new reply answering before left next w0 w1 w2 now line cut size s first a grew all told =
     elim (cases_Bool (stops (command cut now))) [
       | inl quits ↦
@@ -167,7 +196,9 @@ answered_part hearing After old new reply answering before left next w0 w1 w2 no
           let g : GrewByPrefix w1 w2 [] = subst (GrewByPrefix w1 w2) none grew in
           let same : w2 ≡ w1 = g.is ∙ ap (appended w1) (take-none g.count) ∙ appended-nil w1 in
           subst (λ w. GrewByPrefix w0 w (heard_session hearing reply all)) (sym same) (served_some hearing After old new reply before left w0 w1 now s all told)
-      | inr goes ↦ served_part hearing After old new reply before left next w0 w1 w2 now (settings_after now (heard hearing now cut)) line (answer hearing answering now cut) (asked_by now cut (heard hearing now cut)) size s first (answered_gives hearing reply answering now line cut a goes) grew all told
+      | inr goes ↦ served_part hearing After old new reply before left next w0 w1 w2 now (settings_after now (heard hearing now cut)) line
+          (answer hearing answering now cut) (asked_by now cut (heard hearing now cut)) size s first
+          (answered_gives hearing reply answering now line cut a goes) grew all told
     ]
   where
     take-none : (n : ℕ) → take {A = ℕ} n [] ≡ []
@@ -175,7 +206,10 @@ answered_part hearing After old new reply answering before left next w0 w1 w2 no
     take-none (suc n) = refl
 
 -- the queries answered, those of the line that was answered last among them
-pub answered_asked : {A : Type 0} (hearing : Hearing) (After : A → A → List Question → Type 0) (old new next : A) (reply answering : Settings → List ℕ → List ℕ) (before left left2 w0 w1 : Option (List ℕ)) (now : Settings) (line cut : List ℕ) (size : ℕ) → Joins After → Served hearing After old new reply before left w0 w1 now → IsFirst line size left left2 → Answered reply answering now line cut → After new next (asked_by now cut (heard hearing now cut)) → AnsweredSome hearing After old next before
+pub answered_asked : {A : Type 0} (hearing : Hearing) (After : A → A → List Question → Type 0) (old new next : A) (reply answering : Settings → List ℕ → List ℕ)
+    (before left left2 w0 w1 : Option (List ℕ)) (now : Settings) (line cut : List ℕ) (size : ℕ) → Joins After →
+    Served hearing After old new reply before left w0 w1 now → IsFirst line size left left2 → Answered reply answering now line cut →
+    After new next (asked_by now cut (heard hearing now cut)) → AnsweredSome hearing After old next before
 unfolding heard_questions
 answered_asked hearing After old new next reply answering before left left2 w0 w1 now line cut size joins s first a step = record {
   answered = s.answered ++ asked_by now cut (heard hearing now cut);
@@ -189,8 +223,12 @@ answered_asked hearing After old new next reply answering before left left2 w0 w
             let none : asked_by now cut (heard hearing now cut) ≡ [] = (no_text answering bad_command now cut (heard hearing now cut) (stops_heard hearing (command cut now) ∙ quits)).1 in
             (questions hearing now (line ∷ lines f.0), whole ∙ ap (λ x. x ++ questions hearing now (line ∷ lines f.0)) (sym (append-nil s.answered) ∙ ap (λ x. s.answered ++ x) (sym none)))
         | inr goes ↦
-            let gives = answered_gives hearing reply answering now line cut a goes in
-            (questions hearing (settings_after now (heard hearing now cut)) (lines f.0), whole ∙ ap (λ x. s.answered ++ x) (gives.asks (lines f.0)) ∙ sym (append_assoc s.answered (asked_by now cut (heard hearing now cut)) (questions hearing (settings_after now (heard hearing now cut)) (lines f.0))))
+            let gives = answered_gives hearing reply answering now line cut a goes in (
+              questions hearing (settings_after now (heard hearing now cut)) (lines f.0),
+              whole ∙ ap (λ x. s.answered ++ x) (gives.asks (lines f.0))
+                  ∙ sym (append_assoc s.answered (asked_by now cut (heard hearing now cut))
+                  (questions hearing (settings_after now (heard hearing now cut)) (lines f.0))),
+            )
       ];
 }
 
@@ -274,7 +312,9 @@ counted_start left = record {
   };
 }
 
-more_ended : (front line more : List ℕ) (passed : List (List ℕ)) → HasNoEnd line → ((more : List ℕ) → ended_lines (front ++ more) ≡ passed ++ ended_lines more) → ended_lines ((front ++ (line ++ 10 ∷ [])) ++ more) ≡ passed ++ (line ∷ ended_lines more)
+more_ended : (front line more : List ℕ) (passed : List (List ℕ)) → HasNoEnd line →
+    ((more : List ℕ) → ended_lines (front ++ more) ≡ passed ++ ended_lines more) → ended_lines ((front ++ (line ++ 10 ∷ [])) ++ more) ≡ passed
+    ++ (line ∷ ended_lines more)
 more_ended front line more passed plain ended =
     ap ended_lines (append_assoc front (line ++ 10 ∷ []) more ∙ ap (λ t. front ++ t) (append_assoc line (10 ∷ []) more))
     ∙ ended (line ++ (10 ∷ more))
@@ -283,7 +323,8 @@ more_ended front line more passed plain ended =
 some_left : (line rest all : List ℕ) → all ≡ (line ++ 10 ∷ []) ++ rest → 0 < length all
 some_left line rest all e = omega (arith, ap length e, length-append (line ++ 10 ∷ []) rest, length-append line (10 ∷ []))
 
-pub counted_line : (before left next : Option (List ℕ)) (line : List ℕ) (size used used2 : ℕ) → Counted before left used → IsFirst line size left next → is_quit line ≡ false → used2 ≡ used + size → Counted before next used2
+pub counted_line : (before left next : Option (List ℕ)) (line : List ℕ) (size used used2 : ℕ) → Counted before left used → IsFirst line size left next →
+    is_quit line ≡ false → used2 ≡ used + size → Counted before next used2
 counted_line before left next line size used used2 c first goes e = record {
   goes_on = λ all told.
       let u = c.goes_on all told in
@@ -316,7 +357,8 @@ counted_line before left next line size used used2 c first goes e = record {
       ];
 }
 
-quit_ends : (front line more : List ℕ) (passed : List (List ℕ)) → HasNoEnd line → is_quit line ≡ true → ((more : List ℕ) → ended_lines (front ++ more) ≡ passed ++ ended_lines more) → list_any is_quit (ended_lines ((front ++ (line ++ 10 ∷ [])) ++ more)) ≡ true
+quit_ends : (front line more : List ℕ) (passed : List (List ℕ)) → HasNoEnd line → is_quit line ≡ true →
+    ((more : List ℕ) → ended_lines (front ++ more) ≡ passed ++ ended_lines more) → list_any is_quit (ended_lines ((front ++ (line ++ 10 ∷ [])) ++ more)) ≡ true
 quit_ends front line more passed plain quits ended =
     ap (list_any is_quit) (more_ended front line more passed plain ended) ∙ list_any-append is_quit passed (line ∷ ended_lines more)
     ∙ or_right _ _ (or_left _ _ quits)
@@ -327,7 +369,8 @@ take_front n front rest le =
     ap (λ k. take k (front ++ rest)) e ∙ take-append-add front rest (n - length front)
 
 -- the input is too long: a line runs on past the limit
-pub counted_past : (before left next : Option (List ℕ)) (size used : ℕ) → Counted before left used → RunsOn size left next → used + size ≡ input_limit → (all : List ℕ) → before ≡ Some all → is_too_much input_limit all ≡ true
+pub counted_past : (before left next : Option (List ℕ)) (size used : ℕ) → Counted before left used → RunsOn size left next → used + size ≡ input_limit →
+    (all : List ℕ) → before ≡ Some all → is_too_much input_limit all ≡ true
 unfolding is_too_much has_quit
 counted_past before left next size used c runs full all told =
     let u = c.goes_on all told in
@@ -341,7 +384,8 @@ counted_past before left next size used c runs full all told =
     ap (take input_limit) split ∙ take-append-le input_limit within tail (omega (arith, long)) ∙ ap (λ n. take n within) (sym long) ∙ take-length within in
     let some : 0 < length u.rest = omega (arith, ap length now.2, length-append (runs.front ++ runs.byte ∷ []) now.0, length-append runs.front (runs.byte ∷ [])) in
     let none : list_any is_quit (ended_lines (take input_limit all)) ≡ false =
-    ap (λ bytes. list_any is_quit (ended_lines bytes)) first ∙ ap (list_any is_quit) (u.ended some runs.front ∙ ap (λ t. u.passed ++ t) (ended-none runs.front runs.plain) ∙ append-nil u.passed) ∙ u.no_quit in
+    ap (λ bytes. list_any is_quit (ended_lines bytes)) first
+    ∙ ap (list_any is_quit) (u.ended some runs.front ∙ ap (λ t. u.passed ++ t) (ended-none runs.front runs.plain) ∙ append-nil u.passed) ∙ u.no_quit in
     and_from _ _ (lt-ltb input_limit (length all) (omega (arith, ap length split, length-append within tail, long))) (ap not none)
 
 -- it is not: all of it was used
@@ -353,7 +397,8 @@ counted_all before left used c end within all told =
     and_left _ _ (le-ltb input_limit (length all) (omega (arith, ap length u.whole, length-append u.front u.rest, ap length none, u.size, within)))
 
 -- it is not: a line that ends the session ended
-pub counted_quit : (before left next : Option (List ℕ)) (line : List ℕ) (size used used2 : ℕ) → Counted before left used → IsFirst line size left next → is_quit line ≡ true → used2 ≡ used + size → used2 ≤ input_limit → (all : List ℕ) → before ≡ Some all → is_too_much input_limit all ≡ false
+pub counted_quit : (before left next : Option (List ℕ)) (line : List ℕ) (size used used2 : ℕ) → Counted before left used → IsFirst line size left next →
+    is_quit line ≡ true → used2 ≡ used + size → used2 ≤ input_limit → (all : List ℕ) → before ≡ Some all → is_too_much input_limit all ≡ false
 unfolding is_too_much has_quit
 counted_quit before left next line size used used2 c first quits e within all told =
     let u = c.goes_on all told in
@@ -371,12 +416,25 @@ counted_quit before left next line size used used2 c first quits e within all to
       | inr f ↦
           let now = left_now next line u.rest (sym u.told ∙ f.2) in
           let none : now.0 ≡ [] = nothing next now.0 now.1 f.3 in
-          and_left _ _ (le-ltb input_limit (length all) (omega (arith, ap length u.whole, length-append u.front u.rest, ap length now.2, length-append line now.0, ap length none, u.size, e, f.0, within)))
+          and_left _ _
+          (le-ltb input_limit (length all) (omega (
+            arith,
+            ap length u.whole,
+            length-append u.front u.rest,
+            ap length now.2,
+            length-append line now.0,
+            ap length none,
+            u.size,
+            e,
+            f.0,
+            within,
+          )))
     ]
 
 -- ---- how much of the input was read
 
-pub left_at_end : (before input : Option (List ℕ)) (held : List ℕ) (used : ℕ) → Counted before (prepended held input) used → IsAtEnd (prepended held input) → (all : List ℕ) → before ≡ Some all → LeftEnough all input
+pub left_at_end : (before input : Option (List ℕ)) (held : List ℕ) (used : ℕ) → Counted before (prepended held input) used → IsAtEnd (prepended held input) →
+    (all : List ℕ) → before ≡ Some all → LeftEnough all input
 left_at_end before input held used c end all told =
     let u = c.goes_on all told in
     let none = nothing (prepended held input) u.rest u.told end in
@@ -384,7 +442,8 @@ left_at_end before input held used c end all told =
     let gone : now.0 ≡ [] = empty now.0 (omega (arith, ap length now.2, length-append held now.0, ap length none)) in
     (now.0, now.1, record { taken = all; whole = sym (append-nil all) ∙ ap (λ r. all ++ r) (sym gone); enough = inl gone })
 
-pub left_at_quit : (before left input : Option (List ℕ)) (held line : List ℕ) (size used : ℕ) → Counted before left used → IsFirst line size left (prepended held input) → is_quit line ≡ true → (all : List ℕ) → before ≡ Some all → LeftEnough all input
+pub left_at_quit : (before left input : Option (List ℕ)) (held line : List ℕ) (size used : ℕ) → Counted before left used →
+    IsFirst line size left (prepended held input) → is_quit line ≡ true → (all : List ℕ) → before ≡ Some all → LeftEnough all input
 unfolding has_quit
 left_at_quit before left input held line size used c first quits all told =
     let u = c.goes_on all told in
@@ -397,7 +456,8 @@ left_at_quit before left input held line size used c first quits all told =
             ahead.1,
             record {
               taken = front ++ held;
-              whole = u.whole ∙ ap (λ t. u.front ++ t) (now.2 ∙ ap (λ t. (line ++ 10 ∷ []) ++ t) ahead.2) ∙ sym (append_assoc u.front (line ++ 10 ∷ []) (held ++ ahead.0)) ∙ sym (append_assoc front held ahead.0);
+              whole = u.whole ∙ ap (λ t. u.front ++ t) (now.2 ∙ ap (λ t. (line ++ 10 ∷ []) ++ t) ahead.2)
+                  ∙ sym (append_assoc u.front (line ++ 10 ∷ []) (held ++ ahead.0)) ∙ sym (append_assoc front held ahead.0);
               enough = inr (quit_ends u.front line held u.passed first.plain quits (u.ended (some_left line now.0 u.rest now.2)));
             },
           )

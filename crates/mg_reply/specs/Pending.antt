@@ -11,5 +11,7 @@ pub record Passed (before after : Option (List ℕ)) (waited waiting bytes : Lis
   pub whole : sent ++ waiting ≡ waited ++ bytes
 
 -- at `Ok` the bytes were passed on, else a prefix of all these went to the sink
-abbrev pub AfterPass : {T E : Type 0} → Option (List ℕ) → Option (List ℕ) → List ℕ → List ℕ → List ℕ → Result T E → Type 0
-AfterPass before after waited waiting bytes result = MatchResult result (λ _. Passed before after waited waiting bytes) (λ _. GrewByPrefix before after (waited ++ bytes))
+abbrev pub AfterPass : {T E : Type 0} → Option (List ℕ) → Option (List ℕ) → List ℕ → List ℕ → List ℕ → Result T E →
+    Type 0
+AfterPass before after waited waiting bytes result = MatchResult result (λ _. Passed before after waited waiting bytes)
+    (λ _. GrewByPrefix before after (waited ++ bytes))

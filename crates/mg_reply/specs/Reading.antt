@@ -19,12 +19,14 @@ pub record Reading : Type 0 where
 
 -- a byte was taken from the front, or none was left
 abbrev pub AfterByte : Option (List ℕ) → Option (List ℕ) → Result (Option ℕ) Failed → Type 0
-AfterByte before after (Ok byte) = MatchOption byte ((after ≡ before) × IsAtEnd before) (λ b. before ≡ prepended (b ∷ []) after)
+AfterByte before after (Ok byte) = MatchOption byte ((after ≡ before) × IsAtEnd before)
+    (λ b. before ≡ prepended (b ∷ []) after)
 AfterByte before after (Err e) = after ≡ before
 
 -- a piece was taken from the front, and is held whole
 abbrev pub AfterFill : List ℕ → Option (List ℕ) → Option (List ℕ) → Result ℕ Failed → Type 0
-AfterFill held before after (Ok count) = (before ≡ prepended held after) × (length held ≡ count) × (count ≡ 0 → IsAtEnd before)
+AfterFill held before after (Ok count) = (before ≡ prepended held after) × (length held ≡ count)
+    × (count ≡ 0 → IsAtEnd before)
 AfterFill held before after (Err e) = (held ≡ []) × (after ≡ before)
 
 -- what a line of so many bytes is
@@ -53,8 +55,10 @@ pub record RunsOn (size : ℕ) (before after : Option (List ℕ)) : Type 0 where
   pub taken : before ≡ prepended (front ++ byte ∷ []) after
 
 abbrev pub AfterLine : Reading → Reading → Option (List ℕ) → Option (List ℕ) → Result LineEvent LineErr → Type 0
-AfterLine old new before after (Ok Line) = (size : ℕ) × IsFirst new.line size before after × (length new.line ≤ line_bytes) × (new.used ≡ old.used + size) × (new.used ≤ input_limit)
-AfterLine old new before after (Ok TooLong) = (line : List ℕ) × (size : ℕ) × IsFirst line size before after × (line_bytes < length line) × (new.used ≡ old.used + size) × (new.used ≤ input_limit)
+AfterLine old new before after (Ok Line) = (size : ℕ) × IsFirst new.line size before after
+    × (length new.line ≤ line_bytes) × (new.used ≡ old.used + size) × (new.used ≤ input_limit)
+AfterLine old new before after (Ok TooLong) = (line : List ℕ) × (size : ℕ) × IsFirst line size before after
+    × (line_bytes < length line) × (new.used ≡ old.used + size) × (new.used ≤ input_limit)
 AfterLine old new before after (Ok End) = IsAtEnd before × (after ≡ before) × (new.used ≡ old.used)
 AfterLine old new before after (Err Read) = Unit {0}
 AfterLine old new before after (Err TooMuch) = (size : ℕ) × RunsOn size before after × (old.used + size ≡ input_limit)

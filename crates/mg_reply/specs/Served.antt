@@ -21,10 +21,12 @@ use Rattle.mg_reply.specs.declared.serve.ServeErr.TheVariants as serve
 -- ---- what is said of a session
 
 -- Some query lines were answered between two states; they are the first of those of the input, where it is told.
-pub record AnsweredSome {A : Type 0} (hearing : Hearing) (After : A → A → List Question → Type 0) (old new : A) (input : Option (List ℕ)) : Type 0 where
+pub record AnsweredSome {A : Type 0} (hearing : Hearing) (After : A → A → List Question → Type 0) (old new : A)
+    (input : Option (List ℕ)) : Type 0 where
   pub answered : List Question
   pub after : After old new answered
-  pub first : (all : List ℕ) → input ≡ Some all → (more : List Question) × (heard_questions hearing all ≡ answered ++ more)
+  pub first : (all : List ℕ) → input ≡ Some all → (more : List Question)
+      × (heard_questions hearing all ≡ answered ++ more)
 
 -- What is left of a told input after a session.
 abbrev pub LeftEnough : List ℕ → Option (List ℕ) → Type 0
@@ -47,19 +49,22 @@ EndsFor Read Write TooMuch Stops (serve.Show show.Memory) = Unit {0}
 -- ---- what holds from line to line
 
 -- Of what was told to be left there is this left; the session prints what was printed and then the replies to that, and answers what was answered and then the queries of that.
-pub record Rests (hearing : Hearing) (reply : Settings → List ℕ → List ℕ) (now : Settings) (done : List ℕ) (answered : List Question) (all : List ℕ) (left : Option (List ℕ)) : Type 0 where
+pub record Rests (hearing : Hearing) (reply : Settings → List ℕ → List ℕ) (now : Settings) (done : List ℕ)
+    (answered : List Question) (all : List ℕ) (left : Option (List ℕ)) : Type 0 where
   pub rest : List ℕ
   pub told : left ≡ Some rest
   pub goes_on : replies hearing reply first_settings (lines all) ≡ done ++ replies hearing reply now (lines rest)
   pub asks : questions hearing first_settings (lines all) ≡ answered ++ questions hearing now (lines rest)
 
 -- So much was printed and answered, whatever was told.
-pub record Served {A : Type 0} (hearing : Hearing) (After : A → A → List Question → Type 0) (old new : A) (reply : Settings → List ℕ → List ℕ) (before left written_old written : Option (List ℕ)) (now : Settings) : Type 0 where
-  pub done : List ℕ
-  pub answered : List Question
-  pub given : written ≡ appended written_old done
-  pub after : After old new answered
-  pub goes_on : (all : List ℕ) → before ≡ Some all → Rests hearing reply now done answered all left
+pub record Served {A : Type 0} (hearing : Hearing) (After : A → A → List Question → Type 0) (old new : A)
+    (reply : Settings → List ℕ → List ℕ) (before left written_old written : Option (List ℕ)) (now : Settings) : Type 0
+  where
+    pub done : List ℕ
+    pub answered : List Question
+    pub given : written ≡ appended written_old done
+    pub after : After old new answered
+    pub goes_on : (all : List ℕ) → before ≡ Some all → Rests hearing reply now done answered all left
 
 -- A line was taken up: it is the next one of what was told to be left, its query alone was answered, and of what it prints a front was written.
 pub record TookUp {A : Type 0} (hearing : Hearing) (After : A → A → List Question → Type 0) (old new : A)

@@ -66,7 +66,8 @@ impl Held {
 
     /// Takes the next byte: a held one, or the first of a new piece.
     pub fn byte<I: Source>(&mut self, input: &mut I) -> Result<Option<u8>, Failed>
-        ensures took { AfterByte (prepended self.old (I.left input.old)) (prepended self.new (I.left input.new)) result }
+        ensures took { AfterByte (prepended self.old (I.left input.old))
+            (prepended self.new (I.left input.new)) result }
         ensures cause { HasCause (I.faults input.old) (I.faults input.new) result }
     {
         if !self.is_empty() {

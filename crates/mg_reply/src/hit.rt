@@ -23,7 +23,8 @@ pub fn shows(most: Option<u32>, total: u32) -> bool
 
 /// Passes on a document's bytes, and what stands after them.
 fn pass_closed<O: Sink>(pending: &mut Pending, out: &mut O, doc: &[u8]) -> Result<(), PutErr>
-    ensures content { AfterPass (O.written out.old) (O.written out.new) pending.old pending.new (doc.now ++ close) result }
+    ensures content { AfterPass (O.written out.old) (O.written out.new) pending.old pending.new
+        (doc.now ++ close) result }
     ensures cause { HasPutCause (O.faults out.old) (O.faults out.new) result }
     ensures lack { HasLack (O.lacks out.old) (O.lacks out.new) result }
 {
@@ -42,7 +43,8 @@ pub fn pass_shown<O: Sink>(
     score: Option<u64>,
     doc: &[u8],
 ) -> Result<(), PutErr>
-    ensures content { Passes O.written out.old out.new pending.old pending.new result (shown_as doc.now mode (at_score number score)) }
+    ensures content { Passes O.written out.old out.new pending.old pending.new result
+        (shown_as doc.now mode (at_score number score)) }
     ensures cause { HasPutCause (O.faults out.old) (O.faults out.new) result }
     ensures lack { HasLack (O.lacks out.old) (O.lacks out.new) result }
 {
@@ -67,7 +69,8 @@ pub fn pass_hit<O: Sink>(
     score: Option<u64>,
     doc: &[u8],
 ) -> Result<(), PutErr>
-    ensures content { Passes O.written out.old out.new pending.old pending.new result (hit_by now.now doc.now total (at_score number score)) }
+    ensures content { Passes O.written out.old out.new pending.old pending.new result
+        (hit_by now.now doc.now total (at_score number score)) }
     ensures cause { HasPutCause (O.faults out.old) (O.faults out.new) result }
     ensures lack { HasLack (O.lacks out.old) (O.lacks out.new) result }
 {

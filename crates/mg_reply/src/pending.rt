@@ -73,7 +73,8 @@ impl Pending {
 
     /// Passes the bytes on, after those that wait.
     pub fn put<O: Sink>(&mut self, out: &mut O, bytes: &[u8]) -> Result<(), PutErr>
-        ensures content { AfterPass (O.written out.old) (O.written out.new) self.old self.new bytes.now result }
+        ensures content { AfterPass (O.written out.old) (O.written out.new) self.old self.new
+            bytes.now result }
         ensures cause { HasPutCause (O.faults out.old) (O.faults out.new) result }
         ensures lack { HasLack (O.lacks out.old) (O.lacks out.new) result }
     {
@@ -93,7 +94,8 @@ impl Pending {
     }
 
     fn number<O: Sink>(&mut self, out: &mut O, number: u64) -> Result<(), PutErr>
-        ensures content { AfterPass (O.written out.old) (O.written out.new) self.old self.new (decimal number) result }
+        ensures content { AfterPass (O.written out.old) (O.written out.new) self.old self.new
+            (decimal number) result }
         ensures cause { HasPutCause (O.faults out.old) (O.faults out.new) result }
         ensures lack { HasLack (O.lacks out.old) (O.lacks out.new) result }
     {
@@ -103,7 +105,8 @@ impl Pending {
 
     /// A blank and a score.
     fn score<O: Sink>(&mut self, out: &mut O, score: u64) -> Result<(), PutErr>
-        ensures content { AfterPass (O.written out.old) (O.written out.new) self.old self.new (codes " " ++ decimal score) result }
+        ensures content { AfterPass (O.written out.old) (O.written out.new) self.old self.new
+            (codes " " ++ decimal score) result }
         ensures cause { HasPutCause (O.faults out.old) (O.faults out.new) result }
         ensures lack { HasLack (O.lacks out.old) (O.lacks out.new) result }
     {
@@ -120,7 +123,8 @@ impl Pending {
         number: u32,
         score: Option<u64>,
     ) -> Result<(), PutErr>
-        ensures content { AfterPass (O.written out.old) (O.written out.new) self.old self.new (numbered_text number score) result }
+        ensures content { AfterPass (O.written out.old) (O.written out.new) self.old self.new
+            (numbered_text number score) result }
         ensures cause { HasPutCause (O.faults out.old) (O.faults out.new) result }
         ensures lack { HasLack (O.lacks out.old) (O.lacks out.new) result }
     {
@@ -140,7 +144,8 @@ impl Pending {
         number: u32,
         score: Option<u64>,
     ) -> Result<(), PutErr>
-        ensures content { AfterPass (O.written out.old) (O.written out.new) self.old self.new (row_text number score) result }
+        ensures content { AfterPass (O.written out.old) (O.written out.new) self.old self.new
+            (row_text number score) result }
         ensures cause { HasPutCause (O.faults out.old) (O.faults out.new) result }
         ensures lack { HasLack (O.lacks out.old) (O.lacks out.new) result }
     {
@@ -157,7 +162,8 @@ impl Pending {
         number: u32,
         score: Option<u64>,
     ) -> Result<(), PutErr>
-        ensures content { AfterPass (O.written out.old) (O.written out.new) self.old self.new (header_text number score) result }
+        ensures content { AfterPass (O.written out.old) (O.written out.new) self.old self.new
+            (header_text number score) result }
         ensures cause { HasPutCause (O.faults out.old) (O.faults out.new) result }
         ensures lack { HasLack (O.lacks out.old) (O.lacks out.new) result }
     {
@@ -170,7 +176,8 @@ impl Pending {
     /// What stands after a document that is shown.
     #[tactic(auto, unfolding(mg_defs::specs::Texts::close))]
     pub fn close<O: Sink>(&mut self, out: &mut O) -> Result<(), PutErr>
-        ensures content { AfterPass (O.written out.old) (O.written out.new) self.old self.new close_text result }
+        ensures content { AfterPass (O.written out.old) (O.written out.new) self.old self.new
+            close_text result }
         ensures cause { HasPutCause (O.faults out.old) (O.faults out.new) result }
         ensures lack { HasLack (O.lacks out.old) (O.lacks out.new) result }
     {
@@ -179,7 +186,8 @@ impl Pending {
 
     /// The last line of a reply: how many documents the answer has.
     pub fn count<O: Sink>(&mut self, out: &mut O, total: u32) -> Result<(), PutErr>
-        ensures content { AfterPass (O.written out.old) (O.written out.new) self.old self.new (count_text total) result }
+        ensures content { AfterPass (O.written out.old) (O.written out.new) self.old self.new
+            (count_text total) result }
         ensures cause { HasPutCause (O.faults out.old) (O.faults out.new) result }
         ensures lack { HasLack (O.lacks out.old) (O.lacks out.new) result }
     {

@@ -89,9 +89,11 @@ impl LineReader {
     ///
     /// Every call names the same input.
     pub fn next<I: Source>(&mut self, input: &mut I) -> Result<LineEvent, LineErr>
-        ensures line { AfterLine self.old self.new (prepended self.old.held (I.left input.old)) (prepended self.new.held (I.left input.new)) result }
+        ensures line { AfterLine self.old self.new (prepended self.old.held (I.left input.old))
+            (prepended self.new.held (I.left input.new)) result }
         ensures later { I.faults input.old ≤ I.faults input.new }
-        ensures read { IsErrOf result LineErr.Read → Rose (I.faults input.old) (I.faults input.new) }
+        ensures read { IsErrOf result LineErr.Read →
+            Rose (I.faults input.old) (I.faults input.new) }
     {
         let room = LIMIT - self.used;
         let mut size = 0u64;

@@ -51,11 +51,14 @@ pub trait Answerer {
         requires short { length line.now ≤ 1024 }
         requires fits { fits (state self.old dev.old) }
         ensures fits { fits (state self.new dev.new) }
-        ensures content { ForEach (answers (state self.old dev.old)) (λ reply. Puts O.written out.old out.new result (reply now.now line.now)) }
-        ensures after { after (state self.old dev.old) (state self.new dev.new) (record { now = now.now; line = line.now } ∷ []) }
+        ensures content { ForEach (answers (state self.old dev.old))
+            (λ reply. Puts O.written out.old out.new result (reply now.now line.now)) }
+        ensures after { after (state self.old dev.old) (state self.new dev.new)
+            (record { now = now.now; line = line.now } ∷ []) }
         ensures later { O.faults out.old ≤ O.faults out.new }
         ensures write { IsErrOf result Write → Rose (O.faults out.old) (O.faults out.new) }
-        ensures part { IfErr result (PartStops (may_stop (state self.old dev.old) (state self.new dev.new))) };
+        ensures part { IfErr result (PartStops
+            (may_stop (state self.old dev.old) (state self.new dev.new))) };
 
     ghost after_none: { (s : State) → after s s [] };
 
@@ -103,12 +106,15 @@ fn serve_line<O: Sink, A: Answerer>(
     ensures after { A.after (A.state answerer.old dev.old) (A.state answerer.new dev.new)
         (asked_by now.old line.now (hears hearing (command line.now now.old))) }
     ensures text { ForEach (A.answers (A.state answerer.old dev.old))
-        (λ reply. Puts O.written out.old out.new result (heard_text hearing now.old line.now reply)) }
-    ensures settings { OnOk result (now.new ≡ settings_after now.old (hears hearing (command line.now now.old))) }
+        (λ reply. Puts O.written out.old out.new result
+        (heard_text hearing now.old line.now reply)) }
+    ensures settings { OnOk result (now.new ≡ settings_after now.old
+        (hears hearing (command line.now now.old))) }
     ensures stops { IfOk result (λ stop. stop ≡ stops_spec (command line.now now.old)) }
     ensures later { O.faults out.old ≤ O.faults out.new }
     ensures write { IsErrOf result Write → Rose (O.faults out.old) (O.faults out.new) }
-    ensures part { IfErr result (PartStops (A.may_stop (A.state answerer.old dev.old) (A.state answerer.new dev.new))) }
+    ensures part { IfErr result (PartStops
+        (A.may_stop (A.state answerer.old dev.old) (A.state answerer.new dev.new))) }
 {
     match hearing.hear(read_command(line, now)) {
         Command::Skip => Ok(false),
@@ -147,15 +153,20 @@ pub fn serve_lines<I: Source, O: Sink, A: Answerer>(
         (PrintsAll I.left O.written input.old out.old out.new result (heard_session hearing)) }
     ensures prefix { ForEach (A.answers (A.state answerer.old dev.old))
         (PrintsPrefix I.left O.written input.old out.old out.new (heard_session hearing)) }
-    ensures left { ForSome (I.left input.old) (λ bytes. OnOk result (LeftEnough bytes (I.left input.new))) }
-    ensures within { ForSome (I.left input.old) (λ bytes. OnOk result (is_too_much input_limit bytes ≡ false)) }
-    ensures answered { AnsweredSome hearing A.after (A.state answerer.old dev.old) (A.state answerer.new dev.new) (I.left input.old) }
+    ensures left { ForSome (I.left input.old)
+        (λ bytes. OnOk result (LeftEnough bytes (I.left input.new))) }
+    ensures within { ForSome (I.left input.old) (λ bytes.
+        OnOk result (is_too_much input_limit bytes ≡ false)) }
+    ensures answered { AnsweredSome hearing A.after (A.state answerer.old dev.old)
+        (A.state answerer.new dev.new) (I.left input.old) }
     ensures in_turn { ForEach (A.answers (A.state answerer.old dev.old))
-        (λ reply. RepliedInTurn hearing A.after (A.state answerer.old dev.old) (A.state answerer.new dev.new)
+        (λ reply. RepliedInTurn hearing A.after (A.state answerer.old dev.old)
+        (A.state answerer.new dev.new)
         reply (I.left input.old) (O.written out.old) (O.written out.new)) }
     ensures read_later { I.faults input.old ≤ I.faults input.new }
     ensures write_later { O.faults out.old ≤ O.faults out.new }
-    ensures cause { EndsWhere I.left I.faults O.faults A.state A.may_stop input.old input.new out.old out.new
+    ensures cause { EndsWhere I.left I.faults O.faults A.state A.may_stop input.old input.new
+        out.old out.new
         answerer.old answerer.new dev.old dev.new result }
 {
     let mut reader = LineReader::new();

@@ -13,7 +13,8 @@ use mg_query::QueryErr;
 
 /// Writes the row of a document.
 pub fn put_row<O: Sink>(out: &mut O, number: u32, score: Option<u64>) -> Result<(), PutErr>
-    ensures content { AfterPut (O.written out.old) (O.written out.new) (row_text number score) result }
+    ensures content { AfterPut (O.written out.old) (O.written out.new) (row_text number score)
+        result }
     ensures cause { HasPutCause (O.faults out.old) (O.faults out.new) result }
     ensures lack { HasLack (O.lacks out.old) (O.lacks out.new) result }
 {
@@ -26,7 +27,8 @@ pub fn put_row<O: Sink>(out: &mut O, number: u32, score: Option<u64>) -> Result<
 
 /// Writes what stands before a document that is shown.
 pub fn put_shown<O: Sink>(out: &mut O, number: u32, score: Option<u64>) -> Result<(), PutErr>
-    ensures content { AfterPut (O.written out.old) (O.written out.new) (header_text number score) result }
+    ensures content { AfterPut (O.written out.old) (O.written out.new) (header_text number score)
+        result }
     ensures cause { HasPutCause (O.faults out.old) (O.faults out.new) result }
     ensures lack { HasLack (O.lacks out.old) (O.lacks out.new) result }
 {
@@ -64,7 +66,8 @@ pub fn put_count<O: Sink>(out: &mut O, total: u32) -> Result<(), PutErr>
 #[tactic(auto, unfolding(mg_defs::specs::Replies::refusal))]
 pub fn put_refusal<O: Sink>(out: &mut O, why: &QueryErr) -> Result<(), PutErr>
     requires { why.now ≢ QueryErr.Memory }
-    ensures content { IfSome (refusal_of why.now) (λ refused. AfterPut (O.written out.old) (O.written out.new) (refusal refused) result) }
+    ensures content { IfSome (refusal_of why.now) (λ refused.
+        AfterPut (O.written out.old) (O.written out.new) (refusal refused) result) }
     ensures cause { HasPutCause (O.faults out.old) (O.faults out.new) result }
     ensures lack { HasLack (O.lacks out.old) (O.lacks out.new) result }
 {
@@ -79,12 +82,15 @@ pub fn put_refusal<O: Sink>(out: &mut O, why: &QueryErr) -> Result<(), PutErr>
 
 /// Writes why a line is no query, or answers that the allocator lacked the memory to read it.
 pub fn answer_refused<O: Sink>(out: &mut O, why: QueryErr) -> Result<(), ShowErr>
-    ensures content { (text : List ℕ) → IfSome (refusal_of why) (λ refused. text ≡ refusal refused) →
+    ensures content { (text : List ℕ) →
+        IfSome (refusal_of why) (λ refused. text ≡ refusal refused) →
         AfterPut (O.written out.old) (O.written out.new) text result }
     ensures later { O.faults out.old ≤ O.faults out.new }
     ensures lacks { O.lacks out.old ≤ O.lacks out.new }
-    ensures cause { IfErr result (AnswerStops (Rose (O.faults out.old) (O.faults out.new)) (Rose (O.lacks out.old) (O.lacks out.new))) }
-    ensures silent { IsErrOf result (ShowErr.Part PartErr.Memory) → O.written out.new ≡ O.written out.old }
+    ensures cause { IfErr result (AnswerStops (Rose (O.faults out.old) (O.faults out.new))
+        (Rose (O.lacks out.old) (O.lacks out.new))) }
+    ensures silent { IsErrOf result (ShowErr.Part PartErr.Memory) →
+        O.written out.new ≡ O.written out.old }
 {
     if let QueryErr::Memory = why {
         return Err(ShowErr::Part(PartErr::Memory));
@@ -97,7 +103,8 @@ pub fn answer_refused<O: Sink>(out: &mut O, why: QueryErr) -> Result<(), ShowErr
 
 /// Writes a reason and its place.
 fn put_place<O: Sink>(out: &mut O, reason: &[u8], at: u32) -> Result<(), PutErr>
-    ensures content { AfterPut (O.written out.old) (O.written out.new) (reason.now ++ decimal at ++ codes "\n") result }
+    ensures content { AfterPut (O.written out.old) (O.written out.new)
+        (reason.now ++ decimal at ++ codes "\n") result }
     ensures cause { HasPutCause (O.faults out.old) (O.faults out.new) result }
     ensures lack { HasLack (O.lacks out.old) (O.lacks out.new) result }
 {

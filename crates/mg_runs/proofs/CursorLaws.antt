@@ -62,8 +62,14 @@ posting_short last x before small =
     let d : Bits = gamma (doc_gap last x) in
     let n : Bits = gamma x.count in
     let p : Plan (run_posting_bits last x ++ []) 0 last x [] = plan (run_posting_bits last x ++ []) 0 last x [] before small refl in
-    omega
-    (arith, length-append g (d ++ n), length-append d n, gamma_short (x.term - last.term + 1) p.gap.0 (omega (arith, p.gap.1)), gamma_short (doc_gap last x) p.doc.0 (omega (arith, p.doc.1)), gamma_short x.count p.count.0 (omega (arith, p.count.1)))
+    omega (
+      arith,
+      length-append g (d ++ n),
+      length-append d n,
+      gamma_short (x.term - last.term + 1) p.gap.0 (omega (arith, p.gap.1)),
+      gamma_short (doc_gap last x) p.doc.0 (omega (arith, p.doc.1)),
+      gamma_short x.count p.count.0 (omega (arith, p.count.1)),
+    )
 
 -- behind a code that stands whole, the place is still in the file
 pub place_below : (place : ℕ) (bits code rest : Bits) → place ≤ length bits → drop place bits ≡ code ++ rest → place + length code ≤ length bits
@@ -90,8 +96,11 @@ stands cursor slot file bytes x y ys offset at near is off =
     let high = near.high in
     let room : ℕ = 512 - offset in
     let rest : Bits = postings_bits y ys ++ at.more in
-    let e : drop cursor.place (bits_of file) ≡ run_posting_bits x y ++ rest = at.bits ∙ append_assoc (run_posting_bits x y) (postings_bits y ys) at.more in
-    (take (room - length (run_posting_bits x y)) rest, in_slot 64 cursor.start cursor.place offset room bytes file (run_posting_bits x y) rest (is ∙ take_min cursor.count slot ∙ at.window) (omega arith) (omega arith) (omega arith) e)
+    let e : drop cursor.place (bits_of file) ≡ run_posting_bits x y ++ rest = at.bits ∙ append_assoc (run_posting_bits x y) (postings_bits y ys) at.more in (
+      take (room - length (run_posting_bits x y)) rest,
+      in_slot 64 cursor.start cursor.place offset room bytes file (run_posting_bits x y) rest
+          (is ∙ take_min cursor.count slot ∙ at.window) (omega arith) (omega arith) (omega arith) e,
+    )
 
 -- behind it the cursor is at that posting
 pub moved : (cursor : Cursor) (slot file : List ℕ) (x y : TermPosting) (ys : List TermPosting) (offset : ℕ) (found : Decoded) →
@@ -148,8 +157,11 @@ header_stands slot file bytes place count xs at window is =
     let short : length (gamma (length xs)) ≤ 66 = gamma_short (length xs) some (omega arith) in
     let room : ℕ = 512 - place % 8 in
     let rest : Bits = postings_bits before_first xs ++ at.more in
-    let e : drop place (bits_of file) ≡ gamma (length xs) ++ rest = at.bits ∙ append_assoc (gamma (length xs)) (postings_bits before_first xs) at.more in
-    (take (room - length (gamma (length xs))) rest, in_slot 64 (place / 8) place (place % 8) room bytes file (gamma (length xs)) rest (is ∙ take_min count slot ∙ window) (omega arith) (omega arith) (omega arith) e)
+    let e : drop place (bits_of file) ≡ gamma (length xs) ++ rest = at.bits ∙ append_assoc (gamma (length xs)) (postings_bits before_first xs) at.more in (
+      take (room - length (gamma (length xs))) rest,
+      in_slot 64 (place / 8) place (place % 8) room bytes file (gamma (length xs)) rest
+          (is ∙ take_min count slot ∙ window) (omega arith) (omega arith) (omega arith) e,
+    )
 
 pub header_read : (slot file : List ℕ) (place count : ℕ) (xs : List TermPosting) (value next : ℕ) → IsRunAt file place xs → count ≤ 64 →
     take count slot ≡ take 64 (drop (place / 8) file) → value ≡ length xs → next ≡ place % 8 + length (gamma (length xs)) →

@@ -22,7 +22,9 @@ not_falling f (x ∷ []) h = (tt, tt)
 not_falling {X} f (x ∷ y ∷ xs) h =
     let rest
     = not_falling f (y ∷ xs)
-    (λ k d q. let one : k + 1 + 1 ≡ suc (k + 1) = omega arith in let two : k + 1 ≡ suc k = omega arith in subst (λ n. NoLater (f (get_or (x ∷ y ∷ xs) n d)) (f (get_or (y ∷ xs) (k + 1) d))) two (subst (λ n. NoLater (f (get_or (x ∷ y ∷ xs) (k + 1) d)) (f (get_or (x ∷ y ∷ xs) n d))) one (h (k + 1) d (omega arith))))
+    (λ k d q. let one : k + 1 + 1 ≡ suc (k + 1) = omega arith in let two : k + 1 ≡ suc k = omega arith in
+    subst (λ n. NoLater (f (get_or (x ∷ y ∷ xs) n d)) (f (get_or (y ∷ xs) (k + 1) d))) two
+    (subst (λ n. NoLater (f (get_or (x ∷ y ∷ xs) (k + 1) d)) (f (get_or (x ∷ y ∷ xs) n d))) one (h (k + 1) d (omega arith))))
     in
     let first : NoLater (f x) (f y) = h 0 x (omega arith) in
     ((first, NoLater-all (f x) (f y) first (map f xs) rest.0), rest)

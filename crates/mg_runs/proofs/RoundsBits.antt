@@ -136,7 +136,8 @@ runs_from file at (run ∷ runs) more e below short is some few =
     let split : drop at (bits_of file) ≡ code ++ rest = e ∙ append_assoc code (runs_bits runs) more in
     cons_at file at (starts (at + length code) runs) run runs
     (first_run_at file at run rest (is 0 run (omega arith)) (some 0 run (omega arith)) (few 0 run (omega arith)) split below short)
-    (runs_from file (at + length code) runs more (behind_code at (bits_of file) code rest split) (place_below at (bits_of file) code rest below split) short (All-tail (λ l. IsRun l) run runs is) (All-tail (λ l. 1 ≤ length l) run runs some) (All-tail (λ l. 1 + length l < 2 ^ 32) run runs few))
+    (runs_from file (at + length code) runs more (behind_code at (bits_of file) code rest split) (place_below at (bits_of file) code rest below split) short
+    (All-tail (λ l. IsRun l) run runs is) (All-tail (λ l. 1 ≤ length l) run runs some) (All-tail (λ l. 1 + length l < 2 ^ 32) run runs few))
 
 pub runs_at : (file : List ℕ) (runs : List (List TermPosting)) (more : Bits) → bits_of file ≡ runs_bits runs ++ more → length (bits_of file) ≤ 2 ^ 61 →
     AreWritten runs → AreRunsAt file (starts 0 runs) runs

@@ -102,8 +102,14 @@ runs_short cap (suc count) s small =
 pub all_first_runs : (cap count : ℕ) (s : List (ℕ × ℕ)) → all_postings (first_runs cap count s) ≤ length s
 all_first_runs cap zero s = omega arith
 all_first_runs cap (suc count) s =
-    omega
-    (arith, sum_by-cons (λ (l : List TermPosting). length l) (term_postings (take cap s)) (first_runs cap count (drop cap s)), length_postings (take cap s), all_first_runs cap count (drop cap s), length-take cap s, length-drop cap s)
+    omega (
+      arith,
+      sum_by-cons (λ (l : List TermPosting). length l) (term_postings (take cap s)) (first_runs cap count (drop cap s)),
+      length_postings (take cap s),
+      all_first_runs cap count (drop cap s),
+      length-take cap s,
+      length-drop cap s,
+    )
 
 pub fed_all : (cap : ℕ) (fed : List (ℕ × ℕ)) → all_postings (runs_of cap fed) ≤ length fed
 fed_all cap fed = all_first_runs cap ((length fed + cap - 1) / cap) fed

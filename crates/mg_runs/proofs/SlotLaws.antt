@@ -90,7 +90,8 @@ pub slots_put : (n a size count k : ℕ) (xs ys : List ℕ) → a ≡ n * k → 
 slots_put n a size count k xs ys at is room whole h =
     let swap : a ≡ k * n = omega arith in
     chunks_put n count k xs (put_mid a size xs ys) h
-    (λ j low other. chunk_at n count j (put_mid a size xs ys) low ∙ ap (λ z. take n (drop (j * n) (put_mid a z xs ys))) is ∙ chunk_other n a k j xs ys swap room whole other ∙ sym (chunk_at n count j xs low))
+    (λ j low other. chunk_at n count j (put_mid a size xs ys) low ∙ ap (λ z. take n (drop (j * n) (put_mid a z xs ys))) is
+    ∙ chunk_other n a k j xs ys swap room whole other ∙ sym (chunk_at n count j xs low))
 
 pub slot_put : (n a size count k : ℕ) (xs ys : List ℕ) → a ≡ n * k → size ≡ n → a + n ≤ length xs → length ys ≡ n → k < count → get_or (first_chunks n count (put_mid a size xs ys)) k [] ≡ ys
 slot_put n a size count k xs ys at is room whole h =

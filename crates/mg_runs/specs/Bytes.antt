@@ -6,7 +6,8 @@ use Rattle.std.specs.Simd.{first_chunks}
 use Rattle.mg_defs.specs.declared.TermPosting.{TermPosting}
 
 unfoldable pub number_in : ℕ → List ℕ → ℕ
-number_in from bytes = from_be_bytes w32 (slice_index bytes from ∷ slice_index bytes (from + 1) ∷ slice_index bytes (from + 2) ∷ slice_index bytes (from + 3) ∷ [])
+number_in from bytes = from_be_bytes w32 (slice_index bytes from ∷ slice_index bytes (from + 1) ∷
+    slice_index bytes (from + 2) ∷ slice_index bytes (from + 3) ∷ [])
 
 -- the entry that these 12 bytes are
 abbrev pub entry_in : List ℕ → TermPosting

@@ -72,11 +72,13 @@ NoDamage (Err (Bad bad)) = ⊥
 
 -- for each posting behind the one that the cursor is at, with those after it: by the bytes of the file
 abbrev pub ForNextAt : Cursor → List ℕ → (List ℕ → TermPosting → List TermPosting → Type 0) → Type 0
-ForNextAt cursor slot claim = (file : List ℕ) (x y : TermPosting) (ys : List TermPosting) → IsAtPosting cursor slot file x (y ∷ ys) → claim file y ys
+ForNextAt cursor slot claim = (file : List ℕ) (x y : TermPosting) (ys : List TermPosting) →
+    IsAtPosting cursor slot file x (y ∷ ys) → claim file y ys
 
 -- for each run that begins at a place, where so many bytes of the slot are its first: by the bytes of the file
 abbrev pub ForHeader : ℕ → ℕ → List ℕ → (List ℕ → List TermPosting → Type 0) → Type 0
-ForHeader place count slot claim = (file : List ℕ) (xs : List TermPosting) → IsRunAt file place xs → count ≤ 64 → take count slot ≡ take 64 (drop (place / 8) file) → claim file xs
+ForHeader place count slot claim = (file : List ℕ) (xs : List TermPosting) → IsRunAt file place xs → count ≤ 64 →
+    take count slot ≡ take 64 (drop (place / 8) file) → claim file xs
 
 -- by a slot of the pool, a cursor is at this posting, with these behind it
 abbrev pub IsAtPostingBy : Pooled → ℕ → List ℕ → TermPosting → List TermPosting → Cursor → Type 0

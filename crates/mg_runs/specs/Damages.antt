@@ -37,7 +37,8 @@ TellsBit at (Bad bad) = bad.at ≡ at
 abbrev pub TellsBitOf : List Cursor → PartErr → Type 0
 TellsBitOf cursors Device = Unit {0}
 TellsBitOf cursors Memory = Unit {0}
-TellsBitOf cursors (Bad bad) = (bad.at ≡ 0) ⊎ ((k : ℕ) × (k < length cursors) × (bad.at ≡ (slice_index_or cursors k no_cursor).place))
+TellsBitOf cursors (Bad bad) = (bad.at ≡ 0)
+    ⊎ ((k : ℕ) × (k < length cursors) × (bad.at ≡ (slice_index_or cursors k no_cursor).place))
 
 -- a damage is told at 0, or at the bit where a run in use stands
 abbrev pub TellsBitIn : Option Group → PartErr → Type 0

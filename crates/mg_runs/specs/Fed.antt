@@ -50,8 +50,10 @@ pub record IsFed (runs : Inverting) (files : Option Files) (fed : List (ℕ × �
   pub peak : runs.pool.peak ≡ 12 * min (length fed) (cap_of runs.pool)
   pub name : runs.writer.name ≡ full_name runs.base Run
   pub holds : Holds runs.writer files
-  pub written : IsSome files → bits_put runs.writer files ≡ runs_bits (first_runs (cap_of runs.pool) (finished (cap_of runs.pool) (length fed)) fed)
-  pub place : runs.writer.place ≡ length (runs_bits (first_runs (cap_of runs.pool) (finished (cap_of runs.pool) (length fed)) fed))
+  pub written : IsSome files → bits_put runs.writer files ≡ runs_bits
+      (first_runs (cap_of runs.pool) (finished (cap_of runs.pool) (length fed)) fed)
+  pub place : runs.writer.place
+      ≡ length (runs_bits (first_runs (cap_of runs.pool) (finished (cap_of runs.pool) (length fed)) fed))
   pub whole : runs.writer.place % 8 ≡ 0
   pub below : runs.writer.place ≤ 512 * (finished (cap_of runs.pool) (length fed) * cap_of runs.pool)
   pub places : runs.places ≡ starts 0 (first_runs (cap_of runs.pool) (finished (cap_of runs.pool) (length fed)) fed)
@@ -64,7 +66,8 @@ ForFed runs files claim = (fed : List (ℕ × ℕ)) → IsFed runs files fed →
 
 -- one more occurrence was taken than before, whatever these were
 abbrev pub TookOne : {X : Type 0} → (X → Option Files) → X → X → Inverting → Inverting → ℕ × ℕ → Type 0
-TookOne files before now old new o = (fed : List (ℕ × ℕ)) → length fed < 2 ^ 32 - 1 → IsFed old (files before) fed → IsFed new (files now) (fed ++ o ∷ [])
+TookOne files before now old new o = (fed : List (ℕ × ℕ)) → length fed < 2 ^ 32 - 1 → IsFed old (files before) fed →
+    IsFed new (files now) (fed ++ o ∷ [])
 
 -- Run has the bits of the runs of these occurrences
 abbrev pub HasRunBits : Inverting → Option Files → List (ℕ × ℕ) → Type 0

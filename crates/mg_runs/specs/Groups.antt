@@ -10,10 +10,12 @@ pub record IsGroup (entries : List (List ℕ)) (from next : ℕ) : Type 0 where
   pub head : TermPosting
   pub term : head.term ≡ (entry_in (slice_index_or entries from [])).term
   pub doc : head.doc ≡ (entry_in (slice_index_or entries from [])).doc
-  pub one : gathered (map entry_in (drop from entries)) ≡ with_count head (next - from) ∷ gathered (map entry_in (drop next entries))
+  pub one : gathered (map entry_in (drop from entries)) ≡ with_count head (next - from) ∷
+      gathered (map entry_in (drop next entries))
 
 -- the entries up to here are like the first
 pub record IsLike (entries : List (List ℕ)) (from next : ℕ) (term doc : ℕ) : Type 0 where
   pub after : from < next
-  pub added : gathered (map entry_in (drop from entries)) ≡ added_times (next - from) (record { term = term; doc = doc; count = 1 }) (gathered (map entry_in (drop next entries)))
+  pub added : gathered (map entry_in (drop from entries)) ≡ added_times (next - from)
+      (record { term = term; doc = doc; count = 1 }) (gathered (map entry_in (drop next entries)))
   pub within : next ≤ length entries

@@ -20,7 +20,8 @@ use Rattle.mg_runs.specs.declared.join.Counted.{Counted}
 use Rattle.mg_runs.specs.declared.round.Joined.{Joined}
 
 -- calls that read this part alone, and write to the file of this name alone
-pub record Passed (part : Part) (name : List ℕ) (files_before files_now : Option Files) (reads_before reads_now : Reads) (faults_before faults_now : ℕ) : Type 0 where
+pub record Passed (part : Part) (name : List ℕ) (files_before files_now : Option Files) (reads_before reads_now : Reads)
+    (faults_before faults_now : ℕ) : Type 0 where
   pub told : is_some files_now ≡ is_some files_before
   pub others : (n : List ℕ) → n ≢ name → file_at files_now n ≡ file_at files_before n
   pub later : (p : Part) → reads_before p ≤ reads_now p
@@ -28,7 +29,8 @@ pub record Passed (part : Part) (name : List ℕ) (files_before files_now : Opti
   pub faults : faults_before ≤ faults_now
 
 -- Of these bits those up to a posting are written, and those of the postings that are left are not.
-pub record IsPutting (slots : List (List ℕ)) (cursors : List Cursor) (file : List ℕ) (files_before files_now : Option Files) (old new : BitWriting) (last : TermPosting) (bits : Bits) : Type 0 where
+pub record IsPutting (slots : List (List ℕ)) (cursors : List Cursor) (file : List ℕ)
+    (files_before files_now : Option Files) (old new : BitWriting) (last : TermPosting) (bits : Bits) : Type 0 where
   pub left : List TermPosting
   pub has : AreLeft slots cursors file left
   pub done : Bits
@@ -39,23 +41,28 @@ pub record IsPutting (slots : List (List ℕ)) (cursors : List Cursor) (file : L
   pub room : new.place + 256 * length left ≤ 2 ^ 61
 
 -- One more posting is written, or there was none left.
-abbrev pub IsPut : List (List ℕ) → List Cursor → List ℕ → Option Files → Option Files → BitWriting → BitWriting → Option TermPosting → Bits → Type 0
+abbrev pub IsPut : List (List ℕ) → List Cursor → List ℕ → Option Files → Option Files → BitWriting → BitWriting →
+    Option TermPosting → Bits → Type 0
 IsPut slots cursors file files_before files_now old new None bits = WroteBits old new files_before files_now bits
-IsPut slots cursors file files_before files_now old new (Some last) bits = IsPutting slots cursors file files_before files_now old new last bits
+IsPut slots cursors file files_before files_now old new (Some last) bits =
+    IsPutting slots cursors file files_before files_now old new last bits
 
 -- so many of the postings that were left are counted
-pub record IsCounting (slots : List (List ℕ)) (cursors : List Cursor) (file : List ℕ) (left : List TermPosting) (count : ℕ) : Type 0 where
+pub record IsCounting (slots : List (List ℕ)) (cursors : List Cursor) (file : List ℕ) (left : List TermPosting)
+    (count : ℕ) : Type 0 where
   pub has : AreLeft slots cursors file (drop count left)
   pub within : count ≤ length left
 
 -- The groups of runs before this one are joined behind what was written before: so many bits were written, and the joined runs begin at these places.
-pub record IsJoining (width : ℕ) (runs : List (List TermPosting)) (at : ℕ) (places : List ℕ) (files_before files_now : Option Files) (old new : BitWriting) : Type 0 where
+pub record IsJoining (width : ℕ) (runs : List (List TermPosting)) (at : ℕ) (places : List ℕ)
+    (files_before files_now : Option Files) (old new : BitWriting) : Type 0 where
   pub bits : Bits
   pub joined : AreJoined width runs at bits places
   pub wrote : WroteBits old new files_before files_now bits
 
 -- All groups are joined.
-pub record IsJoined (width : ℕ) (runs : List (List TermPosting)) (places : List ℕ) (files_before files_now : Option Files) (old new : BitWriting) : Type 0 where
+pub record IsJoined (width : ℕ) (runs : List (List TermPosting)) (places : List ℕ)
+    (files_before files_now : Option Files) (old new : BitWriting) : Type 0 where
   pub wrote : WroteBits old new files_before files_now (runs_bits (joined_runs width runs))
   pub stand : places ≡ starts 0 (joined_runs width runs)
 
@@ -70,23 +77,29 @@ pub record IsRunPart (part : Part) : Type 0 where
   pub high : number part ≤ 12
 
 -- calls that read the parts of the runs of a base alone, and write to their files alone
-pub record Worked (base : List ℕ) (files_before files_now : Option Files) (reads_before reads_now : Reads) (faults_before faults_now : ℕ) : Type 0 where
+pub record Worked (base : List ℕ) (files_before files_now : Option Files) (reads_before reads_now : Reads)
+    (faults_before faults_now : ℕ) : Type 0 where
   pub told : is_some files_now ≡ is_some files_before
-  pub others : (n : List ℕ) → n ≢ full_name base Run → n ≢ full_name base MergeA → n ≢ full_name base MergeB → file_at files_now n ≡ file_at files_before n
+  pub others : (n : List ℕ) → n ≢ full_name base Run → n ≢ full_name base MergeA → n ≢ full_name base MergeB →
+      file_at files_now n ≡ file_at files_before n
   pub later : (p : Part) → reads_before p ≤ reads_now p
-  pub reads : (p : Part) → same_part p Run ≡ false → same_part p MergeA ≡ false → same_part p MergeB ≡ false → reads_now p ≡ reads_before p
+  pub reads : (p : Part) → same_part p Run ≡ false → same_part p MergeA ≡ false → same_part p MergeB ≡ false →
+      reads_now p ≡ reads_before p
   pub faults : faults_before ≤ faults_now
 
 -- these postings, the first of a run, were written
-abbrev pub WrotePostings : {X : Type 0} → (X → Option Files) → X → X → BitWriting → BitWriting → List TermPosting → Type 0
+abbrev pub WrotePostings : {X : Type 0} → (X → Option Files) → X → X → BitWriting → BitWriting → List TermPosting →
+    Type 0
 WrotePostings files before now old new xs = WroteBits old new (files before) (files now) (postings_bits before_first xs)
 
 -- these runs, merged into one that ends at a byte, were written
-abbrev pub WroteRun : {X : Type 0} → (X → Option Files) → X → X → BitWriting → BitWriting → List (List TermPosting) → Type 0
+abbrev pub WroteRun : {X : Type 0} → (X → Option Files) → X → X → BitWriting → BitWriting → List (List TermPosting) →
+    Type 0
 WroteRun files before now old new runs = WroteBits old new (files before) (files now) (filled (run_bits (merged runs)))
 
 -- at `Ok` these runs were written as that one
-abbrev pub WritesRun : {X T E : Type 0} → (X → Option Files) → X → X → BitWriting → BitWriting → Result T E → List (List TermPosting) → Type 0
+abbrev pub WritesRun : {X T E : Type 0} → (X → Option Files) → X → X → BitWriting → BitWriting → Result T E →
+    List (List TermPosting) → Type 0
 WritesRun files before now old new result runs = OnOk result (WroteRun files before now old new runs)
 
 -- so many postings were counted as these runs have, merged
@@ -94,5 +107,7 @@ abbrev pub Counts : Counted → List (List TermPosting) → Type 0
 Counts counted runs = counted.count ≡ length (merged runs)
 
 -- the groups of these runs were joined into runs that were written, and begin at the places that were made
-abbrev pub GroupsJoined : {X : Type 0} → ℕ → List (List TermPosting) → (X → Option Files) → X → X → BitWriting → BitWriting → Joined → Type 0
-GroupsJoined width runs files before now old new made = IsJoined width runs made.places.items (files before) (files now) old new
+abbrev pub GroupsJoined : {X : Type 0} → ℕ → List (List TermPosting) → (X → Option Files) → X → X → BitWriting →
+    BitWriting → Joined → Type 0
+GroupsJoined width runs files before now old new made = IsJoined width runs made.places.items (files before) (files now)
+    old new

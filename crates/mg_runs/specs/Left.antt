@@ -31,7 +31,8 @@ pub record IsOpen (group : Group) (files : Option Files) (base : List ℕ) (left
   pub shape : IsShaped group.pool.slots group.cursors.items group.tournament
   pub same_base : group.file.base.now ≡ base
   pub part : IsRunPart group.file.part
-  pub told : IsSome files → AreLeft group.pool.slots group.cursors.items (bytes_at files (full_name group.file.base.now group.file.part)) left
+  pub told : IsSome files → AreLeft group.pool.slots group.cursors.items
+      (bytes_at files (full_name group.file.base.now group.file.part)) left
 
 abbrev pub IsLeftIn : Option Group → Option Files → List ℕ → List TermPosting → Type 0
 IsLeftIn None files base left = IsSome files → left ≡ []

@@ -13,7 +13,8 @@ use Rattle.mg_runs.specs.Left.{IsMerging, Merging, postings_left}
 use Rattle.mg_runs.specs.Steps.{WorkStep}
 
 -- the runs of what was taken are merged, at most so many at a time
-pub record RunsMerged (width : ℕ) (old : Inverting) (result : Result Merging PartErr) (files_before files_now : Option Files)
+pub record RunsMerged (width : ℕ) (old : Inverting) (result : Result Merging PartErr)
+    (files_before files_now : Option Files)
     (reads_before reads_now : Reads) (faults_before faults_now : ℕ) : Type 0 where
   -- all postings of what was taken are left
   pub left : ForFed old files_before (λ fed. IfOk result (λ merge. IsMerging merge files_now (term_postings fed)))
@@ -21,9 +22,11 @@ pub record RunsMerged (width : ℕ) (old : Inverting) (result : Result Merging P
   pub run : IsSome files_before → ForFed old files_before (λ fed. OnOk result (HasRunBits old files_now fed))
   pub run_bytes : IsSome files_before → ForFed old files_before (λ fed. OnOk result (HasRunBytes old files_now fed))
   -- how many these are
-  pub runs : ForFed old files_before (λ fed. IfOk result (λ merge. merge.runs ≡ run_count (length fed) (cap_of old.pool)))
+  pub runs : ForFed old files_before (λ fed.
+      IfOk result (λ merge. merge.runs ≡ run_count (length fed) (cap_of old.pool)))
   -- the greatest use of the pool
-  pub peak : ForFed old files_before (λ fed. IfOk result (λ merge. merge.peak ≡ peak_of (length fed) (cap_of old.pool) width))
+  pub peak : ForFed old files_before (λ fed.
+      IfOk result (λ merge. merge.peak ≡ peak_of (length fed) (cap_of old.pool) width))
   -- a loop over what is left ends
   pub few : IfOk result (λ merge. postings_left merge ≤ 2 ^ 56)
   -- the base stays

@@ -45,15 +45,18 @@ pub record IsShaped (slots : List (List ℕ)) (cursors : List Cursor) (keys : Li
   pub postings : All (λ c. HasPosting c) cursors
 
 -- each cursor stands for what is left of its run
-pub record StandFor (slots : List (List ℕ)) (cursors : List Cursor) (file : List ℕ) (lefts : List (List TermPosting)) : Type 0 where
+pub record StandFor (slots : List (List ℕ)) (cursors : List Cursor) (file : List ℕ) (lefts : List (List TermPosting)) :
+    Type 0 where
   pub size : length lefts ≡ length cursors
-  pub at : (k : ℕ) → k < length cursors → IsAt (slice_index_or cursors k no_cursor) (slice_index_or slots k []) file (slice_index_or lefts k [])
+  pub at : (k : ℕ) → k < length cursors → IsAt (slice_index_or cursors k no_cursor) (slice_index_or slots k []) file
+      (slice_index_or lefts k [])
   pub runs : All (λ left. IsRun left) lefts
 
 -- the least first posting of all, and whose it is; None where nothing is left
 abbrev pub IsHead : Option (ℕ × TermPosting) → List (List TermPosting) → Type 0
 IsHead None lefts = (k : ℕ) → slice_index_or lefts k [] ≡ []
-IsHead (Some head) lefts = (first (slice_index_or lefts head.0 []) ≡ Some head.1) × ((k : ℕ) → AllFrom head.1 (slice_index_or lefts k []))
+IsHead (Some head) lefts = (first (slice_index_or lefts head.0 []) ≡ Some head.1)
+    × ((k : ℕ) → AllFrom head.1 (slice_index_or lefts k []))
 
 -- so many of the posting's term and document were taken, and nothing before it is left
 pub record IsTaking (p : TermPosting) (old new : List (List TermPosting)) (count : ℕ) : Type 0 where
@@ -66,26 +69,30 @@ abbrev pub left_together : List Cursor → ℕ
 left_together cursors = sum_by (λ c. c.left) cursors
 
 -- the postings that are left of all runs, merged
-pub record AreLeft (slots : List (List ℕ)) (cursors : List Cursor) (file : List ℕ) (left : List TermPosting) : Type 0 where
-  pub lefts : List (List TermPosting)
-  pub stand : StandFor slots cursors file lefts
-  pub are : AreRuns lefts
-  pub same : merged lefts ≡ left
+pub record AreLeft (slots : List (List ℕ)) (cursors : List Cursor) (file : List ℕ) (left : List TermPosting) : Type 0
+  where
+    pub lefts : List (List TermPosting)
+    pub stand : StandFor slots cursors file lefts
+    pub are : AreRuns lefts
+    pub same : merged lefts ≡ left
 
 -- the run whose first posting has the term and document of this one, with its count; None where no run has one
 abbrev pub IsAlike : TermPosting → List (List TermPosting) → Option (ℕ × ℕ) → Type 0
 IsAlike p lefts None = (k : ℕ) → AllAfter p (slice_index_or lefts k [])
-IsAlike p lefts (Some found) = (y : TermPosting) × (first (slice_index_or lefts found.0 []) ≡ Some y) × (y.term ≡ p.term) × (y.doc ≡ p.doc) × (y.count ≡ found.1)
+IsAlike p lefts (Some found) = (y : TermPosting) × (first (slice_index_or lefts found.0 []) ≡ Some y)
+    × (y.term ≡ p.term) × (y.doc ≡ p.doc) × (y.count ≡ found.1)
 
 -- this posting comes first of all that was left, and what is left now follows it
-pub record IsMerged (slots : List (List ℕ)) (cursors : List Cursor) (file : List ℕ) (base : List (List TermPosting)) (p : TermPosting) : Type 0 where
+pub record IsMerged (slots : List (List ℕ)) (cursors : List Cursor) (file : List ℕ) (base : List (List TermPosting))
+    (p : TermPosting) : Type 0 where
   pub lefts : List (List TermPosting)
   pub stand : StandFor slots cursors file lefts
   pub are : AreRuns lefts
   pub same : merged base ≡ p ∷ merged lefts
 
 -- the posting's count so far, and what is left
-pub record IsGathering (slots : List (List ℕ)) (cursors : List Cursor) (file : List ℕ) (p : TermPosting) (base : List (List TermPosting)) (count : ℕ) : Type 0 where
+pub record IsGathering (slots : List (List ℕ)) (cursors : List Cursor) (file : List ℕ) (p : TermPosting)
+    (base : List (List TermPosting)) (count : ℕ) : Type 0 where
   pub lefts : List (List TermPosting)
   pub stand : StandFor slots cursors file lefts
   pub taking : IsTaking p base lefts count
@@ -97,8 +104,10 @@ pub record AreRunsAt (file places : List ℕ) (runs : List (List TermPosting)) :
   pub at : (k : ℕ) → k < length places → IsRunAt file (slice_index places k) (slice_index_or runs k [])
 
 -- the first so many cursors are at the first postings of their runs
-pub record AreOpen (slots : List (List ℕ)) (cursors : List Cursor) (file : List ℕ) (runs : List (List TermPosting)) (seen : ℕ) : Type 0 where
-  pub at : (k : ℕ) → k < seen → IsAt (slice_index_or cursors k no_cursor) (slice_index_or slots k []) file (slice_index_or runs k [])
+pub record AreOpen (slots : List (List ℕ)) (cursors : List Cursor) (file : List ℕ) (runs : List (List TermPosting))
+    (seen : ℕ) : Type 0 where
+  pub at : (k : ℕ) → k < seen → IsAt (slice_index_or cursors k no_cursor) (slice_index_or slots k []) file
+      (slice_index_or runs k [])
 
 -- those of all places are
 abbrev pub AllOpen : List (List ℕ) → List Cursor → List ℕ → List (List TermPosting) → List ℕ → Type 0

@@ -47,26 +47,34 @@ abbrev pub GroupGathering : Group → List ℕ → TermPosting → List (List Te
 GroupGathering group bytes p base count = IsGathering group.pool.slots group.cursors.items bytes p base count
 
 -- by these bytes, the postings that are left of a group are still to be written behind this one
-abbrev pub GroupPutting : Group → List ℕ → Option Files → Option Files → BitWriting → BitWriting → TermPosting → Bits → Type 0
-GroupPutting group bytes files_before files_now old new last bits = IsPutting group.pool.slots group.cursors.items bytes files_before files_now old new last bits
+abbrev pub GroupPutting : Group → List ℕ → Option Files → Option Files → BitWriting → BitWriting → TermPosting → Bits →
+    Type 0
+GroupPutting group bytes files_before files_now old new last bits =
+    IsPutting group.pool.slots group.cursors.items bytes files_before files_now old new last bits
 
 -- by these bytes, one more posting of a group is written, or there was none left
-abbrev pub GroupPut : Group → List ℕ → Option Files → Option Files → BitWriting → BitWriting → Option TermPosting → Bits → Type 0
-GroupPut group bytes files_before files_now old new put bits = IsPut group.pool.slots group.cursors.items bytes files_before files_now old new put bits
+abbrev pub GroupPut : Group → List ℕ → Option Files → Option Files → BitWriting → BitWriting → Option TermPosting →
+    Bits → Type 0
+GroupPut group bytes files_before files_now old new put bits = IsPut group.pool.slots group.cursors.items bytes
+    files_before files_now old new put bits
 
 -- ---- where the files are told, and by the bytes of a file
 
 -- for each posting that a cursor may be at in a file, with those after it
-abbrev pub ForPosting : Cursor → Pooled → ℕ → FileRef → Option Files → (List ℕ → TermPosting → List TermPosting → Type 0) → Type 0
-ForPosting cursor pool slot file files claim = IsSome files → (x : TermPosting) (xs : List TermPosting) → IsAtPostingBy pool slot (file_bytes file files) x xs cursor → claim (file_bytes file files) x xs
+abbrev pub ForPosting : Cursor → Pooled → ℕ → FileRef → Option Files →
+    (List ℕ → TermPosting → List TermPosting → Type 0) → Type 0
+ForPosting cursor pool slot file files claim = IsSome files → (x : TermPosting) (xs : List TermPosting) →
+    IsAtPostingBy pool slot (file_bytes file files) x xs cursor → claim (file_bytes file files) x xs
 
 -- for each run that begins at this place of a file
 abbrev pub ForRun : ℕ → FileRef → Option Files → (List ℕ → List TermPosting → Type 0) → Type 0
-ForRun place file files claim = IsSome files → (xs : List TermPosting) → IsRunAt (file_bytes file files) place xs → claim (file_bytes file files) xs
+ForRun place file files claim = IsSome files → (xs : List TermPosting) → IsRunAt (file_bytes file files) place xs →
+    claim (file_bytes file files) xs
 
 -- for all runs that begin at these places of a file
 abbrev pub ForRuns : FileRef → Option Files → List ℕ → (List ℕ → List (List TermPosting) → Type 0) → Type 0
-ForRuns file files places claim = IsSome files → (runs : List (List TermPosting)) → AreRunsAt (file_bytes file files) places runs → claim (file_bytes file files) runs
+ForRuns file files places claim = IsSome files → (runs : List (List TermPosting)) →
+    AreRunsAt (file_bytes file files) places runs → claim (file_bytes file files) runs
 
 -- for all of them that may be joined and written as one run behind so many bits
 abbrev pub ForGroup : FileRef → Option Files → List ℕ → ℕ → (List (List TermPosting) → Type 0) → Type 0
@@ -74,27 +82,36 @@ ForGroup file files places behind claim = ForRuns file files places (λ _ runs. 
 
 -- for those that have as many postings, merged, as were counted
 abbrev pub ForCounted : Counted → FileRef → Option Files → List ℕ → ℕ → (List (List TermPosting) → Type 0) → Type 0
-ForCounted counted file files places behind claim = ForGroup file files places behind (λ runs. Counts counted runs → claim runs)
+ForCounted counted file files places behind claim = ForGroup file files places behind
+    (λ runs. Counts counted runs → claim runs)
 
 -- for all runs that a file has one after another, at these places
 abbrev pub ForStored : FileRef → Option Files → List ℕ → (List (List TermPosting) → Type 0) → Type 0
-ForStored file files places claim = IsSome files → (whole : List TermPosting) (is : AreStored (file_bytes file files) places whole) → claim is.runs
+ForStored file files places claim = IsSome files →
+    (whole : List TermPosting) (is : AreStored (file_bytes file files) places whole) → claim is.runs
 
 -- for what may be left of a group's runs, of which this one has a posting: what is left of them without that posting
 abbrev pub ForStep : ℕ → Group → Option Files → (List ℕ → List (List TermPosting) → Type 0) → Type 0
-ForStep run group files claim = IsSome files → (lefts : List (List TermPosting)) (x : TermPosting) (xs : List TermPosting) → GroupStands group (file_bytes group.file files) lefts → slice_index_or lefts run [] ≡ x ∷ xs → claim (file_bytes group.file files) (slice_set lefts run xs)
+ForStep run group files claim = IsSome files →
+    (lefts : List (List TermPosting)) (x : TermPosting) (xs : List TermPosting) →
+    GroupStands group (file_bytes group.file files) lefts → slice_index_or lefts run [] ≡ x ∷ xs →
+    claim (file_bytes group.file files) (slice_set lefts run xs)
 
 -- for what may have been left of a group's runs before this posting was taken from one of them
 abbrev pub ForTaken : TermPosting → Group → Option Files → (List ℕ → List (List TermPosting) → Type 0) → Type 0
-ForTaken p group files claim = IsSome files → (base lefts : List (List TermPosting)) → GroupStands group (file_bytes group.file files) lefts → IsTaking p base lefts p.count → AreRuns base → claim (file_bytes group.file files) base
+ForTaken p group files claim = IsSome files → (base lefts : List (List TermPosting)) →
+    GroupStands group (file_bytes group.file files) lefts → IsTaking p base lefts p.count → AreRuns base →
+    claim (file_bytes group.file files) base
 
 -- for all postings that may be left of a group's runs, merged
 abbrev pub ForLeft : Group → Option Files → (List ℕ → List TermPosting → Type 0) → Type 0
-ForLeft group files claim = IsSome files → (left : List TermPosting) → GroupHas group (file_bytes group.file files) left → claim (file_bytes group.file files) left
+ForLeft group files claim = IsSome files → (left : List TermPosting) →
+    GroupHas group (file_bytes group.file files) left → claim (file_bytes group.file files) left
 
 -- for all of them that are a run which has room behind so many bits
 abbrev pub ForLeftRunAt : Group → Option Files → ℕ → (List ℕ → List TermPosting → Type 0) → Type 0
-ForLeftRunAt group files behind claim = ForLeft group files (λ bytes left. IsRun left → behind + 256 * length left ≤ 2 ^ 61 → claim bytes left)
+ForLeftRunAt group files behind claim = ForLeft group files (λ bytes left. IsRun left →
+    behind + 256 * length left ≤ 2 ^ 61 → claim bytes left)
 
 -- whatever the bytes
 abbrev pub ForLeftRun : Group → Option Files → ℕ → (List TermPosting → Type 0) → Type 0
@@ -109,7 +126,9 @@ pub record PutStart : Type 0 where
 
 -- for all that may have stood before a group's postings were put, of which this was the last
 abbrev pub ForPutting : TermPosting → Group → Option Files → BitWriting → (PutStart → Type 0) → Type 0
-ForPutting last group files writer claim = IsSome files → (first : Option Files) (before : BitWriting) (bits : Bits) → GroupPutting group (file_bytes group.file files) first files before writer last bits → claim (record { bytes = file_bytes group.file files; files = first; writer = before; bits = bits })
+ForPutting last group files writer claim = IsSome files → (first : Option Files) (before : BitWriting) (bits : Bits) →
+    GroupPutting group (file_bytes group.file files) first files before writer last bits →
+    claim (record { bytes = file_bytes group.file files; files = first; writer = before; bits = bits })
 
 -- since then one more posting of the group is written, or there was none left
 abbrev pub PutSince : PutStart → Group → Option Files → BitWriting → Option TermPosting → Type 0

@@ -42,12 +42,13 @@ pub record AreStored (file places : List ℕ) (whole : List TermPosting) : Type 
   pub same : merged runs ≡ whole
 
 -- The runs before this one are joined in groups of so many: what was written of them, and where each joined run begins.
-pub record AreJoined (width : ℕ) (runs : List (List TermPosting)) (at : ℕ) (bits : Bits) (places : List ℕ) : Type 0 where
-  pub count : ℕ
-  pub next : at ≡ min (count * width) (length runs)
-  pub last : count * width < length runs + width
-  pub written : bits ≡ runs_bits (first_joined width count runs)
-  pub stand : places ≡ starts 0 (first_joined width count runs)
+pub record AreJoined (width : ℕ) (runs : List (List TermPosting)) (at : ℕ) (bits : Bits) (places : List ℕ) : Type 0
+  where
+    pub count : ℕ
+    pub next : at ≡ min (count * width) (length runs)
+    pub last : count * width < length runs + width
+    pub written : bits ≡ runs_bits (first_joined width count runs)
+    pub stand : places ≡ starts 0 (first_joined width count runs)
 
 -- This group of runs may be joined and written as one run behind so many bits.
 pub record IsGroupAt (group : List (List TermPosting)) (place : ℕ) : Type 0 where

@@ -46,7 +46,8 @@ pub record LookStep {T : Type 0} (part : Part) (result : Result T PartErr) (file
   pub names : IfErr result (NamesPart part)
 
 -- a step that reads bytes of this part into one slot of a pool
-pub record SlotStep {T : Type 0} (slot : ℕ) (part : Part) (old new : Pooled) (result : Result T PartErr) (files_before files_now : Option Files)
+pub record SlotStep {T : Type 0} (slot : ℕ) (part : Part) (old new : Pooled) (result : Result T PartErr)
+    (files_before files_now : Option Files)
     (reads_before reads_now : Reads) (faults_before faults_now : ℕ) : Type 0 where
   -- no other slot has changed
   pub slots : ChangesOneSlot slot old.slots new.slots
@@ -100,7 +101,8 @@ pub record PoolBack (count : ℕ) (old new : Pooled) : Type 0 where
 -- ---- what it writes
 
 -- a step that reads this part alone, and writes to the file of this name alone
-pub record PassStep {T : Type 0} (part : Part) (name : List ℕ) (result : Result T PartErr) (files_before files_now : Option Files)
+pub record PassStep {T : Type 0} (part : Part) (name : List ℕ) (result : Result T PartErr)
+    (files_before files_now : Option Files)
     (reads_before reads_now : Reads) (faults_before faults_now : ℕ) : Type 0 where
   -- no other file was written, and no other part read
   pub passed : Passed part name files_before files_now reads_before reads_now faults_before faults_now
@@ -110,7 +112,8 @@ pub record PassStep {T : Type 0} (part : Part) (name : List ℕ) (result : Resul
   pub names : IfErr result (NamesPart part)
 
 -- a step that reads this part, and puts bits with a writer
-pub record WriterStep {T : Type 0} (part : Part) (old new : BitWriting) (result : Result T PartErr) (files_before files_now : Option Files)
+pub record WriterStep {T : Type 0} (part : Part) (old new : BitWriting) (result : Result T PartErr)
+    (files_before files_now : Option Files)
     (reads_before reads_now : Reads) (faults_before faults_now : ℕ) : Type 0 where
   -- when it is done, the writer stands for its file
   pub holds : OnOk result (Holds new files_now)
@@ -121,16 +124,19 @@ pub record WriterStep {T : Type 0} (part : Part) (old new : BitWriting) (result 
 
 -- a step that reads the runs of a group, and puts bits with a writer
 pub record GroupWrite {T : Type 0} (old new : Group) (writer_old writer_new : BitWriting) (result : Result T PartErr)
-    (files_before files_now : Option Files) (reads_before reads_now : Reads) (faults_before faults_now : ℕ) : Type 0 where
-  -- the pool is as before, but for what its slots hold
-  pub pool : SamePool old.pool new.pool
-  -- the file that is read stays
-  pub file : new.file ≡ old.file
-  -- the writer, and the rest of the store
-  pub writer : WriterStep old.file.part writer_old writer_new result files_before files_now reads_before reads_now faults_before faults_now
+    (files_before files_now : Option Files) (reads_before reads_now : Reads) (faults_before faults_now : ℕ) : Type 0
+  where
+    -- the pool is as before, but for what its slots hold
+    pub pool : SamePool old.pool new.pool
+    -- the file that is read stays
+    pub file : new.file ≡ old.file
+    -- the writer, and the rest of the store
+    pub writer : WriterStep old.file.part writer_old writer_new result files_before files_now reads_before reads_now
+        faults_before faults_now
 
 -- a step that reads this part, and writes whole runs
-pub record RunStep {T : Type 0} (part : Part) (old new : BitWriting) (result : Result T PartErr) (files_before files_now : Option Files)
+pub record RunStep {T : Type 0} (part : Part) (old new : BitWriting) (result : Result T PartErr)
+    (files_before files_now : Option Files)
     (reads_before reads_now : Reads) (faults_before faults_now : ℕ) : Type 0 where
   -- where the writer stands is no further than a run may go
   pub place : OnOk result (new.place ≤ 2 ^ 61 + 264)

@@ -5,7 +5,9 @@ use Rattle.std.specs.Prelude.{◌≡◌, ◌≤◌, ◌<◌, ◌+◌, ◌*◌, �
 pub record IsNode (keys winners : List ℕ) (i : ℕ) : Type 0 where
   pub left : slice_index keys i ≤ slice_index keys (2 * i)
   pub right : slice_index keys i ≤ slice_index keys (2 * i + 1)
-  pub from : ((slice_index keys i ≡ slice_index keys (2 * i)) × (slice_index winners i ≡ slice_index winners (2 * i))) ⊎ ((slice_index keys i ≡ slice_index keys (2 * i + 1)) × (slice_index winners i ≡ slice_index winners (2 * i + 1)))
+  pub from : ((slice_index keys i ≡ slice_index keys (2 * i)) × (slice_index winners i ≡ slice_index winners (2 * i)))
+      ⊎ ((slice_index keys i ≡ slice_index keys (2 * i + 1))
+      × (slice_index winners i ≡ slice_index winners (2 * i + 1)))
 
 -- all nodes but one are such, and the leaves are the contestants
 pub record IsPlayedBut (hole count : ℕ) (keys winners : List ℕ) : Type 0 where

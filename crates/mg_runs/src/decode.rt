@@ -62,7 +62,8 @@ fn behind(last: &TermPosting, term_gap: u64, doc_gap: u64) -> Option<(u32, u32)>
     requires term { term_gap ≤ 2 ^ 32 }
     requires doc { doc_gap ≤ 2 ^ 32 }
     requires doc_some { 1 ≤ doc_gap }
-    ensures told { ForFollowing last.now (λ x. term_gap ≡ x.term - last.now.term + 1 → doc_gap ≡ gap_of last.now x → result ≡ Some (x.term, x.doc)) }
+    ensures told { ForFollowing last.now (λ x. term_gap ≡ x.term - last.now.term + 1 →
+        doc_gap ≡ gap_of last.now x → result ≡ Some (x.term, x.doc)) }
     ensures doc { IfSome result (λ found. 1 ≤ found.1) }
 {
     let term = u64::from(last.term) + (term_gap - 1);
@@ -80,7 +81,8 @@ fn behind(last: &TermPosting, term_gap: u64, doc_gap: u64) -> Option<(u32, u32)>
 /// The posting whose bits stand at a bit place, behind another posting.
 pub fn posting_in(bytes: &[u8], at: u64, last: &TermPosting) -> Option<Decoded>
     requires place { at ≤ 2 ^ 62 }
-    ensures told { ForFollowing last.now (λ x. (more : Bits) → HasCode bytes.now at (run_posting_bits last.now x) more →
+    ensures told { ForFollowing last.now (λ x. (more : Bits) →
+        HasCode bytes.now at (run_posting_bits last.now x) more →
         result ≡ Some (decoded_at last.now at x)) }
     ensures in_document { IfSome result (λ found. IsInDocument found.posting) }
     ensures next { IfSome result (λ found. found.next ≤ at + 198) }

@@ -24,7 +24,8 @@ pub fn number_at(bytes: &[u8; 12], from: usize) -> u32
 /// Sets the entry after the first so many.
 fn set_entry(bytes: &mut [u8], count: usize, term: u32, doc: u32)
     requires { 12 * count + 12 ≤ length bytes.old }
-    ensures { entries_in (count + 1) bytes.new ≡ entries_in count bytes.old ++ (record { term = term; doc = doc; count = 1 }) ∷ [] }
+    ensures { entries_in (count + 1) bytes.new ≡ entries_in count bytes.old
+        ++ (record { term = term; doc = doc; count = 1 }) ∷ [] }
 {
     let made = entry_bytes(term, doc);
     let at = 12 * count;
@@ -34,7 +35,8 @@ fn set_entry(bytes: &mut [u8], count: usize, term: u32, doc: u32)
 /// The same in a `Vec`.
 pub fn put_entry(bytes: &mut Vec<u8>, count: usize, term: u32, doc: u32)
     requires { 12 * count + 12 ≤ length bytes.old.items }
-    ensures more { entries_in (count + 1) bytes.new.items ≡ entries_in count bytes.old.items ++ (record { term = term; doc = doc; count = 1 }) ∷ [] }
+    ensures more { entries_in (count + 1) bytes.new.items ≡ entries_in count bytes.old.items
+        ++ (record { term = term; doc = doc; count = 1 }) ∷ [] }
     ensures len { length bytes.new.items ≡ length bytes.old.items }
 {
     set_entry(bytes, count, term, doc);

@@ -50,12 +50,15 @@ fn open_all<S: Store>(
     ensures len { IfOk result (λ cursors. length cursors.items ≡ length places.now) }
     ensures slots { length pool.new.slots ≡ length places.now }
     ensures postings { IfOk result (λ cursors. All (λ c. HasPosting c) cursors.items) }
-    ensures total { IfOk result (λ cursors. left_together cursors.items ≤ 2 ^ 32 * length places.now) }
+    ensures total { IfOk result (λ cursors. left_together cursors.items
+        ≤ 2 ^ 32 * length places.now) }
     ensures told { ForRuns file.now (S.files store.old) places.now
-        (λ bytes runs. IfOk result (λ made. AllOpen pool.new.slots made.items bytes runs places.now)) }
+        (λ bytes runs. IfOk result (λ made.
+        AllOpen pool.new.slots made.items bytes runs places.now)) }
     ensures undamaged { ForRuns file.now (S.files store.old) places.now (λ _ _. NoDamage result) }
     ensures pool { SamePool pool.old pool.new }
-    ensures read { Between S.files S.reads S.faults store.old store.new (LookStep file.now.part result) }
+    ensures read { Between S.files S.reads S.faults store.old store.new
+        (LookStep file.now.part result) }
 {
     let mut cursors = match Vec::with_capacity(alloc, places.len()) {
         Ok(made) => made,
@@ -101,13 +104,16 @@ impl<'a> Group<'a> {
     ) -> Result<Self, PartErr>
         requires slots { HasSlots pool (length places.now) }
         ensures shape { IfOk result (λ g. GroupShaped g) }
-        ensures total { IfOk result (λ g. left_together g.cursors.items ≤ 2 ^ 32 * length places.now) }
+        ensures total { IfOk result (λ g. left_together g.cursors.items
+            ≤ 2 ^ 32 * length places.now) }
         ensures told { ForRuns file.entry (S.files store.old) places.now
             (λ bytes runs. IfOk result (λ g. GroupStands g bytes runs)) }
-        ensures undamaged { ForRuns file.entry (S.files store.old) places.now (λ _ _. NoDamage result) }
+        ensures undamaged { ForRuns file.entry (S.files store.old) places.now
+            (λ _ _. NoDamage result) }
         ensures pool { IfOk result (λ g. PoolBack (length places.now) pool g.pool) }
         ensures file { IfOk result (λ g. g.file ≡ file.entry) }
-        ensures read { Between S.files S.reads S.faults store.old store.new (LookStep file.entry.part result) }
+        ensures read { Between S.files S.reads S.faults store.old store.new
+            (LookStep file.entry.part result) }
     {
         pool.use_slots(places.len());
         match open_all(alloc, store, &mut pool, &file, places) {
@@ -176,7 +182,8 @@ impl<'a> Group<'a> {
     /// The run whose posting has this term and document, and how much it counts there.
     fn alike(&self, posting: &TermPosting) -> Option<(u32, u32)>
         requires shape { GroupShaped self.now }
-        ensures some { ForLefts self.now (λ lefts. NoneBefore posting.now lefts → IsAlike posting.now lefts result) }
+        ensures some { ForLefts self.now (λ lefts. NoneBefore posting.now lefts →
+            IsAlike posting.now lefts result) }
         ensures within { IfSome result (λ found. found.0 < length self.now.cursors.items) }
         ensures left { IfSome result
             (λ found. 1 ≤ (slice_index_or self.now.cursors.items found.0 no_cursor).left) }
@@ -197,8 +204,10 @@ impl<'a> Group<'a> {
     ) -> Result<TermPosting, PartErr>
         requires shape { GroupShaped self.old }
         ensures told { ForTaken first.now self.old (S.files store.old)
-            (λ bytes base. 1 ≤ first.now.count → IfOk result (λ p. GroupMerged self.new bytes base p)) }
-        ensures undamaged { ForTaken first.now self.old (S.files store.old) (λ _ _. NoDamage result) }
+            (λ bytes base. 1 ≤ first.now.count →
+            IfOk result (λ p. GroupMerged self.new bytes base p)) }
+        ensures undamaged { ForTaken first.now self.old (S.files store.old)
+            (λ _ _. NoDamage result) }
         ensures doc { IfOk result (λ p. p.doc ≡ first.now.doc) }
         ensures count { IfOk result (λ p. first.now.count ≤ p.count) }
         ensures step { Between S.files S.reads S.faults store.old store.new
@@ -226,7 +235,8 @@ impl<'a> Group<'a> {
     pub fn next<S: Store>(&mut self, store: &mut S) -> Result<Option<TermPosting>, PartErr>
         requires shape { GroupShaped self.old }
         ensures told { ForLeft self.old (S.files store.old)
-            (λ bytes left. IfOk result (λ p. (p ≡ first_of left) × GroupHas self.new bytes (drop 1 left))) }
+            (λ bytes left. IfOk result (λ p. (p ≡ first_of left)
+            × GroupHas self.new bytes (drop 1 left))) }
         ensures undamaged { ForLeft self.old (S.files store.old) (λ _ _. NoDamage result) }
         ensures doc { IfOk result (λ p. IfSome p (λ x. 1 ≤ x.doc)) }
         ensures count { IfOk result (λ p. IfSome p (λ x. 1 ≤ x.count)) }

@@ -28,7 +28,8 @@ const MOST_BITS: u64 = 1 << 61;
 
 /// A writer's refusal as a reader's.
 pub fn refused(refusal: PutErr) -> PartErr
-    ensures cause { (f g : ℕ) → HasPutCause {T = ℕ} f g (Err refusal) → HasPartCause {T = ℕ} f g (Err result) }
+    ensures cause { (f g : ℕ) → HasPutCause {T = ℕ} f g (Err refusal) →
+        HasPartCause {T = ℕ} f g (Err result) }
     ensures undamaged { NoDamage {T = ℕ} (Err result) }
     ensures names { (part : AnyPart) → NamesPart part result }
     ensures names_its { NamesItsPart result }
@@ -67,7 +68,8 @@ fn count_postings<S: Store>(group: &mut Group<'_>, store: &mut S) -> Result<u64,
 
 /// Whether a posting may stand behind another one in a run.
 fn can_follow(last: &TermPosting, posting: &TermPosting) -> bool
-    ensures { IsTrue result ↔ (IsBefore last.now posting.now × (1 ≤ posting.now.doc) × (1 ≤ posting.now.count)) }
+    ensures { IsTrue result ↔ (IsBefore last.now posting.now × (1 ≤ posting.now.doc)
+        × (1 ≤ posting.now.count)) }
 {
     (posting.term > last.term || (posting.term == last.term && posting.doc > last.doc))
         && posting.doc >= 1
@@ -86,7 +88,8 @@ fn put_next<S: Store>(
     ensures shape { OnOk result (GroupShaped group.new) }
     ensures told { ForPutting last.now group.old (S.files store.old) w.old
         (λ from. IfOk result (PutSince from group.new (S.files store.new) w.new)) }
-    ensures undamaged { ForPutting last.now group.old (S.files store.old) w.old (λ _. NoDamage result) }
+    ensures undamaged { ForPutting last.now group.old (S.files store.old) w.old
+        (λ _. NoDamage result) }
     ensures total { IfOk result (λ put. OnSome put
         (left_together group.new.cursors.items < left_together group.old.cursors.items)) }
     ensures place { OnOk result (w.old.place ≤ 2 ^ 61 + 256 → w.new.place ≤ 2 ^ 61 + 256) }
@@ -119,7 +122,8 @@ fn put_postings<S: Store>(
     requires place { w.old.place ≤ 2 ^ 61 + 256 }
     ensures told { ForLeftRun group.old (S.files store.old) w.old.place
         (λ left. OnOk result (WrotePostings S.files store.old store.new w.old w.new left)) }
-    ensures undamaged { ForLeftRun group.old (S.files store.old) w.old.place (λ _. NoDamage result) }
+    ensures undamaged { ForLeftRun group.old (S.files store.old) w.old.place
+        (λ _. NoDamage result) }
     ensures place { OnOk result (w.new.place ≤ 2 ^ 61 + 256) }
     ensures step { Between S.files S.reads S.faults store.old store.new
         (GroupWrite group.old group.new w.old w.new result) }
@@ -160,7 +164,8 @@ fn count_runs<S: Store>(
         (λ _ runs. AreRuns runs → length (merged runs) < 2 ^ 32 → NoDamage result) }
     ensures few { IfOk result (λ made. made.count < 2 ^ 32) }
     ensures pool { IfOk result (λ made. PoolBack (length places.now) pool made.pool) }
-    ensures read { Between S.files S.reads S.faults store.old store.new (LookStep file.entry.part result) }
+    ensures read { Between S.files S.reads S.faults store.old store.new
+        (LookStep file.entry.part result) }
 {
     let mut group = match Group::load(alloc, store, pool, file, places) {
         Ok(group) => group,
@@ -193,7 +198,8 @@ fn put_run<S: Store>(
     requires place { w.old.place ≤ 2 ^ 61 }
     ensures told { ForCounted counted file.entry (S.files store.old) places.now w.old.place
         (WritesRun S.files store.old store.new w.old w.new result) }
-    ensures undamaged { ForGroup file.entry (S.files store.old) places.now w.old.place (λ _. NoDamage result) }
+    ensures undamaged { ForGroup file.entry (S.files store.old) places.now w.old.place
+        (λ _. NoDamage result) }
     ensures pool { IfOk result (λ made. PoolBack (length places.now) counted.pool made) }
     ensures step { Between S.files S.reads S.faults store.old store.new
         (RunStep file.entry.part w.old w.new result) }
@@ -232,7 +238,8 @@ pub fn join<S: Store>(
     requires whole { w.old.place % 8 ≡ 0 }
     ensures told { ForGroup file.entry (S.files store.old) places.now w.old.place
         (WritesRun S.files store.old store.new w.old w.new result) }
-    ensures undamaged { ForGroup file.entry (S.files store.old) places.now w.old.place (λ _. NoDamage result) }
+    ensures undamaged { ForGroup file.entry (S.files store.old) places.now w.old.place
+        (λ _. NoDamage result) }
     ensures pool { IfOk result (λ made. PoolBack (length places.now) pool made) }
     ensures step { Between S.files S.reads S.faults store.old store.new
         (RunStep file.entry.part w.old w.new result) }

@@ -12,6 +12,8 @@ ghost use Rattle.mg_runs.specs.Stays.{SamePart, Stays};
 /// runs as long as Run does, and what is left of a merge as long as Run, MergeA and MergeB do. Other
 /// parts of the store may change.
 pub fn runs_stay()
-    ensures fed { (runs : Inverting) (f g : Option Files) (fed : List (ℕ × ℕ)) → Stays f g (SamePart runs.base Run) (λ files. IsFed runs files fed) }
-    ensures left { (merge : Merging) (f g : Option Files) (left : List TermPosting) → Stays f g (SameRuns merge.base) (λ files. IsMerging merge files left) }
+    ensures fed { (runs : Inverting) (f g : Option Files) (fed : List (ℕ × ℕ)) →
+        Stays f g (SamePart runs.base Run) (λ files. IsFed runs files fed) }
+    ensures left { (merge : Merging) (f g : Option Files) (left : List TermPosting) →
+        Stays f g (SameRuns merge.base) (λ files. IsMerging merge files left) }
 {}

@@ -51,13 +51,15 @@ impl<'a> Merge<'a> {
         requires limit { round.pool.limit ≤ 2 ^ 30 }
         requires entries { round.pool.entries ≡ [] }
         requires part { IsRunPart round.file.part }
-        ensures left { (whole : List TermPosting) → RoundTells round.entry (S.files store.old) whole →
+        ensures left { (whole : List TermPosting) →
+            RoundTells round.entry (S.files store.old) whole →
             IfOk result (λ made. IsMerging made (S.files store.new) whole) }
         ensures undamaged { ForRound round.entry (S.files store.old) (λ _. NoDamage result) }
         ensures few { IfOk result (λ merge. postings_left merge ≤ 2 ^ 56) }
         ensures base { IfOk result (λ merge. merge.base ≡ round.entry.file.base.now) }
         ensures runs { IfOk result (λ merge. merge.runs ≡ runs) }
-        ensures peak { IfOk result (λ merge. merge.peak ≡ max round.entry.pool.peak (64 * length round.entry.places.items)) }
+        ensures peak { IfOk result (λ merge. merge.peak ≡
+            max round.entry.pool.peak (64 * length round.entry.places.items)) }
         ensures read { Between S.files S.reads S.faults store.old store.new
             (LookStep round.entry.file.part result) }
     {
@@ -89,11 +91,15 @@ impl<'a> Merge<'a> {
     /// left.
     pub fn next<S: Store>(&mut self, store: &mut S) -> Result<Option<TermPosting>, PartErr>
         requires left { (left : List TermPosting) × IsMerging self.old (S.files store.old) left }
-        ensures told { IsSome (S.files store.old) → ForMerging self.old (S.files store.old) (λ left. IfOk result (λ posting. posting ≡ first_of left)) }
-        ensures left { ForMerging self.old (S.files store.old) (λ left. OnOk result (IsMerging self.new (S.files store.new) (drop 1 left))) }
+        ensures told { IsSome (S.files store.old) →
+            ForMerging self.old (S.files store.old) (λ left.
+            IfOk result (λ posting. posting ≡ first_of left)) }
+        ensures left { ForMerging self.old (S.files store.old)
+            (λ left. OnOk result (IsMerging self.new (S.files store.new) (drop 1 left))) }
         ensures doc { IfOk result (λ posting. IfSome posting (λ p. 1 ≤ p.doc)) }
         ensures count { IfOk result (λ posting. IfSome posting (λ p. 1 ≤ p.count)) }
-        ensures fall { IfOk result (λ posting. OnSome posting (postings_left self.new < postings_left self.old)) }
+        ensures fall { IfOk result (λ posting.
+            OnSome posting (postings_left self.new < postings_left self.old)) }
         ensures rest { postings_left self.new ≤ postings_left self.old }
         ensures undamaged { IsSome (S.files store.old) → NoDamage result }
         ensures memory { NoMemory result }
@@ -104,7 +110,8 @@ impl<'a> Merge<'a> {
         ensures runs { self.new.runs ≡ self.old.runs }
         ensures peak { self.new.peak ≡ self.old.peak }
         ensures files { S.files store.new ≡ S.files store.old }
-        ensures worked { Between S.files S.reads S.faults store.old store.new (Worked self.old.base) }
+        ensures worked { Between S.files S.reads S.faults store.old store.new
+            (Worked self.old.base) }
         ensures cause { HasPartCause (S.faults store.old) (S.faults store.new) result }
     {
         match &mut self.group {

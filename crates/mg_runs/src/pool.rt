@@ -49,7 +49,8 @@ impl Pool {
     pub fn new(alloc: Global, budget: u64) -> Result<Self, AllocError>
         requires least { 4096 ≤ budget }
         requires most { budget ≤ 2 ^ 30 }
-        ensures { IfOk result (λ p. p ≡ record { entries = []; slots = []; peak = 0; limit = budget }) }
+        ensures { IfOk result (λ p. p
+            ≡ record { entries = []; slots = []; peak = 0; limit = budget }) }
     {
         let bytes = vec![in alloc; 0; budget as usize]?;
         Ok(Pool {
@@ -111,7 +112,8 @@ impl Pool {
     pub fn push(&mut self, term: u32, doc: u32)
         requires room { length self.old.entries < self.old.limit / 12 }
         requires entries { self.old.slots ≡ [] }
-        ensures entries { self.new.entries ≡ self.old.entries ++ (record { term = term; doc = doc; count = 1 }) ∷ [] }
+        ensures entries { self.new.entries ≡ self.old.entries
+            ++ (record { term = term; doc = doc; count = 1 }) ∷ [] }
         ensures slots { self.new.slots ≡ [] }
         ensures peak { self.new.peak ≡ max self.old.peak (used self.new) }
         ensures limit { self.new.limit ≡ self.old.limit }
@@ -148,8 +150,10 @@ impl Pool {
         ensures entries { self.old.entries ≡ [] → self.new.entries ≡ [] }
         ensures peak { self.new.peak ≡ self.old.peak }
         ensures limit { self.new.limit ≡ self.old.limit }
-        ensures filled { FillsFrom file.now (S.files store.old) at (slot_bytes self.new slot) result }
-        ensures looked { Between S.files S.reads S.faults store.old store.new (Looked file.now.part) }
+        ensures filled { FillsFrom file.now (S.files store.old) at (slot_bytes self.new slot)
+            result }
+        ensures looked { Between S.files S.reads S.faults store.old store.new
+            (Looked file.now.part) }
         ensures cause { HasCause (S.faults store.old) (S.faults store.new) result }
     {
         fill_slot(store, file, at, &mut self.bytes, slot)

@@ -31,10 +31,12 @@ pub fn put_number<S: Store>(w: &mut BitWriter<'_>, store: &mut S, x: u64) -> Res
     requires some { 1 ≤ x }
     requires below { x < 2 ^ 33 }
     ensures holds { OnOk result (Holds w.new (S.files store.new)) }
-    ensures bits { OnOk result (WroteBits w.old w.new (S.files store.old) (S.files store.new) (gamma x)) }
+    ensures bits { OnOk result (WroteBits w.old w.new (S.files store.old) (S.files store.new)
+        (gamma x)) }
     ensures place { OnOk result (w.new.place ≤ w.old.place + 66) }
     ensures name { w.new.name ≡ w.old.name }
-    ensures wrote { WroteTo w.old.name (S.files store.old) (S.files store.new) (S.reads store.old) (S.reads store.new) }
+    ensures wrote { WroteTo w.old.name (S.files store.old) (S.files store.new) (S.reads store.old)
+        (S.reads store.new) }
     ensures cause { HasPutCause (S.faults store.old) (S.faults store.new) result }
 {
     put_gamma(w, store, x)?;
@@ -54,10 +56,12 @@ pub fn put_posting<S: Store>(
     requires doc { 1 ≤ posting.now.doc }
     requires count { 1 ≤ posting.now.count }
     ensures holds { OnOk result (Holds w.new (S.files store.new)) }
-    ensures bits { OnOk result (WroteBits w.old w.new (S.files store.old) (S.files store.new) (run_posting_bits last.now posting.now)) }
+    ensures bits { OnOk result (WroteBits w.old w.new (S.files store.old) (S.files store.new)
+        (run_posting_bits last.now posting.now)) }
     ensures place { OnOk result (w.new.place ≤ w.old.place + 256) }
     ensures name { w.new.name ≡ w.old.name }
-    ensures wrote { WroteTo w.old.name (S.files store.old) (S.files store.new) (S.reads store.old) (S.reads store.new) }
+    ensures wrote { WroteTo w.old.name (S.files store.old) (S.files store.new) (S.reads store.old)
+        (S.reads store.new) }
     ensures cause { HasPutCause (S.faults store.old) (S.faults store.new) result }
 {
     put_number(w, store, u64::from(posting.term - last.term) + 1)?;

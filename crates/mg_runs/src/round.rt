@@ -56,7 +56,8 @@ fn join_groups<S: Store>(
     ensures told { ForStored file.entry (S.files store.old) places.now
         (λ runs. IfOk result (GroupsJoined width runs S.files store.old store.new w.old w.new)) }
     ensures undamaged { ForStored file.entry (S.files store.old) places.now (λ _. NoDamage result) }
-    ensures count { IfOk result (λ made. length made.places.items ≡ (length places.now + width - 1) / width) }
+    ensures count { IfOk result (λ made. length made.places.items
+        ≡ (length places.now + width - 1) / width) }
     ensures pool { IfOk result (λ made. PoolBack width pool made.pool) }
     ensures step { Between S.files S.reads S.faults store.old store.new
         (RunStep file.entry.part w.old w.new result) }
@@ -97,7 +98,8 @@ impl<'a> Round<'a> {
             (λ whole. IfOk result (λ next. RoundHas next (S.files store.new) whole)) }
         ensures undamaged { ForRound self.entry (S.files store.old) (λ _. NoDamage result) }
         ensures count { IfOk result
-            (λ next. length next.places.items ≡ (length self.entry.places.items + width - 1) / width) }
+            (λ next. length next.places.items ≡ (length self.entry.places.items + width - 1) /
+            width) }
         ensures pool { IfOk result (λ next. PoolBack width self.entry.pool next.pool) }
         ensures base { IfOk result (λ next. next.file.base ≡ self.entry.file.base) }
         ensures part { IfOk result (λ next. next.file.part ≡ other self.entry.file.part) }
@@ -147,7 +149,8 @@ impl<'a> Round<'a> {
         ensures peak { IfOk result (λ last. peak_with width last ≡ peak_with width self.entry) }
         ensures base { IfOk result (λ last. last.file.base ≡ self.entry.file.base) }
         ensures part { IfOk result (λ last. IsRunPart last.file.part) }
-        ensures run { SamePart self.entry.file.base.now Part.Run (S.files store.old) (S.files store.new) }
+        ensures run { SamePart self.entry.file.base.now Part.Run (S.files store.old)
+            (S.files store.new) }
         ensures step { Between S.files S.reads S.faults store.old store.new
             (WorkStep self.entry.file.base.now result) }
     {

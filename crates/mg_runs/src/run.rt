@@ -53,10 +53,12 @@ fn put_list<S: Store>(
     requires ones { All (λ e. number_in 8 e ≡ 1) entries.now }
     requires docs { All (λ e. 1 ≤ number_in 4 e) entries.now }
     ensures holds { OnOk result (Holds w.new (S.files store.new)) }
-    ensures bits { OnOk result (WroteBits w.old w.new (S.files store.old) (S.files store.new) (run_bits (gathered (map entry_in entries.now)))) }
+    ensures bits { OnOk result (WroteBits w.old w.new (S.files store.old) (S.files store.new)
+        (run_bits (gathered (map entry_in entries.now)))) }
     ensures place { OnOk result (w.new.place ≤ w.old.place + 66 + 256 * length entries.now) }
     ensures name { w.new.name ≡ w.old.name }
-    ensures wrote { WroteTo w.old.name (S.files store.old) (S.files store.new) (S.reads store.old) (S.reads store.new) }
+    ensures wrote { WroteTo w.old.name (S.files store.old) (S.files store.new) (S.reads store.old)
+        (S.reads store.new) }
     ensures cause { HasPutCause (S.faults store.old) (S.faults store.new) result }
 {
     let count = distinct(entries);
@@ -96,11 +98,13 @@ pub fn write_entries<S: Store>(
     requires room { 12 * count ≤ length bytes.old }
     requires entries { AreEntries (entries_in count bytes.old) }
     ensures holds { OnOk result (Holds w.new (S.files store.new)) }
-    ensures bits { OnOk result (WroteBits w.old w.new (S.files store.old) (S.files store.new) (filled (run_bits (gathered (entries_in count bytes.old))))) }
+    ensures bits { OnOk result (WroteBits w.old w.new (S.files store.old) (S.files store.new)
+        (filled (run_bits (gathered (entries_in count bytes.old))))) }
     ensures place { OnOk result (w.new.place ≤ w.old.place + 128 + 256 * count) }
     ensures whole { OnOk result (w.new.place % 8 ≡ 0) }
     ensures name { w.new.name ≡ w.old.name }
-    ensures wrote { WroteTo w.old.name (S.files store.old) (S.files store.new) (S.reads store.old) (S.reads store.new) }
+    ensures wrote { WroteTo w.old.name (S.files store.old) (S.files store.new) (S.reads store.old)
+        (S.reads store.new) }
     ensures cause { HasPutCause (S.faults store.old) (S.faults store.new) result }
 {
     bytes_fit(bytes);

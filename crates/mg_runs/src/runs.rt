@@ -56,8 +56,10 @@ impl<'a> Model for Runs<'a> {
 
 /// Leaves a part there and empty.
 pub fn reset_part<S: Store>(store: &mut S, base: &str, part: Part) -> Result<(), PutErr>
-    ensures empty { IsSome (S.files store.old) → OnOk result (file_at (S.files store.new) (full_name base.now part) ≡ Some []) }
-    ensures wrote { WroteTo (full_name base.now part) (S.files store.old) (S.files store.new) (S.reads store.old) (S.reads store.new) }
+    ensures empty { IsSome (S.files store.old) →
+        OnOk result (file_at (S.files store.new) (full_name base.now part) ≡ Some []) }
+    ensures wrote { WroteTo (full_name base.now part) (S.files store.old) (S.files store.new)
+        (S.reads store.old) (S.reads store.new) }
     ensures cause { HasPutCause (S.faults store.old) (S.faults store.new) result }
 {
     store.reset(&FileRef { base, part })
@@ -71,7 +73,8 @@ pub fn spill<S: Store>(pool: &mut Pool, w: &mut BitWriter<'_>, store: &mut S) ->
     requires some { 1 ≤ length pool.old.entries }
     requires entries { AreEntries pool.old.entries }
     ensures holds { OnOk result (Holds w.new (S.files store.new)) }
-    ensures bits { OnOk result (WroteBits w.old w.new (S.files store.old) (S.files store.new) (filled (run_bits (gathered pool.old.entries)))) }
+    ensures bits { OnOk result (WroteBits w.old w.new (S.files store.old) (S.files store.new)
+        (filled (run_bits (gathered pool.old.entries)))) }
     ensures place { OnOk result (w.new.place ≤ w.old.place + 128 + 256 * length pool.old.entries) }
     ensures whole { OnOk result (w.new.place % 8 ≡ 0) }
     ensures empty { OnOk result (pool.new.entries ≡ []) }
@@ -79,7 +82,8 @@ pub fn spill<S: Store>(pool: &mut Pool, w: &mut BitWriter<'_>, store: &mut S) ->
     ensures peak { pool.new.peak ≡ pool.old.peak }
     ensures limit { pool.new.limit ≡ pool.old.limit }
     ensures name { w.new.name ≡ w.old.name }
-    ensures wrote { WroteTo w.old.name (S.files store.old) (S.files store.new) (S.reads store.old) (S.reads store.new) }
+    ensures wrote { WroteTo w.old.name (S.files store.old) (S.files store.new) (S.reads store.old)
+        (S.reads store.new) }
     ensures cause { HasPutCause (S.faults store.old) (S.faults store.new) result }
 {
     let count = pool.entries;
@@ -103,9 +107,15 @@ impl<'a> Runs<'a> {
         ensures fed { IfOk result (λ runs. IsFed runs (S.files store.new) []) }
         ensures pool { IfOk result (λ runs. runs.pool ≡ pool) }
         ensures base { IfOk result (λ runs. runs.base ≡ base.entry.now) }
-        ensures run { IsSome (S.files store.old) → OnOk result (file_at (S.files store.new) (full_name base.entry.now Part.Run) ≡ Some []) }
-        ensures merge_a { IsSome (S.files store.old) → OnOk result (file_at (S.files store.new) (full_name base.entry.now Part.MergeA) ≡ Some []) }
-        ensures merge_b { IsSome (S.files store.old) → OnOk result (file_at (S.files store.new) (full_name base.entry.now Part.MergeB) ≡ Some []) }
+        ensures run { IsSome (S.files store.old) →
+            OnOk result (file_at (S.files store.new) (full_name base.entry.now Part.Run)
+            ≡ Some []) }
+        ensures merge_a { IsSome (S.files store.old) →
+            OnOk result (file_at (S.files store.new) (full_name base.entry.now Part.MergeA)
+            ≡ Some []) }
+        ensures merge_b { IsSome (S.files store.old) →
+            OnOk result (file_at (S.files store.new) (full_name base.entry.now Part.MergeB)
+            ≡ Some []) }
         ensures others { SameButRuns base.entry.now (S.files store.old) (S.files store.new) }
         ensures told { is_some (S.files store.new) ≡ is_some (S.files store.old) }
         ensures reads { SameReads (S.reads store.old) (S.reads store.new) }
@@ -134,13 +144,16 @@ impl<'a> Runs<'a> {
     /// Takes one occurrence: a term's number, and a document's, from 1. A full pool is first
     /// written as a run.
     pub fn add<S: Store>(&mut self, store: &mut S, term: u32, doc: u32) -> Result<(), PutErr>
-        requires fed { (fed : List (ℕ × ℕ)) × (length fed < 2 ^ 32 - 1) × IsFed self.old (S.files store.old) fed }
+        requires fed { (fed : List (ℕ × ℕ)) × (length fed < 2 ^ 32 - 1)
+            × IsFed self.old (S.files store.old) fed }
         requires doc { 1 ≤ doc }
-        ensures fed { OnOk result (TookOne S.files store.old store.new self.old self.new (term, doc)) }
+        ensures fed { OnOk result (TookOne S.files store.old store.new self.old self.new
+            (term, doc)) }
         ensures cap { cap_of self.new.pool ≡ cap_of self.old.pool }
         ensures limit { self.new.pool.limit ≡ self.old.pool.limit }
         ensures base { self.new.base ≡ self.old.base }
-        ensures wrote { WroteTo self.old.writer.name (S.files store.old) (S.files store.new) (S.reads store.old) (S.reads store.new) }
+        ensures wrote { WroteTo self.old.writer.name (S.files store.old) (S.files store.new)
+            (S.reads store.old) (S.reads store.new) }
         ensures cause { HasPutCause (S.faults store.old) (S.faults store.new) result }
     {
         if self.pool.is_full() {
@@ -158,16 +171,20 @@ impl<'a> Runs<'a> {
         requires fed { (fed : List (ℕ × ℕ)) × IsFed self (S.files store.old) fed }
         ensures run { IsSome (S.files store.old) → ForFed self.entry (S.files store.old)
             (λ fed. OnOk result (HasRunBits self.entry (S.files store.new) fed)) }
-        ensures bytes { IsSome (S.files store.old) → OnOk result (AreBytes (bytes_at (S.files store.new) (full_name self.entry.base Part.Run))) }
+        ensures bytes { IsSome (S.files store.old) →
+            OnOk result (AreBytes (bytes_at (S.files store.new)
+            (full_name self.entry.base Part.Run))) }
         ensures places { ForFed self.entry (S.files store.old)
-            (λ fed. IfOk result (λ round. round.places.items ≡ starts 0 (runs_of (cap_of self.entry.pool) fed))) }
+            (λ fed. IfOk result (λ round. round.places.items
+            ≡ starts 0 (runs_of (cap_of self.entry.pool) fed))) }
         ensures undamaged { NoDamage result }
         ensures entries { IfOk result (λ round. round.pool.entries ≡ []) }
         ensures limit { IfOk result (λ round. round.pool.limit ≡ self.entry.pool.limit) }
         ensures peak { IfOk result (λ round. round.pool.peak ≡ self.entry.pool.peak) }
         ensures base { IfOk result (λ round. round.file.base.now ≡ self.entry.base) }
         ensures part { IfOk result (λ round. round.file.part ≡ Part.Run) }
-        ensures wrote { WroteTo (full_name self.entry.base Part.Run) (S.files store.old) (S.files store.new) (S.reads store.old) (S.reads store.new) }
+        ensures wrote { WroteTo (full_name self.entry.base Part.Run) (S.files store.old)
+            (S.files store.new) (S.reads store.old) (S.reads store.new) }
         ensures cause { HasPartCause (S.faults store.old) (S.faults store.new) result }
         ensures names { IfErr result NamesItsPart }
     {
@@ -233,19 +250,23 @@ impl<'a> Runs<'a> {
     pub fn merge<S: Store>(self, store: &mut S) -> Result<Merge<'a>, PartErr>
         requires fed { (fed : List (ℕ × ℕ)) × IsFed self (S.files store.old) fed }
         ensures left { ForFed self.entry (S.files store.old)
-            (λ fed. IfOk result (λ merge. IsMerging merge (S.files store.new) (term_postings fed))) }
+            (λ fed. IfOk result (λ merge.
+            IsMerging merge (S.files store.new) (term_postings fed))) }
         ensures run { IsSome (S.files store.old) → ForFed self.entry (S.files store.old)
             (λ fed. OnOk result (HasRunBits self.entry (S.files store.new) fed)) }
         ensures run_bytes { IsSome (S.files store.old) → ForFed self.entry (S.files store.old)
             (λ fed. OnOk result (HasRunBytes self.entry (S.files store.new) fed)) }
         ensures runs { ForFed self.entry (S.files store.old)
-            (λ fed. IfOk result (λ merge. merge.runs ≡ run_count (length fed) (cap_of self.entry.pool))) }
+            (λ fed. IfOk result (λ merge.
+            merge.runs ≡ run_count (length fed) (cap_of self.entry.pool))) }
         ensures peak { ForFed self.entry (S.files store.old)
-            (λ fed. IfOk result (λ merge. merge.peak ≡ pool_peak (length fed) self.entry.pool.limit)) }
+            (λ fed. IfOk result (λ merge.
+            merge.peak ≡ pool_peak (length fed) self.entry.pool.limit)) }
         ensures few { IfOk result (λ merge. postings_left merge ≤ 2 ^ 56) }
         ensures base { IfOk result (λ merge. merge.base ≡ self.entry.base) }
         ensures undamaged { IsSome (S.files store.old) → NoDamage result }
-        ensures worked { Between S.files S.reads S.faults store.old store.new (Worked self.entry.base) }
+        ensures worked { Between S.files S.reads S.faults store.old store.new
+            (Worked self.entry.base) }
         ensures cause { HasPartCause (S.faults store.old) (S.faults store.new) result }
         ensures names { IfErr result NamesItsPart }
     {

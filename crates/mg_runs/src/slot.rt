@@ -32,8 +32,11 @@ fn fill_in<S: Store>(
     slot: usize,
 ) -> Result<usize, Failed>
     requires room { 64 * slot + 64 ≤ length bytes.old }
-    ensures slots { ForSlots slot bytes.old (λ count. ChangesOneSlot slot (slots_in count bytes.old) (slots_in count bytes.new)) }
-    ensures filled { ForSlots slot bytes.old (λ count. FillsFrom file.now (S.files store.old) at (slot_at (slots_in count bytes.new) slot) result) }
+    ensures slots { ForSlots slot bytes.old
+        (λ count. ChangesOneSlot slot (slots_in count bytes.old) (slots_in count bytes.new)) }
+    ensures filled { ForSlots slot bytes.old
+        (λ count. FillsFrom file.now (S.files store.old) at
+        (slot_at (slots_in count bytes.new) slot) result) }
     ensures looked { Between S.files S.reads S.faults store.old store.new (Looked file.now.part) }
     ensures cause { HasCause (S.faults store.old) (S.faults store.new) result }
 {
@@ -52,8 +55,11 @@ pub fn fill_slot<S: Store>(
 ) -> Result<usize, Failed>
     requires room { 64 * slot + 64 ≤ length bytes.old.items }
     ensures len { length bytes.new.items ≡ length bytes.old.items }
-    ensures slots { ForSlots slot bytes.old.items (λ count. ChangesOneSlot slot (slots_in count bytes.old.items) (slots_in count bytes.new.items)) }
-    ensures filled { ForSlots slot bytes.old.items (λ count. FillsFrom file.now (S.files store.old) at (slot_at (slots_in count bytes.new.items) slot) result) }
+    ensures slots { ForSlots slot bytes.old.items (λ count.
+        ChangesOneSlot slot (slots_in count bytes.old.items) (slots_in count bytes.new.items)) }
+    ensures filled { ForSlots slot bytes.old.items (λ count.
+        FillsFrom file.now (S.files store.old) at (slot_at (slots_in count bytes.new.items) slot)
+        result) }
     ensures looked { Between S.files S.reads S.faults store.old store.new (Looked file.now.part) }
     ensures cause { HasCause (S.faults store.old) (S.faults store.new) result }
 {
@@ -63,7 +69,8 @@ pub fn fill_slot<S: Store>(
 /// The bytes of a slot of bytes.
 fn slot_in(bytes: &[u8], slot: usize) -> &[u8]
     requires { 64 * slot + 64 ≤ length bytes.now }
-    ensures { (count : ℕ) → slot < count → 64 * count ≤ length bytes.now → result.now ≡ slice_index_or (first_chunks 64 count bytes.now) slot [] }
+    ensures { (count : ℕ) → slot < count → 64 * count ≤ length bytes.now →
+        result.now ≡ slice_index_or (first_chunks 64 count bytes.now) slot [] }
 {
     &bytes[64 * slot..64 * slot + 64]
 }
@@ -71,7 +78,8 @@ fn slot_in(bytes: &[u8], slot: usize) -> &[u8]
 /// The bytes of a slot.
 pub fn slot_of(bytes: &Vec<u8>, slot: usize) -> &[u8]
     requires { 64 * slot + 64 ≤ length bytes.now.items }
-    ensures { (count : ℕ) → slot < count → 64 * count ≤ length bytes.now.items → result.now ≡ slice_index_or (first_chunks 64 count bytes.now.items) slot [] }
+    ensures { (count : ℕ) → slot < count → 64 * count ≤ length bytes.now.items →
+        result.now ≡ slice_index_or (first_chunks 64 count bytes.now.items) slot [] }
 {
     slot_in(bytes, slot)
 }

@@ -35,8 +35,10 @@ fn play(keys: &mut Vec<u64>, winners: &mut Vec<u32>, i: usize)
     requires keys { 2 * i + 1 < length keys.old.items }
     requires winners { 2 * i + 1 < length winners.old.items }
     ensures node { IsNode keys.new.items winners.new.items i }
-    ensures same_keys { (k : ℕ) → (k ≡ i → ⊥) → slice_index keys.new.items k ≡ slice_index keys.old.items k }
-    ensures same_winners { (k : ℕ) → (k ≡ i → ⊥) → slice_index winners.new.items k ≡ slice_index winners.old.items k }
+    ensures same_keys { (k : ℕ) → (k ≡ i → ⊥) → slice_index keys.new.items k
+        ≡ slice_index keys.old.items k }
+    ensures same_winners { (k : ℕ) → (k ≡ i → ⊥) → slice_index winners.new.items k
+        ≡ slice_index winners.old.items k }
     ensures keys { length keys.new.items ≡ length keys.old.items }
     ensures winners { length winners.new.items ≡ length winners.old.items }
 {
@@ -79,7 +81,8 @@ impl Tournament {
     /// The contestant with the least key.
     pub fn least(&self) -> u32
         ensures within { result < length self.now }
-        ensures least { (k : ℕ) → k < length self.now → slice_index self.now result ≤ slice_index self.now k }
+        ensures least { (k : ℕ) → k < length self.now → slice_index self.now result
+            ≤ slice_index self.now k }
     {
         self.winners[1]
     }

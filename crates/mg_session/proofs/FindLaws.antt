@@ -33,7 +33,9 @@ index_last : (infos : List (Option TermInfo)) (o d : Option TermInfo) → slice_
 index_last [] o d = refl
 index_last (x ∷ infos) o d = index_last infos o d
 
-pub infos_more : (collection : List ℕ) (ts : List (List ℕ)) (count : ℕ) (infos : List (Option TermInfo)) (o : Option TermInfo) → FirstInfos collection ts count infos → length infos ≡ count → IsToldOf collection (get_or ts count []) o → FirstInfos collection ts (count + 1) (infos ++ o ∷ [])
+pub infos_more : (collection : List ℕ) (ts : List (List ℕ)) (count : ℕ) (infos : List (Option TermInfo)) (o : Option TermInfo) →
+    FirstInfos collection ts count infos → length infos ≡ count → IsToldOf collection (get_or ts count []) o →
+    FirstInfos collection ts (count + 1) (infos ++ o ∷ [])
 infos_more collection ts count infos o first size told = record {
   each = λ k lt. elim (cases_lt k count) [
     | inl before ↦ subst (IsToldOf collection (get_or ts k [])) (sym (index_before infos o None k (omega (arith, before, size)))) (first.each k before)
@@ -44,7 +46,8 @@ infos_more collection ts count infos o first size told = record {
   ];
 }
 
-pub infos_all : (collection : List ℕ) (ts : List (List ℕ)) (count : ℕ) (infos : List (Option TermInfo)) → FirstInfos collection ts count infos → length infos ≡ count → count ≡ length ts → AreInfos collection ts infos
+pub infos_all : (collection : List ℕ) (ts : List (List ℕ)) (count : ℕ) (infos : List (Option TermInfo)) → FirstInfos collection ts count infos →
+    length infos ≡ count → count ≡ length ts → AreInfos collection ts infos
 infos_all collection ts count infos first size all = record { size = size ∙ all; each = λ k lt. first.each k (omega (arith, lt, all)) }
 
 -- ---- those that are known
@@ -59,12 +62,14 @@ next_none (Some x ∷ infos) (suc i) d lt is = ap (λ xs. x ∷ xs) (next_none i
 pub known_none : (infos : List (Option TermInfo)) (i : ℕ) (d : Option TermInfo) → i < length infos → get_or infos i d ≡ None → known_infos (take (i + 1) infos) ≡ known_infos (take i infos)
 known_none infos i d lt is = ap (λ n. known_infos (take n infos)) (add-one i) ∙ next_none infos i d lt is
 
-next_some : (infos : List (Option TermInfo)) (i : ℕ) (d : Option TermInfo) (info : TermInfo) → i < length infos → get_or infos i d ≡ Some info → known_infos (take (suc i) infos) ≡ known_infos (take i infos) ++ info ∷ []
+next_some : (infos : List (Option TermInfo)) (i : ℕ) (d : Option TermInfo) (info : TermInfo) → i < length infos → get_or infos i d ≡ Some info →
+    known_infos (take (suc i) infos) ≡ known_infos (take i infos) ++ info ∷ []
 next_some [] i d info lt is = absurd (omega (arith, lt))
 next_some (None ∷ infos) zero d info lt is = cc
 next_some (Some x ∷ infos) zero d info lt is = cc
 next_some (None ∷ infos) (suc i) d info lt is = next_some infos i d info (omega (arith, lt)) is
 next_some (Some x ∷ infos) (suc i) d info lt is = ap (λ xs. x ∷ xs) (next_some infos i d info (omega (arith, lt)) is)
 
-pub known_some : (infos : List (Option TermInfo)) (i : ℕ) (d : Option TermInfo) (info : TermInfo) → i < length infos → get_or infos i d ≡ Some info → known_infos (take (i + 1) infos) ≡ known_infos (take i infos) ++ info ∷ []
+pub known_some : (infos : List (Option TermInfo)) (i : ℕ) (d : Option TermInfo) (info : TermInfo) → i < length infos → get_or infos i d ≡ Some info →
+    known_infos (take (i + 1) infos) ≡ known_infos (take i infos) ++ info ∷ []
 known_some infos i d info lt is = ap (λ n. known_infos (take n infos)) (add-one i) ∙ next_some infos i d info lt is

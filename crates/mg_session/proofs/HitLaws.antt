@@ -8,6 +8,7 @@ use Rattle.mg_defs.specs.declared.session.Mode.{Mode}
 use Rattle.mg_reply.specs.Pending.{Passed}
 use Rattle.mg_reply.proofs.CallerLemmas.{pass_nothing}
 
-pub hidden : (w : Option (List ℕ)) (waiting doc : List ℕ) (mode : Mode) (most : Option ℕ) (total : ℕ) (hit : Shown) → shows most total ≡ false → Passed w w waiting waiting (hit_text doc mode most total hit)
+pub hidden : (w : Option (List ℕ)) (waiting doc : List ℕ) (mode : Mode) (most : Option ℕ) (total : ℕ) (hit : Shown) → shows most total ≡ false →
+    Passed w w waiting waiting (hit_text doc mode most total hit)
 unfolding hit_text
 hidden w waiting doc mode most total hit full = subst (Passed w w waiting waiting) (sym (cond-false (shows most total) (shown_as doc mode hit) [] full)) (pass_nothing w waiting)

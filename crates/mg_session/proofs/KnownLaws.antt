@@ -68,14 +68,19 @@ hits_in collection query n docs =
     map (λ (d : ℕ × List ℕ). record { number = d.0; score = score collection query d.1 })
     (filter (λ (d : ℕ × List ℕ). list_any (has_term d.1) query) (enumerate_from n docs))
 
-hits_cons : (collection : List ℕ) (query : List (List ℕ)) (n : ℕ) (doc : List ℕ) (docs : List (List ℕ)) → hits_in collection query n (doc ∷ docs) ≡ (if list_any (has_term doc) query then record { number = n; score = score collection query doc } ∷ hits_in collection query (n + 1) docs else hits_in collection query (n + 1) docs)
+hits_cons : (collection : List ℕ) (query : List (List ℕ)) (n : ℕ) (doc : List ℕ) (docs : List (List ℕ)) →
+    hits_in collection query n (doc ∷ docs) ≡ (if list_any (has_term doc) query then record { number = n; score = score collection query doc } ∷
+    hits_in collection query (n + 1) docs else hits_in collection query (n + 1) docs)
 hits_cons collection query n doc docs = by_test (list_any (has_term doc) query) refl
   where
-    by_test : (b : Bool) → list_any (has_term doc) query ≡ b → hits_in collection query n (doc ∷ docs) ≡ (if list_any (has_term doc) query then record { number = n; score = score collection query doc } ∷ hits_in collection query (n + 1) docs else hits_in collection query (n + 1) docs)
+    by_test : (b : Bool) → list_any (has_term doc) query ≡ b → hits_in collection query n (doc ∷ docs)
+        ≡ (if list_any (has_term doc) query then record { number = n; score = score collection query doc } ∷ hits_in collection query (n + 1) docs
+        else hits_in collection query (n + 1) docs)
     by_test true is = rw is refl
     by_test false is = rw is refl
 
-same_hits_in : (collection : List ℕ) (ts : List (List ℕ)) (infos : List (Option TermInfo)) (n : ℕ) (docs : List (List ℕ)) → NoneHave docs ts infos → hits_in collection (known_terms ts infos) n docs ≡ hits_in collection ts n docs
+same_hits_in : (collection : List ℕ) (ts : List (List ℕ)) (infos : List (Option TermInfo)) (n : ℕ) (docs : List (List ℕ)) → NoneHave docs ts infos →
+    hits_in collection (known_terms ts infos) n docs ≡ hits_in collection ts n docs
 same_hits_in collection ts infos n [] none = refl
 same_hits_in collection ts infos n (doc ∷ docs) none =
     let first = misses_first doc docs ts infos none in
@@ -93,7 +98,8 @@ same_hits_in collection ts infos n (doc ∷ docs) none =
 shorter : {X Y : Type 0} (x : X) (y : Y) (xs : List X) (ys : List Y) → length (x ∷ xs) ≡ length (y ∷ ys) → length xs ≡ length ys
 shorter x y xs ys e = omega (arith, e)
 
-infos_more : (collection t : List ℕ) (ts : List (List ℕ)) (o : Option TermInfo) (infos : List (Option TermInfo)) → AreInfos collection (t ∷ ts) (o ∷ infos) → IsToldOf collection t o × AreInfos collection ts infos
+infos_more : (collection t : List ℕ) (ts : List (List ℕ)) (o : Option TermInfo) (infos : List (Option TermInfo)) → AreInfos collection (t ∷ ts) (o ∷ infos) →
+    IsToldOf collection t o × AreInfos collection ts infos
 infos_more collection t ts o infos are = (are.each 0 (omega arith), record { size = shorter o t infos ts are.size; each = λ k lt. are.each (suc k) (omega (arith, lt)) })
 
 none_have : (collection : List ℕ) (ts : List (List ℕ)) (infos : List (Option TermInfo)) → AreInfos collection ts infos → NoneHave (documents collection) ts infos
@@ -114,7 +120,12 @@ unfolding ranked_bound
 known_bound collection [] infos size = omega arith
 known_bound collection (t ∷ ts) [] size = omega arith
 known_bound collection (t ∷ ts) (None ∷ infos) size = omega (arith, sum_by-cons (list_pages collection) t ts, known_bound collection ts infos (shorter {X = Option TermInfo} None t infos ts size))
-known_bound collection (t ∷ ts) (Some info ∷ infos) size = omega (arith, sum_by-cons (list_pages collection) t ts, sum_by-cons (list_pages collection) t (known_terms ts infos), known_bound collection ts infos (shorter (Some info) t infos ts size))
+known_bound collection (t ∷ ts) (Some info ∷ infos) size = omega (
+  arith,
+  sum_by-cons (list_pages collection) t ts,
+  sum_by-cons (list_pages collection) t (known_terms ts infos),
+  known_bound collection ts infos (shorter (Some info) t infos ts size),
+)
 
 -- ---- the terms that are known are told of
 
@@ -138,14 +149,16 @@ known_apart (t ∷ ts) [] apart = tt
 known_apart (t ∷ ts) (None ∷ infos) apart = known_apart ts infos apart.1
 known_apart (t ∷ ts) (Some info ∷ infos) apart = (others_known t ts infos apart.0, known_apart ts infos apart.1)
 
-told_each : (collection : List ℕ) (ts : List (List ℕ)) (infos : List (Option TermInfo)) → AreInfos collection ts infos → (k : ℕ) (info : TermInfo) → k < length (known_terms ts infos) → slice_index_or (known_infos infos) k info ≡ info → IsInfoOf collection (get_or (known_terms ts infos) k []) info
+told_each : (collection : List ℕ) (ts : List (List ℕ)) (infos : List (Option TermInfo)) → AreInfos collection ts infos → (k : ℕ) (info : TermInfo) →
+    k < length (known_terms ts infos) → slice_index_or (known_infos infos) k info ≡ info → IsInfoOf collection (get_or (known_terms ts infos) k []) info
 told_each collection [] infos are k info lt e = absurd (omega (arith, lt))
 told_each collection (t ∷ ts) [] are k info lt e = absurd (omega (arith, are.size))
 told_each collection (t ∷ ts) (None ∷ infos) are k info lt e = told_each collection ts infos (infos_more collection t ts None infos are).1 k info lt e
 told_each collection (t ∷ ts) (Some one ∷ infos) are zero info lt e = subst (IsInfoOf collection t) e (infos_more collection t ts (Some one) infos are).0
 told_each collection (t ∷ ts) (Some one ∷ infos) are (suc k) info lt e = told_each collection ts infos (infos_more collection t ts (Some one) infos are).1 k info (omega (arith, lt)) e
 
-pub known_told : (collection : List ℕ) (ts : List (List ℕ)) (infos : List (Option TermInfo)) → AreInfos collection ts infos → IsDistinct bytes_eq ts → AreTold collection (known_terms ts infos) (known_infos infos)
+pub known_told : (collection : List ℕ) (ts : List (List ℕ)) (infos : List (Option TermInfo)) → AreInfos collection ts infos → IsDistinct bytes_eq ts →
+    AreTold collection (known_terms ts infos) (known_infos infos)
 known_told collection ts infos are apart = record {
   size = known_sizes ts infos are.size;
   each = told_each collection ts infos are;

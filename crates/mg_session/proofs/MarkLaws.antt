@@ -93,7 +93,8 @@ word_beyond words last past other far =
     ∙ ap (λ x. eqb x 1) (bit_at-zero ((other - 1) % 64))
 
 -- a word has no document from a place on
-pub none_in_word : (words : List ℕ) (index low word : ℕ) → word ≡ get_or words index 0 → word / 2 ^ low ≡ 0 → low < 64 → (other : ℕ) → 64 * index + low < other → other ≤ 64 * (index + 1) → is_marked words other ≡ false
+pub none_in_word : (words : List ℕ) (index low word : ℕ) → word ≡ get_or words index 0 → word / 2 ^ low ≡ 0 → low < 64 → (other : ℕ) →
+    64 * index + low < other → other ≤ 64 * (index + 1) → is_marked words other ≡ false
 none_in_word words index low word read none small other far near =
     let bit : ℕ = other - (64 * index + low + 1) in
     marked_at words index (low + bit) other (omega (arith, far, near)) (omega (arith, far))
@@ -105,7 +106,8 @@ record IsLowest (words : List ℕ) (from doc : ℕ) : Type 0 where
   first : (other : ℕ) → from < other → other < doc → is_marked words other ≡ false
 
 -- the first document of a word from a place on
-lowest : (words : List ℕ) (index low word doc : ℕ) → word ≡ get_or words index 0 → word < 2 ^ 64 → low < 64 → 0 < word / 2 ^ low → word / 2 ^ low < 2 ^ 64 → doc ≡ 64 * index + low + trailing_zeros w64 (word / 2 ^ low) + 1 → IsLowest words (64 * index + low) doc
+lowest : (words : List ℕ) (index low word doc : ℕ) → word ≡ get_or words index 0 → word < 2 ^ 64 → low < 64 → 0 < word / 2 ^ low → word / 2 ^ low < 2 ^ 64 →
+    doc ≡ 64 * index + low + trailing_zeros w64 (word / 2 ^ low) + 1 → IsLowest words (64 * index + low) doc
 lowest words index low word doc read fits small some rest_fits is =
     let rest : ℕ = word / 2 ^ low in
     let zeros : ℕ = trailing_zeros w64 rest in
@@ -124,7 +126,8 @@ lowest words index low word doc read fits small some rest_fits is =
           ∙ ap (λ x. eqb x 1) (sym (shifted word low bit) ∙ least.2 bit (omega (arith, far, near, is)));
     }
 
-pub next_in_word : (all : ℕ) (words : List ℕ) (index low word doc : ℕ) → AreMarksOf all words → word ≡ get_or words index 0 → word < 2 ^ 64 → low < 64 → 0 < word / 2 ^ low → word / 2 ^ low < 2 ^ 64 → doc ≡ 64 * index + low + trailing_zeros w64 (word / 2 ^ low) + 1 →
+pub next_in_word : (all : ℕ) (words : List ℕ) (index low word doc : ℕ) → AreMarksOf all words → word ≡ get_or words index 0 → word < 2 ^ 64 → low < 64 →
+    0 < word / 2 ^ low → word / 2 ^ low < 2 ^ 64 → doc ≡ 64 * index + low + trailing_zeros w64 (word / 2 ^ low) + 1 →
     IsNextBehind (64 * index + low) (record { all = all; words = words }) doc
 next_in_word all words index low word doc are read fits small some rest_fits is =
     let l = lowest words index low word doc read fits small some rest_fits is in
@@ -136,7 +139,8 @@ next_in_word all words index low word doc are read fits small some rest_fits is 
     }
 
 -- none stands before a later number
-pub next_later : (last later : ℕ) (marks : DocumentMarks) (found : Option ℕ) → last ≤ later → ((other : ℕ) → last < other → other ≤ later → has_doc marks other ≡ false) → AnswersNext later marks found → AnswersNext last marks found
+pub next_later : (last later : ℕ) (marks : DocumentMarks) (found : Option ℕ) → last ≤ later →
+    ((other : ℕ) → last < other → other ≤ later → has_doc marks other ≡ false) → AnswersNext later marks found → AnswersNext last marks found
 next_later last later marks (Some doc) le none next = record {
   behind = omega (arith, le, next.behind);
   within = next.within;
@@ -146,7 +150,8 @@ next_later last later marks (Some doc) le none next = record {
 next_later last later marks None le none next = λ other far. elim (cases_lt later other) [ inl behind ↦ next other behind | inr before ↦ none other far before ]
 
 -- the first document from the first bit of a word on, where none stands before
-pub first_in_word : (all : ℕ) (words : List ℕ) (start index word doc : ℕ) → AreMarksOf all words → word ≡ get_or words index 0 → word < 2 ^ 64 → 0 < word → start ≤ index → ((other : ℕ) → 64 * start < other → other ≤ 64 * index → is_marked words other ≡ false) → doc ≡ 64 * index + trailing_zeros w64 word + 1 →
+pub first_in_word : (all : ℕ) (words : List ℕ) (start index word doc : ℕ) → AreMarksOf all words → word ≡ get_or words index 0 → word < 2 ^ 64 → 0 < word →
+    start ≤ index → ((other : ℕ) → 64 * start < other → other ≤ 64 * index → is_marked words other ≡ false) → doc ≡ 64 * index + trailing_zeros w64 word + 1 →
     IsNextBehind (64 * start) (record { all = all; words = words }) doc
 first_in_word all words start index word doc are read fits some from none is =
     let same : word / 2 ^ 0 ≡ word = omega arith in
@@ -155,14 +160,17 @@ first_in_word all words start index word doc are read fits some from none is =
     let here = next_in_word all words index 0 word doc are read fits (omega arith) (omega (arith, some, same)) (omega (arith, fits, same)) (omega (arith, is, zeros)) in
     next_later (64 * start) (64 * index) (record { all = all; words = words }) (Some doc) (omega (arith, from)) none (subst (λ n. IsNextBehind n (record { all = all; words = words }) doc) least here)
 
-pub none_to_word : (words : List ℕ) (start index word : ℕ) → word ≡ get_or words index 0 → word ≡ 0 → ((other : ℕ) → 64 * start < other → other ≤ 64 * index → is_marked words other ≡ false) → (other : ℕ) → 64 * start < other → other ≤ 64 * (index + 1) → is_marked words other ≡ false
+pub none_to_word : (words : List ℕ) (start index word : ℕ) → word ≡ get_or words index 0 → word ≡ 0 →
+    ((other : ℕ) → 64 * start < other → other ≤ 64 * index → is_marked words other ≡ false) → (other : ℕ) → 64 * start < other → other ≤ 64 * (index + 1) →
+    is_marked words other ≡ false
 none_to_word words start index word read zero_is none other far near = elim (cases_lt (64 * index) other) [
   | inl behind ↦ (let same : word / 2 ^ 0 ≡ 0 = omega (arith, zero_is) in none_in_word words index 0 word read same (omega arith) other (omega (arith, behind)) near)
   | inr before ↦ none other far before
 ]
 
 -- the first document of the rest of a word
-pub next_in_rest : (all : ℕ) (words : List ℕ) (last word doc : ℕ) → AreMarksOf all words → word ≡ get_or words (last / 64) 0 → word < 2 ^ 64 → 0 < word / 2 ^ (last % 64) → doc ≡ last + trailing_zeros w64 (word / 2 ^ (last % 64)) + 1 →
+pub next_in_rest : (all : ℕ) (words : List ℕ) (last word doc : ℕ) → AreMarksOf all words → word ≡ get_or words (last / 64) 0 → word < 2 ^ 64 →
+    0 < word / 2 ^ (last % 64) → doc ≡ last + trailing_zeros w64 (word / 2 ^ (last % 64)) + 1 →
     IsNextBehind last (record { all = all; words = words }) doc
 next_in_rest all words last word doc are read fits some is =
     let place : 64 * (last / 64) + last % 64 ≡ last = omega arith in
@@ -171,9 +179,11 @@ next_in_rest all words last word doc are read fits some is =
     (next_in_word all words (last / 64) (last % 64) word doc are read fits (omega arith) some (omega (arith, rest, fits)) (omega (arith, is, place)))
 
 -- the rest of a word has none
-pub none_in_rest : (last word : ℕ) (marks : DocumentMarks) (found : Option ℕ) → word ≡ get_or marks.words (last / 64) 0 → word / 2 ^ (last % 64) ≡ 0 → AnswersNext (64 * (last / 64 + 1)) marks found → AnswersNext last marks found
+pub none_in_rest : (last word : ℕ) (marks : DocumentMarks) (found : Option ℕ) → word ≡ get_or marks.words (last / 64) 0 → word / 2 ^ (last % 64) ≡ 0 →
+    AnswersNext (64 * (last / 64 + 1)) marks found → AnswersNext last marks found
 none_in_rest last word marks found read none next =
-    next_later last (64 * (last / 64 + 1)) marks found (omega arith) (λ other far near. none_in_word marks.words (last / 64) (last % 64) word read none (omega arith) other (omega (arith, far)) near) next
+    next_later last (64 * (last / 64 + 1)) marks found (omega arith)
+    (λ other far near. none_in_word marks.words (last / 64) (last % 64) word read none (omega arith) other (omega (arith, far)) near) next
 
 -- ---- the documents in order
 
@@ -195,7 +205,8 @@ marked_same marks last zero le none = ap (marked_to marks) (omega (arith, le))
 marked_same marks last (suc doc) le none =
     elim (cases_eq last (suc doc)) [
       | inl same ↦ ap (marked_to marks) (sym same)
-      | inr apart ↦ marked_miss marks doc (none (suc doc) (omega (arith, le, apart)) (omega arith)) ∙ marked_same marks last doc (omega (arith, le, apart)) (λ other far near. none other far (omega (arith, near)))
+      | inr apart ↦ marked_miss marks doc (none (suc doc) (omega (arith, le, apart)) (omega arith))
+          ∙ marked_same marks last doc (omega (arith, le, apart)) (λ other far near. none other far (omega (arith, near)))
     ]
 
 pub marked_next : (marks : DocumentMarks) (last doc : ℕ) → IsNextBehind last marks doc → marked_to marks doc ≡ marked_to marks last ++ doc ∷ []

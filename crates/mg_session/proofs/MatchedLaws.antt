@@ -131,7 +131,8 @@ few_counted files base collection stands few n counted =
 
 matched_as : (base : List ℕ) (run : Run) (r : Result (Unit {0}) Fault) → run.status ≡ status_of r → ServedAs patterns base run →
     ((count : ℕ) → IsSome run.store.files → HasTooManyTerms run.store.files base count → RefusedFor r (TooManyRotations count)) →
-    ((collection : List ℕ) → Stands run.store.files base collection → most_rotations < rotation_count (dictionary collection) → RefusedFor r (TooManyRotations (rotation_count (dictionary collection)))) →
+    ((collection : List ℕ) → Stands run.store.files base collection → most_rotations < rotation_count (dictionary collection) →
+    RefusedFor r (TooManyRotations (rotation_count (dictionary collection)))) →
     Matched base run
 matched_as base run r is served too_many many = record {
   served = served;

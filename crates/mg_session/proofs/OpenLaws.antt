@@ -187,7 +187,8 @@ module _ (base : List ℕ) (s0 s1 s2 : StoreAt) (head : Head) (first : s1.files 
   unread : (p : Part) → KeptByPhrases p → s2.reads p ≡ s0.reads p
   unread p kept = looked.others p (not_words p kept) (not_others p kept) ∙ reads p
 
-  pub no_text : (refusal : PartErr) → HasPartCause {T = TextReading} s1.faults s2.faults (Err refusal) → ((code : TextCode) (collection : List ℕ) → IsText base s1.files head code collection → IsNotBad refusal) →
+  pub no_text : (refusal : PartErr) → HasPartCause {T = TextReading} s1.faults s2.faults (Err refusal) →
+      ((code : TextCode) (collection : List ℕ) → IsText base s1.files head code collection → IsNotBad refusal) →
       SetOpened (PartsOverBy s2.files) KeptByPhrases (λ count. ⊥) head base s0 s2 (Err (fault_of_part refusal))
   no_text refusal cause never_bad = record {
     files = looked.files ∙ first;
@@ -210,7 +211,8 @@ module _ (base : List ℕ) (s0 s1 s2 : StoreAt) (head : Head) (first : s1.files 
     over = λ code collection is.
         let own = set_text base s0.files s1.files head code collection first is in
         subst (λ (p : PhraseParts). PartsOverBy s2.files p code collection) (sym made) (
-          parts_over base s0.files s1.files s2.files head code collection lex text first looked.files is (lexicon collection (set_lexicon base s0.files head code collection is)) (stands code collection own),
+          parts_over base s0.files s1.files s2.files head code collection lex text first looked.files is
+              (lexicon collection (set_lexicon base s0.files head code collection is)) (stands code collection own),
           code_is code collection own,
         );
     cause = tt;

@@ -32,5 +32,6 @@ texts = (refl, refl, refl, refl)
 -- one page of Post for each term that some document has
 lists : (line_lists three (codes "x y") ≡ 2) × (line_lists three (codes "x") ≡ 1) × (line_lists three (codes "z x") ≡ 0)
     × (line_lists three [] ≡ 0)
-unfolding golomb unary ones short shorter ceil_log2 gamma parse digits filled found phrase_of sign_of joined_bound posting_bits bits_after last_doc doc_before bits_before block_pages lists_bits numbers met_pages whole_pages pages_for list_pages asked_of boolean_bound
+unfolding golomb unary ones short shorter ceil_log2 gamma parse digits filled found phrase_of sign_of joined_bound posting_bits bits_after last_doc doc_before
+    bits_before block_pages lists_bits numbers met_pages whole_pages pages_for list_pages asked_of boolean_bound
 lists = (refl, refl, refl, refl)

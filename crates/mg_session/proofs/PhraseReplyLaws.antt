@@ -89,7 +89,10 @@ says_refused : (collection line : List ℕ) (why : Refusal) → phrase_of line �
 unfolding phrase_reply
 says_refused collection line why e = rw e refl
 
-pub line_refused : (e : QueryErr) (code : TextCode) (collection line : List ℕ) (w0 w1 : Option (List ℕ)) (r : Reads) (result : Result (Unit {0}) ShowErr) (P Q : Type 0) → IfSome (refusal_of e) (λ why. phrase_of line ≡ refused why) → ((text : List ℕ) → IfSome (refusal_of e) (λ why. text ≡ refusal why) → AfterPut w0 w1 text result) → IfErr result (AnswerStops P Q) → PhraseReplied code collection line w0 w1 r r result
+pub line_refused : (e : QueryErr) (code : TextCode) (collection line : List ℕ) (w0 w1 : Option (List ℕ)) (r : Reads) (result : Result (Unit {0}) ShowErr)
+    (P Q : Type 0) → IfSome (refusal_of e) (λ why. phrase_of line ≡ refused why) →
+    ((text : List ℕ) → IfSome (refusal_of e) (λ why. text ≡ refusal why) → AfterPut w0 w1 text result) → IfErr result (AnswerStops P Q) →
+    PhraseReplied code collection line w0 w1 r r result
 line_refused e code collection line w0 w1 r result P Q said put stops = record {
   put = put (phrase_reply collection line) (IfSome_then (refusal_of e) said (says_refused collection line));
   sound = refused_sound P Q result stops;
@@ -100,7 +103,8 @@ line_refused e code collection line w0 w1 r result P Q said put stops = record {
 -- ---- a phrase
 
 -- it stopped before anything was printed, and neither lists nor text were read
-pub nothing_replied : (code : TextCode) (collection line : List ℕ) (w : Option (List ℕ)) (r0 r1 : Reads) (error : ShowErr) → ShowIsNotBad (Err error) → r1 part.Post ≡ r0 part.Post → r1 part.Text ≡ r0 part.Text → PhraseReplied code collection line w w r0 r1 (Err error)
+pub nothing_replied : (code : TextCode) (collection line : List ℕ) (w : Option (List ℕ)) (r0 r1 : Reads) (error : ShowErr) → ShowIsNotBad (Err error) →
+    r1 part.Post ≡ r0 part.Post → r1 part.Text ≡ r0 part.Text → PhraseReplied code collection line w w r0 r1 (Err error)
 nothing_replied code collection line w r0 r1 error sound post text = record {
   put = grew_nothing w (phrase_reply collection line);
   sound = sound;
@@ -146,7 +150,8 @@ no_words : (phrase : List (List ℕ)) → IsAllOf phrase None → phrase ≡ []
 no_words [] none = refl
 no_words (t ∷ us) none = absurd none
 
-pub none_counted : (code : TextCode) (collection : List ℕ) (phrase : List (List ℕ)) (w0 w1 : Option (List ℕ)) (r : Reads) (result : Result (Unit {0}) ShowErr) → IsAllOf phrase None → AfterPut w0 w1 (count 0) result → ShowIsNotBad result → PhraseAnswered code collection phrase w0 w1 r r result
+pub none_counted : (code : TextCode) (collection : List ℕ) (phrase : List (List ℕ)) (w0 w1 : Option (List ℕ)) (r : Reads) (result : Result (Unit {0}) ShowErr) →
+    IsAllOf phrase None → AfterPut w0 w1 (count 0) result → ShowIsNotBad result → PhraseAnswered code collection phrase w0 w1 r r result
 none_counted code collection phrase w0 w1 r result none put sound = record {
   put = subst (λ t. AfterPut w0 w1 t result) (sym (ap (λ (p : List (List ℕ)). found_text (with_places p 1 (documents collection))) (no_words phrase none) ∙ no_text (documents collection))) put;
   sound = sound;
@@ -158,7 +163,9 @@ says_found : (collection line : List ℕ) (phrase : List (List ℕ)) → phrase_
 unfolding phrase_reply
 says_found collection line phrase e = rw e refl
 
-pub line_answered : (code : TextCode) (collection line : List ℕ) (phrase : List (List ℕ)) (w0 w1 : Option (List ℕ)) (r0 r1 r2 : Reads) (result : Result (Unit {0}) ShowErr) → phrase_of line ≡ reads phrase → PhraseAnswered code collection phrase w0 w1 r1 r2 result → r1 part.Post ≡ r0 part.Post → r1 part.Text ≡ r0 part.Text → PhraseReplied code collection line w0 w1 r0 r2 result
+pub line_answered : (code : TextCode) (collection line : List ℕ) (phrase : List (List ℕ)) (w0 w1 : Option (List ℕ)) (r0 r1 r2 : Reads)
+    (result : Result (Unit {0}) ShowErr) → phrase_of line ≡ reads phrase → PhraseAnswered code collection phrase w0 w1 r1 r2 result →
+    r1 part.Post ≡ r0 part.Post → r1 part.Text ≡ r0 part.Text → PhraseReplied code collection line w0 w1 r0 r2 result
 line_answered code collection line phrase w0 w1 r0 r1 r2 result is a post text =
     let same_bound : line_lists collection line ≡ joined_bound collection phrase = rw is refl in
     let same_pages : line_pages code collection line ≡ candidate_pages code collection phrase = rw is refl in
@@ -182,7 +189,8 @@ short_at n [] i all = omega arith
 short_at n (d ∷ docs) zero all = all.0
 short_at n (d ∷ docs) (suc i) all = short_at n docs i all.1
 
-pub short_document : (r : TextReading) (files : Option Files) (number most : ℕ) (collection : List ℕ) → TextStands r files collection → length collection ≤ most → HasShortDocument r files number most collection
+pub short_document : (r : TextReading) (files : Option Files) (number most : ℕ) (collection : List ℕ) → TextStands r files collection →
+    length collection ≤ most → HasShortDocument r files number most collection
 short_document r files number most collection stands short = record {
   stands = stands;
   short = omega (arith, short_at (length collection) (documents collection) (number - 1) (documents_short collection), short);
@@ -193,7 +201,10 @@ short_document r files number most collection stands short = record {
 pub phrases_over : (s : PhraseState) (collection : List ℕ) → PhrasesOver s collection → PhrasesBy s (λ now. phrase_reply collection)
 phrases_over s collection over = record { collection = collection; over = over; by_is = refl }
 
-pub phrases_asked : (s t : PhraseState) (now : Settings) (line : List ℕ) (w0 w1 : Option (List ℕ)) (result : Result (Unit {0}) ShowErr) → OnlyReads s.files t.files s.reads t.reads s.faults t.faults → SamePhraseParts s.parts t.parts → ((collection : List ℕ) → PhrasesOver s collection → PhraseReplied s.parts.text.code collection line w0 w1 s.reads t.reads result) → PhrasesAsked s t (record { now = now; line = line } ∷ [])
+pub phrases_asked : (s t : PhraseState) (now : Settings) (line : List ℕ) (w0 w1 : Option (List ℕ)) (result : Result (Unit {0}) ShowErr) →
+    OnlyReads s.files t.files s.reads t.reads s.faults t.faults → SamePhraseParts s.parts t.parts →
+    ((collection : List ℕ) → PhrasesOver s collection → PhraseReplied s.parts.text.code collection line w0 w1 s.reads t.reads result) →
+    PhrasesAsked s t (record { now = now; line = line } ∷ [])
 phrases_asked s t now line w0 w1 result step same replied = record {
   step = step;
   same = same;
@@ -213,20 +224,24 @@ pub asked_lines : (f : List ℕ → ℕ) (given : List ℕ) (answered more : Lis
 asked_lines f given answered more is =
     ap (sum_by f) (questions_heard given) ∙ sum_by-map f (heard_questions Questions given) ∙ ap (sum_by (λ (q : Question). f q.line)) is ∙ sum_by-append (λ (q : Question). f q.line) answered more
 
-pub phrases_within : (s t : PhraseState) (answered : List Question) (collection given : List ℕ) → PhrasesAsked s t answered → (more : List Question) × (heard_questions Questions given ≡ answered ++ more) → PhrasesOver s collection → ReadsPhrases s.parts.text.code collection given s.reads t.reads
+pub phrases_within : (s t : PhraseState) (answered : List Question) (collection given : List ℕ) → PhrasesAsked s t answered →
+    (more : List Question) × (heard_questions Questions given ≡ answered ++ more) → PhrasesOver s collection →
+    ReadsPhrases s.parts.text.code collection given s.reads t.reads
 phrases_within s t answered collection given a first over = record {
   post = omega (arith, a.post collection over, asked_lines (line_lists collection) given answered first.0 first.1);
   text = omega (arith, a.text collection over, asked_lines (line_pages s.parts.text.code collection) given answered first.0 first.1);
 }
 
 -- why a line stops the session
-line_stops : (s t : PhraseState) (f g : ℕ) (error : ShowErr) → HasShowCause (Err error) s.faults t.faults f g → ((collection : List ℕ) → PhrasesOver s collection → ShowIsNotBad (Err error)) → PartStops (PhraseMayStop s t) error
+line_stops : (s t : PhraseState) (f g : ℕ) (error : ShowErr) → HasShowCause (Err error) s.faults t.faults f g →
+    ((collection : List ℕ) → PhrasesOver s collection → ShowIsNotBad (Err error)) → PartStops (PhraseMayStop s t) error
 line_stops s t f g (show.Part Device) cause sound = cause.caused
 line_stops s t f g (show.Part Memory) cause sound = tt
 line_stops s t f g (show.Part (Bad bad)) cause sound = sound
 line_stops s t f g show.Write cause sound = tt
 line_stops s t f g show.Memory cause sound = tt
 
-pub line_part : (s t : PhraseState) (f g : ℕ) (r : Result (Unit {0}) ShowErr) → HasShowCause r s.faults t.faults f g → ((collection : List ℕ) → PhrasesOver s collection → ShowIsNotBad r) → IfErr r (PartStops (PhraseMayStop s t))
+pub line_part : (s t : PhraseState) (f g : ℕ) (r : Result (Unit {0}) ShowErr) → HasShowCause r s.faults t.faults f g →
+    ((collection : List ℕ) → PhrasesOver s collection → ShowIsNotBad r) → IfErr r (PartStops (PhraseMayStop s t))
 line_part s t f g (Ok value) cause sound = tt
 line_part s t f g (Err error) cause sound = line_stops s t f g error cause sound

@@ -50,12 +50,14 @@ pub decoded_post : (f g : Option Files) (r s : Reads) (m n : ℕ) → LookedAt p
 decoded_post f g r s m n looked = looked.others part.Post refl refl
 
 -- the pages that decoding reads are those of the collection's codes
-pub decoded_pages : (r code : TextCode) (collection : List ℕ) (number before now : ℕ) → r ≡ code → now ≤ before + document_pages r collection number → now ≤ before + doc_pages code collection (plain number)
+pub decoded_pages : (r code : TextCode) (collection : List ℕ) (number before now : ℕ) → r ≡ code → now ≤ before + document_pages r collection number →
+    now ≤ before + doc_pages code collection (plain number)
 decoded_pages r code collection number before now same read = subst (λ (c : TextCode). now ≤ before + doc_pages c collection (plain number)) same read
 
 -- ---- what is opened of a set
 
-pub parts_over : (base : List ℕ) (files then now : Option Files) (head : Head) (code : TextCode) (collection : List ℕ) (lex : Fronted) (text : TextReading) → then ≡ files → now ≡ then → StandsBy head code files base collection → LexStands lex then collection → TextStands text now collection →
+pub parts_over : (base : List ℕ) (files then now : Option Files) (head : Head) (code : TextCode) (collection : List ℕ) (lex : Fronted) (text : TextReading) →
+    then ≡ files → now ≡ then → StandsBy head code files base collection → LexStands lex then collection → TextStands text now collection →
     PartsOver now (record { base = base; lex = lex; text = text; all = head.documents; most = head.collection }) collection
 parts_over base files then now head code collection lex text first second is lexicon stands = record {
   version = head.version;
@@ -69,7 +71,9 @@ parts_over base files then now head code collection lex text first second is lex
   };
 }
 
-pub parts_fit : (base : List ℕ) (then now : Option Files) (head : Head) (lex : Fronted) (text : TextReading) → now ≡ then → FrontFits lex then → TextFits text now → IsTextReader text base head → PartsFit now (record { base = base; lex = lex; text = text; all = head.documents; most = head.collection })
+pub parts_fit : (base : List ℕ) (then now : Option Files) (head : Head) (lex : Fronted) (text : TextReading) → now ≡ then → FrontFits lex then →
+    TextFits text now → IsTextReader text base head → PartsFit now
+    (record { base = base; lex = lex; text = text; all = head.documents; most = head.collection })
 parts_fit base then now head lex text same lexicon fits reader = record {
   lex = subst (FrontFits lex) (sym same) lexicon;
   text = fits;

@@ -60,7 +60,8 @@ missed t us doc none = elim (cases_Bool (nat_lt 0 (phrase_places (t ∷ us) doc)
   | inr zero_is ↦ zero_is
 ]
 
-among-cons : (collection : List ℕ) (phrase : List (List ℕ)) (s : Shown) (ss : List Shown) → found_among collection phrase (s ∷ ss) ≡ found_at s.number (phrase_places phrase (document collection s.number)) ++ found_among collection phrase ss
+among-cons : (collection : List ℕ) (phrase : List (List ℕ)) (s : Shown) (ss : List Shown) →
+    found_among collection phrase (s ∷ ss) ≡ found_at s.number (phrase_places phrase (document collection s.number)) ++ found_among collection phrase ss
 unfolding found_among
 among-cons collection phrase s ss = refl
 
@@ -83,7 +84,8 @@ none_from : (collection t : List ℕ) (us : List (List ℕ)) (n : ℕ) → with_
 unfolding with_places found_among found
 none_from collection t us n = refl
 
-found_from : (collection t : List ℕ) (us front ds : List (List ℕ)) (n : ℕ) → documents collection ≡ front ++ ds → n ≡ length front + 1 → with_places (t ∷ us) n ds ≡ found_among collection (t ∷ us) (found (all_of t us) n ds)
+found_from : (collection t : List ℕ) (us front ds : List (List ℕ)) (n : ℕ) → documents collection ≡ front ++ ds → n ≡ length front + 1 →
+    with_places (t ∷ us) n ds ≡ found_among collection (t ∷ us) (found (all_of t us) n ds)
 found_from collection t us front [] n e at = none_from collection t us n
 found_from collection t us front (d ∷ ds) n e at =
     let here : document collection n ≡ d = document_at collection d front ds n e at in
@@ -138,7 +140,8 @@ among-append : (collection : List ℕ) (phrase : List (List ℕ)) (xs ys : List 
 unfolding found_among
 among-append collection phrase xs ys = flat_map-append (λ (s : Shown). found_at s.number (phrase_places phrase (document collection s.number))) xs ys
 
-among-one : (collection : List ℕ) (phrase : List (List ℕ)) (number places : ℕ) → places ≡ phrase_places phrase (document collection number) → found_among collection phrase (plain number ∷ []) ≡ found_at number places
+among-one : (collection : List ℕ) (phrase : List (List ℕ)) (number places : ℕ) → places ≡ phrase_places phrase (document collection number) →
+    found_among collection phrase (plain number ∷ []) ≡ found_at number places
 unfolding found_among
 among-one collection phrase number places is = append-nil _ ∙ ap (found_at number) (sym is)
 
@@ -146,8 +149,10 @@ among-none : (collection : List ℕ) (phrase : List (List ℕ)) → found_among 
 unfolding found_among
 among-none collection phrase = refl
 
-among-push : (collection : List ℕ) (phrase : List (List ℕ)) (xs : List Shown) (number places : ℕ) → places ≡ phrase_places phrase (document collection number) → found_among collection phrase (xs ++ plain number ∷ []) ≡ found_among collection phrase xs ++ found_at number places
-among-push collection phrase xs number places is = among-append collection phrase xs (plain number ∷ []) ∙ ap (λ fs. found_among collection phrase xs ++ fs) (among-one collection phrase number places is)
+among-push : (collection : List ℕ) (phrase : List (List ℕ)) (xs : List Shown) (number places : ℕ) → places ≡ phrase_places phrase (document collection number) →
+    found_among collection phrase (xs ++ plain number ∷ []) ≡ found_among collection phrase xs ++ found_at number places
+among-push collection phrase xs number places is = among-append collection phrase xs (plain number ∷ [])
+    ∙ ap (λ fs. found_among collection phrase xs ++ fs) (among-one collection phrase number places is)
 
 rows-append : (xs ys : List PhraseHit) → rows_of (xs ++ ys) ≡ rows_of xs ++ rows_of ys
 unfolding rows_of
@@ -162,7 +167,11 @@ unfolding found_text rows_of
 text-is fs = refl
 
 text_front : (xs ys : List PhraseHit) → (rest : List ℕ) × (found_text (xs ++ ys) ≡ rows_of xs ++ rest)
-text_front xs ys = (rows_of ys ++ count (length (xs ++ ys)), text-is (xs ++ ys) ∙ ap (λ t. t ++ count (length (xs ++ ys))) (rows-append xs ys) ∙ append_assoc (rows_of xs) (rows_of ys) (count (length (xs ++ ys))))
+text_front xs ys = (
+  rows_of ys ++ count (length (xs ++ ys)),
+  text-is (xs ++ ys) ∙ ap (λ t. t ++ count (length (xs ++ ys))) (rows-append xs ys)
+      ∙ append_assoc (rows_of xs) (rows_of ys) (count (length (xs ++ ys))),
+)
 
 pub size_some : (number places : ℕ) → 0 < places → length (found_at number places) ≡ 1
 size_some number places some = ap (λ (b : Bool). length (found_if b number places)) (lt-ltb 0 places some)
@@ -175,7 +184,9 @@ nothing_found w waiting number places none = subst (Passed w w waiting waiting) 
 
 -- ---- one document after another
 
-pub walked_start : (base : List ℕ) (code : TextCode) (collection : List ℕ) (phrase : List (List ℕ)) (q : Query) (w : Option (List ℕ)) (waiting : List ℕ) (m : Matching) (r : Reads) → waiting ≡ [] → query_of m.asks ≡ q → m.decided ≡ 0 → MatchesOver base collection m → PhraseWalked base code collection phrase q w w waiting 0 m r r
+pub walked_start : (base : List ℕ) (code : TextCode) (collection : List ℕ) (phrase : List (List ℕ)) (q : Query) (w : Option (List ℕ)) (waiting : List ℕ)
+    (m : Matching) (r : Reads) → waiting ≡ [] → query_of m.asks ≡ q → m.decided ≡ 0 → MatchesOver base collection m →
+    PhraseWalked base code collection phrase q w w waiting 0 m r r
 walked_start base code collection phrase q w waiting m r none asks before over = record {
   so_far = [];
   split = ap (λ p. satisfying collection p) (sym asks) ∙ ap (λ n. found (query_of m.asks) (n + 1) (drop n (documents collection))) (sym before);
@@ -187,15 +198,20 @@ walked_start base code collection phrase q w waiting m r none asks before over =
 }
 
 -- a document that was searched
-pub walked_searched : (base : List ℕ) (code : TextCode) (collection : List ℕ) (phrase : List (List ℕ)) (q : Query) (w0 w1 w2 : Option (List ℕ)) (waiting waiting2 : List ℕ) (total total2 number places bound : ℕ) (m n : Matching) (r0 r1 r2 r3 : Reads) →
-    PhraseWalked base code collection phrase q w0 w1 waiting total m r0 r1 → GoesOn (left_of collection m) (left_of collection n) (Some number) → MatchesOver base collection n → PagesWithin bound (pages_read m.places) (pages_read n.places) r1 r2 → r2 part.Text ≡ r1 part.Text →
-    r3 part.Post ≡ r2 part.Post → r3 part.Text ≤ r2 part.Text + doc_pages code collection (plain number) → places ≡ phrase_places phrase (document collection number) → Passed w1 w2 waiting waiting2 (rows_of (found_at number places)) → total2 ≡ total + length (found_at number places) →
+pub walked_searched : (base : List ℕ) (code : TextCode) (collection : List ℕ) (phrase : List (List ℕ)) (q : Query) (w0 w1 w2 : Option (List ℕ))
+    (waiting waiting2 : List ℕ) (total total2 number places bound : ℕ) (m n : Matching) (r0 r1 r2 r3 : Reads) →
+    PhraseWalked base code collection phrase q w0 w1 waiting total m r0 r1 → GoesOn (left_of collection m) (left_of collection n) (Some number) →
+    MatchesOver base collection n → PagesWithin bound (pages_read m.places) (pages_read n.places) r1 r2 → r2 part.Text ≡ r1 part.Text →
+    r3 part.Post ≡ r2 part.Post → r3 part.Text ≤ r2 part.Text + doc_pages code collection (plain number) →
+    places ≡ phrase_places phrase (document collection number) → Passed w1 w2 waiting waiting2 (rows_of (found_at number places)) →
+    total2 ≡ total + length (found_at number places) →
     PhraseWalked base code collection phrase q w0 w2 waiting2 total2 n r0 r3
 walked_searched base code collection phrase q w0 w1 w2 waiting waiting2 total total2 number places bound m n r0 r1 r2 r3 w goes over pages text post doc_text is passed more =
     let pushed = among-push collection phrase w.so_far number places is in
     record {
       so_far = w.so_far ++ plain number ∷ [];
-      split = w.split ∙ ap (λ l. w.so_far ++ l) (goes_some (left_of collection m) (left_of collection n) number (left_plain collection m) goes) ∙ sym (append_assoc w.so_far (plain number ∷ []) (left_of collection n));
+      split = w.split ∙ ap (λ l. w.so_far ++ l) (goes_some (left_of collection m) (left_of collection n) number (left_plain collection m) goes)
+          ∙ sym (append_assoc w.so_far (plain number ∷ []) (left_of collection n));
       total_is = omega (arith, ap length pushed, length-append (found_among collection phrase w.so_far) (found_at number places), w.total_is, more);
       passed = subst (Passed w0 w2 [] waiting2) (sym (ap rows_of pushed ∙ rows-append (found_among collection phrase w.so_far) (found_at number places)))
           (pass_both w0 w1 w2 [] waiting waiting2 (rows_of (found_among collection phrase w.so_far)) (rows_of (found_at number places)) w.passed passed);
@@ -207,26 +223,37 @@ walked_searched base code collection phrase q w0 w1 w2 waiting waiting2 total to
 -- ---- the end, and stops before it
 
 -- what was printed, and then a front of what comes next, is a prefix of the reply
-front_grew : (code : TextCode) (collection : List ℕ) (phrase : List (List ℕ)) (q : Query) (w0 w1 : Option (List ℕ)) (xs ys : List Shown) → Joined code collection phrase q → satisfying collection q ≡ xs ++ ys → GrewByPrefix w0 w1 (rows_of (found_among collection phrase xs)) → GrewByPrefix w0 w1 (found_text (with_places phrase 1 (documents collection)))
+front_grew : (code : TextCode) (collection : List ℕ) (phrase : List (List ℕ)) (q : Query) (w0 w1 : Option (List ℕ)) (xs ys : List Shown) →
+    Joined code collection phrase q → satisfying collection q ≡ xs ++ ys → GrewByPrefix w0 w1 (rows_of (found_among collection phrase xs)) →
+    GrewByPrefix w0 w1 (found_text (with_places phrase 1 (documents collection)))
 front_grew code collection phrase q w0 w1 xs ys j split grew =
     let front = text_front (found_among collection phrase xs) (found_among collection phrase ys) in
     let whole : found_text (with_places phrase 1 (documents collection)) ≡ rows_of (found_among collection phrase xs) ++ front.0 =
     ap found_text (j.found_is ∙ ap (found_among collection phrase) split ∙ among-append collection phrase xs ys) ∙ front.1 in
     subst (GrewByPrefix w0 w1) (sym whole) (grew_first w0 w1 _ front.0 grew)
 
-so_far_prefix : (base : List ℕ) (code : TextCode) (collection : List ℕ) (phrase : List (List ℕ)) (q : Query) (w0 w1 : Option (List ℕ)) (waiting : List ℕ) (total : ℕ) (m : Matching) (r0 r1 : Reads) → Joined code collection phrase q → PhraseWalked base code collection phrase q w0 w1 waiting total m r0 r1 → GrewByPrefix w0 w1 (found_text (with_places phrase 1 (documents collection)))
+so_far_prefix : (base : List ℕ) (code : TextCode) (collection : List ℕ) (phrase : List (List ℕ)) (q : Query) (w0 w1 : Option (List ℕ)) (waiting : List ℕ)
+    (total : ℕ) (m : Matching) (r0 r1 : Reads) → Joined code collection phrase q → PhraseWalked base code collection phrase q w0 w1 waiting total m r0 r1 →
+    GrewByPrefix w0 w1 (found_text (with_places phrase 1 (documents collection)))
 so_far_prefix base code collection phrase q w0 w1 waiting total m r0 r1 j w =
-    let part : GrewByPrefix w0 w1 (w.passed.sent ++ waiting) = grew_first w0 w1 w.passed.sent waiting (record { count = length w.passed.sent; within = omega arith; is = w.passed.given ∙ ap (appended w0) (sym (take-length w.passed.sent)) }) in
+    let part : GrewByPrefix w0 w1 (w.passed.sent ++ waiting) = grew_first w0 w1 w.passed.sent waiting
+    (record { count = length w.passed.sent; within = omega arith; is = w.passed.given ∙ ap (appended w0) (sym (take-length w.passed.sent)) }) in
     front_grew code collection phrase q w0 w1 w.so_far (left_of collection m) j w.split (subst (GrewByPrefix w0 w1) w.passed.whole part)
 
-pages_so_far : (base : List ℕ) (code : TextCode) (collection : List ℕ) (phrase : List (List ℕ)) (q : Query) (w0 w1 : Option (List ℕ)) (waiting : List ℕ) (total : ℕ) (m : Matching) (r0 r1 : Reads) → Joined code collection phrase q → PhraseWalked base code collection phrase q w0 w1 waiting total m r0 r1 → r1 part.Text ≤ r0 part.Text + candidate_pages code collection phrase
+pages_so_far : (base : List ℕ) (code : TextCode) (collection : List ℕ) (phrase : List (List ℕ)) (q : Query) (w0 w1 : Option (List ℕ)) (waiting : List ℕ)
+    (total : ℕ) (m : Matching) (r0 r1 : Reads) → Joined code collection phrase q → PhraseWalked base code collection phrase q w0 w1 waiting total m r0 r1 →
+    r1 part.Text ≤ r0 part.Text + candidate_pages code collection phrase
 pages_so_far base code collection phrase q w0 w1 waiting total m r0 r1 j w =
     omega (arith, w.text, j.pages_are, ap (sum_by (doc_pages code collection)) w.split, sum_by-append (doc_pages code collection) w.so_far (left_of collection m))
 
 -- with those of one more document
-pages_too : (base : List ℕ) (code : TextCode) (collection : List ℕ) (phrase : List (List ℕ)) (q : Query) (w0 w1 : Option (List ℕ)) (waiting : List ℕ) (total number : ℕ) (m n : Matching) (r0 r1 r2 : Reads) → Joined code collection phrase q → PhraseWalked base code collection phrase q w0 w1 waiting total m r0 r1 → GoesOn (left_of collection m) (left_of collection n) (Some number) → r2 part.Text ≤ r1 part.Text + doc_pages code collection (plain number) → r2 part.Text ≤ r0 part.Text + candidate_pages code collection phrase
+pages_too : (base : List ℕ) (code : TextCode) (collection : List ℕ) (phrase : List (List ℕ)) (q : Query) (w0 w1 : Option (List ℕ)) (waiting : List ℕ)
+    (total number : ℕ) (m n : Matching) (r0 r1 r2 : Reads) → Joined code collection phrase q →
+    PhraseWalked base code collection phrase q w0 w1 waiting total m r0 r1 → GoesOn (left_of collection m) (left_of collection n) (Some number) →
+    r2 part.Text ≤ r1 part.Text + doc_pages code collection (plain number) → r2 part.Text ≤ r0 part.Text + candidate_pages code collection phrase
 pages_too base code collection phrase q w0 w1 waiting total number m n r0 r1 r2 j w goes more =
-    let split : satisfying collection q ≡ w.so_far ++ (plain number ∷ left_of collection n) = w.split ∙ ap (λ l. w.so_far ++ l) (goes_some (left_of collection m) (left_of collection n) number (left_plain collection m) goes) in
+    let split : satisfying collection q ≡ w.so_far ++ (plain number ∷ left_of collection n) = w.split
+    ∙ ap (λ l. w.so_far ++ l) (goes_some (left_of collection m) (left_of collection n) number (left_plain collection m) goes) in
     omega (
       arith,
       w.text,
@@ -238,8 +265,10 @@ pages_too base code collection phrase q w0 w1 waiting total number m n r0 r1 r2 
     )
 
 -- the lists could not be read
-pub walked_stop : (base : List ℕ) (code : TextCode) (collection : List ℕ) (phrase : List (List ℕ)) (q : Query) (w0 w1 : Option (List ℕ)) (waiting : List ℕ) (total : ℕ) (m n : Matching) (r0 r1 r2 : Reads) (error : ShowErr) →
-    Joined code collection phrase q → PhraseWalked base code collection phrase q w0 w1 waiting total m r0 r1 → PagesWithin (boolean_bound collection q) (pages_read m.places) (pages_read n.places) r1 r2 → r2 part.Text ≡ r1 part.Text → ShowIsNotBad (Err error) →
+pub walked_stop : (base : List ℕ) (code : TextCode) (collection : List ℕ) (phrase : List (List ℕ)) (q : Query) (w0 w1 : Option (List ℕ)) (waiting : List ℕ)
+    (total : ℕ) (m n : Matching) (r0 r1 r2 : Reads) (error : ShowErr) →
+    Joined code collection phrase q → PhraseWalked base code collection phrase q w0 w1 waiting total m r0 r1 →
+    PagesWithin (boolean_bound collection q) (pages_read m.places) (pages_read n.places) r1 r2 → r2 part.Text ≡ r1 part.Text → ShowIsNotBad (Err error) →
     PhraseAnswered code collection phrase w0 w1 r0 r2 (Err error)
 walked_stop base code collection phrase q w0 w1 waiting total m n r0 r1 r2 error j w pages text sound = record {
   put = so_far_prefix base code collection phrase q w0 w1 waiting total m r0 r1 j w;
@@ -249,8 +278,11 @@ walked_stop base code collection phrase q w0 w1 waiting total m n r0 r1 r2 error
 }
 
 -- a document could not be decoded
-pub walked_unread : (base : List ℕ) (code : TextCode) (collection : List ℕ) (phrase : List (List ℕ)) (q : Query) (w0 w1 : Option (List ℕ)) (waiting : List ℕ) (total number : ℕ) (m n : Matching) (r0 r1 r2 r3 : Reads) (error : ShowErr) →
-    Joined code collection phrase q → PhraseWalked base code collection phrase q w0 w1 waiting total m r0 r1 → GoesOn (left_of collection m) (left_of collection n) (Some number) → PagesWithin (boolean_bound collection q) (pages_read m.places) (pages_read n.places) r1 r2 → r2 part.Text ≡ r1 part.Text →
+pub walked_unread : (base : List ℕ) (code : TextCode) (collection : List ℕ) (phrase : List (List ℕ)) (q : Query) (w0 w1 : Option (List ℕ)) (waiting : List ℕ)
+    (total number : ℕ) (m n : Matching) (r0 r1 r2 r3 : Reads) (error : ShowErr) →
+    Joined code collection phrase q → PhraseWalked base code collection phrase q w0 w1 waiting total m r0 r1 →
+    GoesOn (left_of collection m) (left_of collection n) (Some number) →
+    PagesWithin (boolean_bound collection q) (pages_read m.places) (pages_read n.places) r1 r2 → r2 part.Text ≡ r1 part.Text →
     r3 part.Post ≡ r2 part.Post → r3 part.Text ≤ r2 part.Text + doc_pages code collection (plain number) → ShowIsNotBad (Err error) →
     PhraseAnswered code collection phrase w0 w1 r0 r3 (Err error)
 walked_unread base code collection phrase q w0 w1 waiting total number m n r0 r1 r2 r3 error j w goes pages text post doc_text sound = record {
@@ -261,16 +293,23 @@ walked_unread base code collection phrase q w0 w1 waiting total number m n r0 r1
 }
 
 -- its row could not be passed on
-pub walked_cut : (base : List ℕ) (code : TextCode) (collection : List ℕ) (phrase : List (List ℕ)) (q : Query) (w0 w1 w2 : Option (List ℕ)) (waiting : List ℕ) (total number places : ℕ) (m n : Matching) (r0 r1 r2 r3 : Reads) (error : ShowErr) →
-    Joined code collection phrase q → PhraseWalked base code collection phrase q w0 w1 waiting total m r0 r1 → GoesOn (left_of collection m) (left_of collection n) (Some number) → PagesWithin (boolean_bound collection q) (pages_read m.places) (pages_read n.places) r1 r2 → r2 part.Text ≡ r1 part.Text →
-    r3 part.Post ≡ r2 part.Post → r3 part.Text ≤ r2 part.Text + doc_pages code collection (plain number) → places ≡ phrase_places phrase (document collection number) → GrewByPrefix w1 w2 (waiting ++ rows_of (found_at number places)) → ShowIsNotBad (Err error) →
+pub walked_cut : (base : List ℕ) (code : TextCode) (collection : List ℕ) (phrase : List (List ℕ)) (q : Query) (w0 w1 w2 : Option (List ℕ)) (waiting : List ℕ)
+    (total number places : ℕ) (m n : Matching) (r0 r1 r2 r3 : Reads) (error : ShowErr) →
+    Joined code collection phrase q → PhraseWalked base code collection phrase q w0 w1 waiting total m r0 r1 →
+    GoesOn (left_of collection m) (left_of collection n) (Some number) →
+    PagesWithin (boolean_bound collection q) (pages_read m.places) (pages_read n.places) r1 r2 → r2 part.Text ≡ r1 part.Text →
+    r3 part.Post ≡ r2 part.Post → r3 part.Text ≤ r2 part.Text + doc_pages code collection (plain number) →
+    places ≡ phrase_places phrase (document collection number) → GrewByPrefix w1 w2 (waiting ++ rows_of (found_at number places)) →
+    ShowIsNotBad (Err error) →
     PhraseAnswered code collection phrase w0 w2 r0 r3 (Err error)
 walked_cut base code collection phrase q w0 w1 w2 waiting total number places m n r0 r1 r2 r3 error j w goes pages text post doc_text is grew sound =
     let split : satisfying collection q ≡ (w.so_far ++ plain number ∷ []) ++ left_of collection n =
-    w.split ∙ ap (λ l. w.so_far ++ l) (goes_some (left_of collection m) (left_of collection n) number (left_plain collection m) goes) ∙ sym (append_assoc w.so_far (plain number ∷ []) (left_of collection n)) in
+    w.split ∙ ap (λ l. w.so_far ++ l) (goes_some (left_of collection m) (left_of collection n) number (left_plain collection m) goes)
+    ∙ sym (append_assoc w.so_far (plain number ∷ []) (left_of collection n)) in
     let rows : rows_of (found_among collection phrase (w.so_far ++ plain number ∷ [])) ≡ rows_of (found_among collection phrase w.so_far) ++ rows_of (found_at number places) =
     ap rows_of (among-push collection phrase w.so_far number places is) ∙ rows-append (found_among collection phrase w.so_far) (found_at number places) in
-    let part : GrewByPrefix w0 w2 (rows_of (found_among collection phrase w.so_far) ++ rows_of (found_at number places)) = pass_cut w0 w1 w2 [] waiting (rows_of (found_among collection phrase w.so_far)) (rows_of (found_at number places)) w.passed grew in
+    let part : GrewByPrefix w0 w2 (rows_of (found_among collection phrase w.so_far) ++ rows_of (found_at number places)) =
+    pass_cut w0 w1 w2 [] waiting (rows_of (found_among collection phrase w.so_far)) (rows_of (found_at number places)) w.passed grew in
     record {
       put = front_grew code collection phrase q w0 w2 (w.so_far ++ plain number ∷ []) (left_of collection n) j split (subst (GrewByPrefix w0 w2) (sym rows) part);
       sound = sound;
@@ -279,15 +318,21 @@ walked_cut base code collection phrase q w0 w1 w2 waiting total number places m 
     }
 
 -- all were searched
-ended : (base : List ℕ) (code : TextCode) (collection : List ℕ) (phrase : List (List ℕ)) (q : Query) (w0 w1 : Option (List ℕ)) (waiting : List ℕ) (total : ℕ) (m n : Matching) (r0 r1 : Reads) → Joined code collection phrase q → (w : PhraseWalked base code collection phrase q w0 w1 waiting total m r0 r1) → GoesOn (left_of collection m) (left_of collection n) None →
+ended : (base : List ℕ) (code : TextCode) (collection : List ℕ) (phrase : List (List ℕ)) (q : Query) (w0 w1 : Option (List ℕ)) (waiting : List ℕ) (total : ℕ)
+    (m n : Matching) (r0 r1 : Reads) → Joined code collection phrase q → (w : PhraseWalked base code collection phrase q w0 w1 waiting total m r0 r1) →
+    GoesOn (left_of collection m) (left_of collection n) None →
     found_text (with_places phrase 1 (documents collection)) ≡ rows_of (found_among collection phrase w.so_far) ++ count total
 ended base code collection phrase q w0 w1 waiting total m n r0 r1 j w goes =
     let all : satisfying collection q ≡ w.so_far = w.split ∙ ap (λ l. w.so_far ++ l) (goes_none (left_of collection m) (left_of collection n) goes) ∙ append-nil w.so_far in
-    ap found_text (j.found_is ∙ ap (found_among collection phrase) all) ∙ text-is (found_among collection phrase w.so_far) ∙ ap (λ k. rows_of (found_among collection phrase w.so_far) ++ count k) w.total_is
+    ap found_text (j.found_is ∙ ap (found_among collection phrase) all) ∙ text-is (found_among collection phrase w.so_far)
+    ∙ ap (λ k. rows_of (found_among collection phrase w.so_far) ++ count k) w.total_is
 
 -- the count was put behind all that waited, or refused
-pub walked_end : (base : List ℕ) (code : TextCode) (collection : List ℕ) (phrase : List (List ℕ)) (q : Query) (w0 w1 w2 : Option (List ℕ)) (waiting : List ℕ) (total : ℕ) (m n : Matching) (r0 r1 r2 : Reads) (result : Result (Unit {0}) ShowErr) →
-    Joined code collection phrase q → PhraseWalked base code collection phrase q w0 w1 waiting total m r0 r1 → GoesOn (left_of collection m) (left_of collection n) None → PagesWithin (boolean_bound collection q) (pages_read m.places) (pages_read n.places) r1 r2 → r2 part.Text ≡ r1 part.Text →
+pub walked_end : (base : List ℕ) (code : TextCode) (collection : List ℕ) (phrase : List (List ℕ)) (q : Query) (w0 w1 w2 : Option (List ℕ)) (waiting : List ℕ)
+    (total : ℕ) (m n : Matching) (r0 r1 r2 : Reads) (result : Result (Unit {0}) ShowErr) →
+    Joined code collection phrase q → PhraseWalked base code collection phrase q w0 w1 waiting total m r0 r1 →
+    GoesOn (left_of collection m) (left_of collection n) None → PagesWithin (boolean_bound collection q) (pages_read m.places) (pages_read n.places) r1 r2 →
+    r2 part.Text ≡ r1 part.Text →
     AfterPut w1 w2 (waiting ++ count total) result → ShowIsNotBad result →
     PhraseAnswered code collection phrase w0 w2 r0 r2 result
 walked_end base code collection phrase q w0 w1 w2 waiting total m n r0 r1 r2 result j w goes pages text put sound =
@@ -307,5 +352,6 @@ one-row number places some =
     let found_one = ap (λ (b : Bool). flat_map (λ (f : PhraseHit). row f.number (Some f.places)) (found_if b number places)) (lt-ltb 0 places (omega (arith, some))) in
     found_one ∙ append-nil (row number (Some places))
 
-pub row_found : {T E : Type 0} (w0 w1 : Option (List ℕ)) (p0 p1 : List ℕ) (number places : ℕ) (r : Result T E) → (places ≡ 0 → ⊥) → AfterPass w0 w1 p0 p1 (row number (Some places)) r → AfterPass w0 w1 p0 p1 (rows_of (found_at number places)) r
+pub row_found : {T E : Type 0} (w0 w1 : Option (List ℕ)) (p0 p1 : List ℕ) (number places : ℕ) (r : Result T E) → (places ≡ 0 → ⊥) →
+    AfterPass w0 w1 p0 p1 (row number (Some places)) r → AfterPass w0 w1 p0 p1 (rows_of (found_at number places)) r
 row_found w0 w1 p0 p1 number places r some passed = subst (λ t. AfterPass w0 w1 p0 p1 t r) (sym (one-row number places some)) passed

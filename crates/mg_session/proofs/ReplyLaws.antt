@@ -59,13 +59,15 @@ list_sound Device error fact is or = subst (λ e. ShowIsNotBad (Err e)) (sym is)
 list_sound Memory error fact is or = absurd or
 list_sound (Bad bad) error fact is or = absurd or
 
-pub top_sound : (refusal : PartErr) (error : ShowErr) (collection : List ℕ) (ts : List (List ℕ)) (most : ℕ) → error ≡ show.Part refusal → AnswersTop (Err refusal) collection ts most → ShowIsNotBad (Err error)
+pub top_sound : (refusal : PartErr) (error : ShowErr) (collection : List ℕ) (ts : List (List ℕ)) (most : ℕ) → error ≡ show.Part refusal →
+    AnswersTop (Err refusal) collection ts most → ShowIsNotBad (Err error)
 top_sound Device error collection ts most is or = subst (λ e. ShowIsNotBad (Err e)) (sym is) tt
 top_sound Memory error collection ts most is or = subst (λ e. ShowIsNotBad (Err e)) (sym is) tt
 top_sound (Bad bad) error collection ts most is or = absurd or
 
 -- nothing was printed or read
-pub none_answered : (code : TextCode) (collection : List ℕ) (now : Settings) (answer : List Shown) (bound : ℕ) (w : Option (List ℕ)) (r : Reads) → Answered code collection now answer bound w w r r (Err (show.Part Memory))
+pub none_answered : (code : TextCode) (collection : List ℕ) (now : Settings) (answer : List Shown) (bound : ℕ) (w : Option (List ℕ)) (r : Reads) →
+    Answered code collection now answer bound w w r r (Err (show.Part Memory))
 none_answered code collection now answer bound w r = record { put = grew_nothing w (answer_text collection now answer); sound = tt; post = omega arith; text = omega arith }
 
 -- it stopped before anything was printed, and neither lists nor text were read
@@ -121,7 +123,10 @@ boolean_says collection now line why e = rw e refl
 ranked_says : (collection : List ℕ) (now : Settings) (line : List ℕ) (why : Refusal) → ranked line ≡ refused why → reply_as true collection now line ≡ refusal why
 ranked_says collection now line why e = rw e refl
 
-pub boolean_refused : (e : QueryErr) (code : TextCode) (collection : List ℕ) (now : Settings) (line : List ℕ) (w0 w1 : Option (List ℕ)) (r : Reads) (result : Result (Unit {0}) ShowErr) (P Q : Type 0) → IfSome (refusal_of e) (λ why. boolean line ≡ refused why) → ((text : List ℕ) → IfSome (refusal_of e) (λ why. text ≡ refusal why) → AfterPut w0 w1 text result) → IfErr result (AnswerStops P Q) → Replied code collection false now line w0 w1 r r result
+pub boolean_refused : (e : QueryErr) (code : TextCode) (collection : List ℕ) (now : Settings) (line : List ℕ) (w0 w1 : Option (List ℕ)) (r : Reads)
+    (result : Result (Unit {0}) ShowErr) (P Q : Type 0) → IfSome (refusal_of e) (λ why. boolean line ≡ refused why) →
+    ((text : List ℕ) → IfSome (refusal_of e) (λ why. text ≡ refusal why) → AfterPut w0 w1 text result) → IfErr result (AnswerStops P Q) →
+    Replied code collection false now line w0 w1 r r result
 boolean_refused e code collection now line w0 w1 r result P Q said put stops = record {
   put = put (reply_as false collection now line) (IfSome_then (refusal_of e) said (boolean_says collection now line));
   sound = refused_sound P Q result stops;
@@ -129,7 +134,10 @@ boolean_refused e code collection now line w0 w1 r result P Q said put stops = r
   text = omega arith;
 }
 
-pub ranked_refused : (e : QueryErr) (code : TextCode) (collection : List ℕ) (now : Settings) (line : List ℕ) (w0 w1 : Option (List ℕ)) (r : Reads) (result : Result (Unit {0}) ShowErr) (P Q : Type 0) → IfSome (refusal_of e) (λ why. ranked line ≡ refused why) → ((text : List ℕ) → IfSome (refusal_of e) (λ why. text ≡ refusal why) → AfterPut w0 w1 text result) → IfErr result (AnswerStops P Q) → Replied code collection true now line w0 w1 r r result
+pub ranked_refused : (e : QueryErr) (code : TextCode) (collection : List ℕ) (now : Settings) (line : List ℕ) (w0 w1 : Option (List ℕ)) (r : Reads)
+    (result : Result (Unit {0}) ShowErr) (P Q : Type 0) → IfSome (refusal_of e) (λ why. ranked line ≡ refused why) →
+    ((text : List ℕ) → IfSome (refusal_of e) (λ why. text ≡ refusal why) → AfterPut w0 w1 text result) → IfErr result (AnswerStops P Q) →
+    Replied code collection true now line w0 w1 r r result
 ranked_refused e code collection now line w0 w1 r result P Q said put stops = record {
   put = put (reply_as true collection now line) (IfSome_then (refusal_of e) said (ranked_says collection now line));
   sound = refused_sound P Q result stops;
@@ -140,7 +148,9 @@ ranked_refused e code collection now line w0 w1 r result P Q said put stops = re
 -- ---- a query
 
 -- it stopped before anything was printed, and neither lists nor text were read
-pub nothing_replied : (code : TextCode) (collection : List ℕ) (by : Bool) (now : Settings) (line : List ℕ) (w : Option (List ℕ)) (r0 r1 : Reads) (error : ShowErr) → ShowIsNotBad (Err error) → r1 part.Post ≡ r0 part.Post → r1 part.Text ≡ r0 part.Text → Replied code collection by now line w w r0 r1 (Err error)
+pub nothing_replied : (code : TextCode) (collection : List ℕ) (by : Bool) (now : Settings) (line : List ℕ) (w : Option (List ℕ)) (r0 r1 : Reads)
+    (error : ShowErr) → ShowIsNotBad (Err error) → r1 part.Post ≡ r0 part.Post → r1 part.Text ≡ r0 part.Text →
+    Replied code collection by now line w w r0 r1 (Err error)
 nothing_replied code collection by now line w r0 r1 error sound post text = record {
   put = grew_nothing w (reply_as by collection now line);
   sound = sound;
@@ -148,7 +158,10 @@ nothing_replied code collection by now line w r0 r1 error sound post text = reco
   text = omega (arith, text);
 }
 
-pub boolean_answered : (code : TextCode) (collection : List ℕ) (q : Query) (now : Settings) (line : List ℕ) (w0 w1 : Option (List ℕ)) (r0 r1 r2 : Reads) (result : Result (Unit {0}) ShowErr) → boolean line ≡ reads q → Answered code collection now (satisfying collection q) (boolean_bound collection q) w0 w1 r1 r2 result → r1 part.Post ≡ r0 part.Post → r1 part.Text ≡ r0 part.Text → Replied code collection false now line w0 w1 r0 r2 result
+pub boolean_answered : (code : TextCode) (collection : List ℕ) (q : Query) (now : Settings) (line : List ℕ) (w0 w1 : Option (List ℕ)) (r0 r1 r2 : Reads)
+    (result : Result (Unit {0}) ShowErr) → boolean line ≡ reads q →
+    Answered code collection now (satisfying collection q) (boolean_bound collection q) w0 w1 r1 r2 result → r1 part.Post ≡ r0 part.Post →
+    r1 part.Text ≡ r0 part.Text → Replied code collection false now line w0 w1 r0 r2 result
 boolean_answered code collection q now line w0 w1 r0 r1 r2 result is a post text =
     let same_text : reply_as false collection now line ≡ answer_text collection now (satisfying collection q) = rw is refl in
     let same_bound : bound_by false collection line ≡ boolean_bound collection q = rw is refl in
@@ -160,7 +173,10 @@ boolean_answered code collection q now line w0 w1 r0 r1 r2 result is a post text
       text = omega (arith, a.text, text, same_pages);
     }
 
-pub ranked_answered : (code : TextCode) (collection : List ℕ) (terms : List (List ℕ)) (now : Settings) (line : List ℕ) (w0 w1 : Option (List ℕ)) (r0 r1 r2 : Reads) (result : Result (Unit {0}) ShowErr) → ranked line ≡ reads terms → Answered code collection now (ranking collection terms) (ranked_bound collection terms) w0 w1 r1 r2 result → r1 part.Post ≡ r0 part.Post → r1 part.Text ≡ r0 part.Text → Replied code collection true now line w0 w1 r0 r2 result
+pub ranked_answered : (code : TextCode) (collection : List ℕ) (terms : List (List ℕ)) (now : Settings) (line : List ℕ) (w0 w1 : Option (List ℕ))
+    (r0 r1 r2 : Reads) (result : Result (Unit {0}) ShowErr) → ranked line ≡ reads terms →
+    Answered code collection now (ranking collection terms) (ranked_bound collection terms) w0 w1 r1 r2 result → r1 part.Post ≡ r0 part.Post →
+    r1 part.Text ≡ r0 part.Text → Replied code collection true now line w0 w1 r0 r2 result
 ranked_answered code collection terms now line w0 w1 r0 r1 r2 result is a post text =
     let same_text : reply_as true collection now line ≡ answer_text collection now (ranking collection terms) = rw is refl in
     let same_bound : bound_by true collection line ≡ ranked_bound collection terms = rw is refl in
@@ -173,7 +189,8 @@ ranked_answered code collection terms now line w0 w1 r0 r1 r2 result is a post t
     }
 
 -- what stands for the answer, after the lexicon was read
-pub answers_for : (files now : Option Files) (o : Opened) (code : TextCode) (collection : List ℕ) → now ≡ files → OpenedOver files o code collection → AnswersFor o.base now o.texts o.all code collection
+pub answers_for : (files now : Option Files) (o : Opened) (code : TextCode) (collection : List ℕ) → now ≡ files → OpenedOver files o code collection →
+    AnswersFor o.base now o.texts o.all code collection
 answers_for files now o code collection same over = record {
   weights = weights_later o.base o.base files now collection refl same over.weights;
   texts_are = texts_later o.texts o.texts files now code collection (same_texts o.texts) same over.texts;
@@ -182,11 +199,15 @@ answers_for files now o code collection same over = record {
 
 -- ---- a line of a session
 
-pub line_put : (code : TextCode) (collection : List ℕ) (now : Settings) (line : List ℕ) (w0 w1 : Option (List ℕ)) (r0 r1 : Reads) (result : Result (Unit {0}) ShowErr) → Replied code collection now.ranked now line w0 w1 r0 r1 result → AfterPut w0 w1 (reply collection now line) result
+pub line_put : (code : TextCode) (collection : List ℕ) (now : Settings) (line : List ℕ) (w0 w1 : Option (List ℕ)) (r0 r1 : Reads)
+    (result : Result (Unit {0}) ShowErr) → Replied code collection now.ranked now line w0 w1 r0 r1 result → AfterPut w0 w1 (reply collection now line) result
 unfolding reply
 line_put code collection now line w0 w1 r0 r1 result replied = replied.put
 
-pub asked_one : (s t : Searching) (now : Settings) (line : List ℕ) (w0 w1 : Option (List ℕ)) (result : Result (Unit {0}) ShowErr) → Stepped now.mode s.files t.files s.reads t.reads s.faults t.faults → SameOpened s.opened t.opened → ((code : TextCode) (collection : List ℕ) → Over s code collection → Replied code collection now.ranked now line w0 w1 s.reads t.reads result) → Asked s t (record { now = now; line = line } ∷ [])
+pub asked_one : (s t : Searching) (now : Settings) (line : List ℕ) (w0 w1 : Option (List ℕ)) (result : Result (Unit {0}) ShowErr) →
+    Stepped now.mode s.files t.files s.reads t.reads s.faults t.faults → SameOpened s.opened t.opened →
+    ((code : TextCode) (collection : List ℕ) → Over s code collection → Replied code collection now.ranked now line w0 w1 s.reads t.reads result) →
+    Asked s t (record { now = now; line = line } ∷ [])
 unfolding line_bound line_text_bound answer_of
 asked_one s t now line w0 w1 result step same replied = record {
   files = step.files;
@@ -198,7 +219,8 @@ asked_one s t now line w0 w1 result step same replied = record {
   shown = λ code collection over. omega (arith, (replied code collection over).text);
 }
 
-pub line_stops : (s t : Searching) (f g : ℕ) (error : ShowErr) → HasShowCause (Err error) s.faults t.faults f g → ((code : TextCode) (collection : List ℕ) → Over s code collection → ShowIsNotBad (Err error)) → PartStops (MayStop s t) error
+pub line_stops : (s t : Searching) (f g : ℕ) (error : ShowErr) → HasShowCause (Err error) s.faults t.faults f g →
+    ((code : TextCode) (collection : List ℕ) → Over s code collection → ShowIsNotBad (Err error)) → PartStops (MayStop s t) error
 line_stops s t f g (show.Part Device) cause sound = cause.caused
 line_stops s t f g (show.Part Memory) cause sound = tt
 line_stops s t f g (show.Part (Bad bad)) cause sound = sound
@@ -208,6 +230,7 @@ line_stops s t f g show.Memory cause sound = tt
 pub line_written : (r : Result (Unit {0}) ShowErr) (s t f g : ℕ) → HasShowCause r s t f g → IsErrOf r show.Write → Rose f g
 line_written r s t f g cause is = (subst (λ x. HasShowCause x s t f g) is cause).caused
 
-pub line_part : (s t : Searching) (f g : ℕ) (r : Result (Unit {0}) ShowErr) → HasShowCause r s.faults t.faults f g → ((code : TextCode) (collection : List ℕ) → Over s code collection → ShowIsNotBad r) → IfErr r (PartStops (MayStop s t))
+pub line_part : (s t : Searching) (f g : ℕ) (r : Result (Unit {0}) ShowErr) → HasShowCause r s.faults t.faults f g →
+    ((code : TextCode) (collection : List ℕ) → Over s code collection → ShowIsNotBad r) → IfErr r (PartStops (MayStop s t))
 line_part s t f g (Ok value) cause sound = tt
 line_part s t f g (Err error) cause sound = line_stops s t f g error cause sound

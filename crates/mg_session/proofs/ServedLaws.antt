@@ -110,13 +110,15 @@ set_pages k IsOver counted head base s0 s1 s2 r o h set =
     (set.unread part.Post k.lists_kept.0 ∙ first.0, set.unread part.Skip k.lists_kept.1 ∙ first.1, set.unread part.Text k.lists_kept.2 ∙ first.2)
 
 -- the files stand for a collection only where the set with the loaded head does
-pub stands_opened : (base : List ℕ) (s0 s1 : StoreAt) (head : Head) → HeadOpened base s0 s1 (Ok head) → (collection : List ℕ) → Stands s0.files base collection → (code : TextCode) × StandsBy head code s1.files base collection
+pub stands_opened : (base : List ℕ) (s0 s1 : StoreAt) (head : Head) → HeadOpened base s0 s1 (Ok head) → (collection : List ℕ) →
+    Stands s0.files base collection → (code : TextCode) × StandsBy head code s1.files base collection
 stands_opened base s0 s1 head h collection stands =
     let by = loaded_set s0.files base collection head stands (h.head stands.told) in
     (by.0, subst (λ (f : Option Files). StandsBy head by.0 f base collection) (sym h.files) by.1)
 
 -- and with each head only where it does with that one
-by_opened : (base : List ℕ) (s0 s1 : StoreAt) (head : Head) → HeadOpened base s0 s1 (Ok head) → (other : Head) (code : TextCode) (collection : List ℕ) → StandsBy other code s0.files base collection → StandsBy head code s1.files base collection
+by_opened : (base : List ℕ) (s0 s1 : StoreAt) (head : Head) → HeadOpened base s0 s1 (Ok head) → (other : Head) (code : TextCode) (collection : List ℕ) →
+    StandsBy other code s0.files base collection → StandsBy head code s1.files base collection
 by_opened base s0 s1 head h other code collection stands =
     subst (λ (f : Option Files). StandsBy head code f base collection) (sym h.files) (loaded_too s0.files base collection other head code stands (h.head stands.told))
 
@@ -127,7 +129,8 @@ is_there base s0 s1 head X h told none = absurd (no_empty_head _ _ (h.head told)
 -- ---- a session that stops before the first line
 
 -- what is told of the refusal is what the run did
-stopped : (k : Kind) (base : List ℕ) (s0 s1 : StoreAt) (i : SourceAt) (o e e1 : SinkAt) (f : Fault) → s1.files ≡ s0.files → NoPages s0.reads s1.reads → ((p : Part) → k.IsUnread p → s1.reads p ≡ s0.reads p) →
+stopped : (k : Kind) (base : List ℕ) (s0 s1 : StoreAt) (i : SourceAt) (o e e1 : SinkAt) (f : Fault) → s1.files ≡ s0.files → NoPages s0.reads s1.reads →
+    ((p : Part) → k.IsUnread p → s1.reads p ≡ s0.reads p) →
     ServeStops k.IsCounted base (StoreRose s0 s1) (SourceRose i i) (SinkRose o o) s0.files i.left f → (IsSome s0.files → HasNoHead s0.files base → RefusedFor {T = Unit {0}} (Err f) NotBuilt) →
     ServedAs k base (run_of s0 s1 i i o o e e1 (Err f))
 stopped k base s0 s1 i o e e1 f files pages unread cause not_built = record {
@@ -153,7 +156,8 @@ head_stopped k base s0 s1 i o e e1 f h =
     (λ told none. refused_as {A = Head} {B = Unit {0}} f NotBuilt (h.not_built told none))
 
 -- the head is loaded, and a part of its set is refused
-pub set_stopped : {T : Type 0} (k : Kind) (IsOver : T → TextCode → List ℕ → Type 0) (counted : ℕ → Type 0) (base : List ℕ) (s0 s1 s2 : StoreAt) (i : SourceAt) (o e e1 : SinkAt) (head : Head) (f : Fault) →
+pub set_stopped : {T : Type 0} (k : Kind) (IsOver : T → TextCode → List ℕ → Type 0) (counted : ℕ → Type 0) (base : List ℕ) (s0 s1 s2 : StoreAt) (i : SourceAt)
+    (o e e1 : SinkAt) (head : Head) (f : Fault) →
     HeadOpened base s0 s1 (Ok head) → SetOpened {T = T} IsOver k.IsKept counted head base s1 s2 (Err f) → ((n : ℕ) → counted n → k.IsCounted s0.files base n) →
     ServedAs k base (run_of s0 s2 i i o o e e1 (Err f))
 set_stopped k IsOver counted base s0 s1 s2 i o e e1 head f h set counts =
@@ -169,10 +173,12 @@ set_stopped k IsOver counted base s0 s1 s2 i o e e1 head f h set counts =
 -- why it stops
 lines_cause : (k : Kind) (base : List ℕ) (s0 : StoreAt) (old new : k.State) (i i1 : SourceAt) (o o1 : SinkAt) (r : Result (Unit {0}) Fault) → s0.faults ≤ (k.at old).faults →
     ((collection : List ℕ) → Stands s0.files base collection → (code : TextCode) × k.IsOver old code collection) →
-    IfErr r (LineStops (SourceRose i i1) (SinkRose o o1) (IsTooLong i.left) (k.MayStop old new)) → IfErr r (ServeStops k.IsCounted base (StoreRose s0 (k.at new)) (SourceRose i i1) (SinkRose o o1) s0.files i.left)
+    IfErr r (LineStops (SourceRose i i1) (SinkRose o o1) (IsTooLong i.left) (k.MayStop old new)) →
+    IfErr r (ServeStops k.IsCounted base (StoreRose s0 (k.at new)) (SourceRose i i1) (SinkRose o o1) s0.files i.left)
 lines_cause k base s0 old new i i1 o o1 (Ok value) later over cause = tt
 lines_cause k base s0 old new i i1 o o1 (Err f) later over cause =
-    line_stops f (StoreRose s0 (k.at new)) (SourceRose i i1) (SinkRose o o1) (IsSome s0.files → HasNoHead s0.files base) (StandsForNone s0.files base) (k.IsCounted s0.files base) (k.MayStop old new) i.left (λ may. omega (arith, later, k.device old new may))
+    line_stops f (StoreRose s0 (k.at new)) (SourceRose i i1) (SinkRose o o1) (IsSome s0.files → HasNoHead s0.files base) (StandsForNone s0.files base)
+    (k.IsCounted s0.files base) (k.MayStop old new) i.left (λ may. omega (arith, later, k.device old new may))
     (λ b may collection stands. let is = over collection stands in k.bad old new b may is.0 collection is.1) cause
 
 lines_first : (r : Result (Unit {0}) Fault) (I O L X : Type 0) (MayStop : PartErr → Type 0) (f : Fault) → status_of r ≡ Stopped f → IsFirst f → IfErr r (LineStops I O L MayStop) → X
@@ -180,7 +186,8 @@ lines_first r I O L X MayStop f is first cause =
     line_later f I O L X MayStop (subst (λ (x : Result (Unit {0}) Fault). IfErr x (LineStops I O L MayStop)) (err_by r f is) cause) first
 
 -- the head is loaded, its set is opened, and lines are answered
-pub lines_served : {T : Type 0} (k : Kind) (IsOver : T → TextCode → List ℕ → Type 0) (counted : ℕ → Type 0) (base : List ℕ) (s0 s1 : StoreAt) (old new : k.State) (i i1 : SourceAt) (o o1 e e1 : SinkAt) (head : Head) (opened : T) (r : Result (Unit {0}) Fault) →
+pub lines_served : {T : Type 0} (k : Kind) (IsOver : T → TextCode → List ℕ → Type 0) (counted : ℕ → Type 0) (base : List ℕ) (s0 s1 : StoreAt)
+    (old new : k.State) (i i1 : SourceAt) (o o1 e e1 : SinkAt) (head : Head) (opened : T) (r : Result (Unit {0}) Fault) →
     HeadOpened base s0 s1 (Ok head) → SetOpened IsOver k.IsKept counted head base s1 (k.at old) (Ok opened) →
     ((code : TextCode) (collection : List ℕ) → IsOver opened code collection → k.IsOver old code collection) →
     LinesServed k.hearing k.Answers k.After k.MayStop old new i i1 o o1 r →
@@ -191,7 +198,8 @@ lines_served k IsOver counted base s0 s1 old new i i1 o o1 e e1 head opened r h 
     record {
       done = λ collection given stands some end.
           let is = over collection stands in
-          subst (λ (t : List ℕ). o1.written ≡ appended o.written t) (sym (k.text_is collection given)) (when_ok _ r end (lines.all (k.reply collection) given (k.answers old is.0 collection is.1) some));
+          subst (λ (t : List ℕ). o1.written ≡ appended o.written t) (sym (k.text_is collection given))
+          (when_ok _ r end (lines.all (k.reply collection) given (k.answers old is.0 collection is.1) some));
       left = λ given some end. when_ok _ r end (lines.left given some);
       within = λ given some end. when_ok _ r end (lines.within given some);
       prefix = λ collection given stands some.

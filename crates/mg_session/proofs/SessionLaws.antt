@@ -28,7 +28,8 @@ pub answers_over : (s : Searching) (code : TextCode) (collection : List ℕ) →
 answers_over s code collection over = record { code = code; collection = collection; over = over; by_is = refl }
 
 -- the first of the queries of an input
-pub pages_within : (s t : Searching) (answered : List Question) (code : TextCode) (collection given : List ℕ) → Asked s t answered → (more : List Question) × (questions_of given ≡ answered ++ more) → Over s code collection → ReadsWithin code collection given s.reads t.reads
+pub pages_within : (s t : Searching) (answered : List Question) (code : TextCode) (collection given : List ℕ) → Asked s t answered →
+    (more : List Question) × (questions_of given ≡ answered ++ more) → Over s code collection → ReadsWithin code collection given s.reads t.reads
 unfolding session_bound session_text_bound
 pages_within s t answered code collection given a first over = record {
   post = omega (arith, a.post code collection over, ap (sum_by (line_bound collection)) first.1, sum_by-append (line_bound collection) answered first.0);
@@ -36,5 +37,7 @@ pages_within s t answered code collection given a first over = record {
 }
 
 -- where no query line of an input asks for texts, none of the first of them does
-pub first_ask_none : (s t : Searching) (answered : List Question) (given : List ℕ) → Asked s t answered → (more : List Question) × (questions_of given ≡ answered ++ more) → AskForNoText (questions_of given) → (p : Part) → is_of_text p ≡ true → t.reads p ≡ s.reads p
+pub first_ask_none : (s t : Searching) (answered : List Question) (given : List ℕ) → Asked s t answered →
+    (more : List Question) × (questions_of given ≡ answered ++ more) → AskForNoText (questions_of given) → (p : Part) → is_of_text p ≡ true →
+    t.reads p ≡ s.reads p
 first_ask_none s t answered given a first none p of_text = a.texts_unread (ask_before answered first.0 (subst AskForNoText first.1 none)) p of_text

@@ -60,12 +60,14 @@ set_lexicon base files head code collection is =
     }
 
 -- its text, where the files are the same
-pub set_text : (base : List ℕ) (files now : Option Files) (head : Head) (code : TextCode) (collection : List ℕ) → now ≡ files → StandsBy head code files base collection → IsText base now head code collection
+pub set_text : (base : List ℕ) (files now : Option Files) (head : Head) (code : TextCode) (collection : List ℕ) → now ≡ files →
+    StandsBy head code files base collection → IsText base now head code collection
 set_text base files now head code collection same is = subst (λ f. IsText base f head code collection) (sym same) (set_is_text base files head code collection is)
 
 -- ---- what is opened of a set
 
-pub opened_over : (base : List ℕ) (files now : Option Files) (head : Head) (code : TextCode) (collection : List ℕ) (lex : Fronted) → now ≡ files → StandsBy head code files base collection → LexStands lex now collection → OpenedOver now (opened_at base lex head) code collection
+pub opened_over : (base : List ℕ) (files now : Option Files) (head : Head) (code : TextCode) (collection : List ℕ) (lex : Fronted) → now ≡ files →
+    StandsBy head code files base collection → LexStands lex now collection → OpenedOver now (opened_at base lex head) code collection
 opened_over base files now head code collection lex same is lexicon = record {
   version = head.version;
   limits = is.are.limits;
@@ -84,14 +86,16 @@ opened_fits base files head lex lexicon words others = record {
 
 -- ---- the head of a set
 
-pub loaded_by : (files : Option Files) (base collection : List ℕ) (head : Head) → Stands files base collection → IsHead 1 2 (bytes_at files (full_name base part.Head)) (fields_of head) → (code : TextCode) × StandsBy head code files base collection
+pub loaded_by : (files : Option Files) (base collection : List ℕ) (head : Head) → Stands files base collection →
+    IsHead 1 2 (bytes_at files (full_name base part.Head)) (fields_of head) → (code : TextCode) × StandsBy head code files base collection
 loaded_by files base collection head is loaded = loaded_set files base collection head is loaded
 
 pub stands_too : (files : Option Files) (base collection : List ℕ) (head : Head) (code : TextCode) → StandsBy head code files base collection → Stands files base collection
 stands_too files base collection head code is = record { told = is.told; stand = record { version = head.version; cap = head.cap; code = code; are = is.are } }
 
 -- a head that was loaded is that of the set, whatever head it is told to have
-pub loaded_too : (files : Option Files) (base collection : List ℕ) (head loaded : Head) (code : TextCode) → StandsBy head code files base collection → IsHead 1 2 (bytes_at files (full_name base part.Head)) (fields_of loaded) → StandsBy loaded code files base collection
+pub loaded_too : (files : Option Files) (base collection : List ℕ) (head loaded : Head) (code : TextCode) → StandsBy head code files base collection →
+    IsHead 1 2 (bytes_at files (full_name base part.Head)) (fields_of loaded) → StandsBy loaded code files base collection
 loaded_too files base collection head loaded code is read =
     let own : defs.Head = head_of head.version head.cap code collection in
     let tell : Tell (parts_at files base) own code = stand-tells head.version head.cap code (parts_at files base) collection is.are in

@@ -132,7 +132,8 @@ pub lex_step : (w : Mode) (f g : Option Files) (r s : Reads) (m n : ℕ) → Loo
 lex_step w f g r s m n looked = record {
   files = looked.files;
   faults = looked.faults;
-  unread = λ p unread. looked.others p (same_false p part.Lex 4 10 (unread_part w p unread) (omega arith) (omega arith)) (same_false p part.LexAt 4 10 (unread_part w p unread) (omega arith) (omega arith));
+  unread = λ p unread. looked.others p (same_false p part.Lex 4 10 (unread_part w p unread) (omega arith) (omega arith))
+      (same_false p part.LexAt 4 10 (unread_part w p unread) (omega arith) (omega arith));
 }
 
 pub lists_step : (w : Mode) (f g : Option Files) (r s : Reads) (m n : ℕ) → g ≡ f → m ≤ n → ReadsLists r s → Stepped w f g r s m n
@@ -146,7 +147,8 @@ pub ranked_step : (w : Mode) (f g : Option Files) (r s : Reads) (m n : ℕ) → 
 ranked_step w f g r s m n files later reads = record {
   files = files;
   faults = later;
-  unread = λ p unread. reads.others p (unread_than w p part.Post unread (omega arith) (omega arith)) (unread_than w p part.Skip unread (omega arith) (omega arith)) (unread_than w p part.Weights unread (omega arith) (omega arith));
+  unread = λ p unread. reads.others p (unread_than w p part.Post unread (omega arith) (omega arith))
+      (unread_than w p part.Skip unread (omega arith) (omega arith)) (unread_than w p part.Weights unread (omega arith) (omega arith));
 }
 
 -- ---- documents that are shown
@@ -175,7 +177,8 @@ shown_then w f g h r s t k m n a b = record {
 }
 
 -- the models were read, or the text
-pub looked_shown : (one other : Part) (f g : Option Files) (r s : Reads) (m n : ℕ) → 1 ≤ number one → number one ≤ 4 → 1 ≤ number other → number other ≤ 4 → LookedAt one other f g r s m n → ShownIn mode.Text f g r s m n
+pub looked_shown : (one other : Part) (f g : Option Files) (r s : Reads) (m n : ℕ) → 1 ≤ number one → number one ≤ 4 → 1 ≤ number other → number other ≤ 4 →
+    LookedAt one other f g r s m n → ShownIn mode.Text f g r s m n
 looked_shown one other f g r s m n low high low_other high_other looked = record {
   files = looked.files;
   faults = looked.faults;

@@ -40,13 +40,15 @@ head_read r s (inr one) p high = one p ∙ ap (λ b. cond b (max (r p) (min (r p
 -- ---- causes while a set is opened
 
 -- a part was refused
-pub open_part : {T : Type 0} (refusal : PartErr) (s0 s1 t : ℕ) (U D : Type 0) (C : ℕ → Type 0) → s0 ≤ s1 → HasPartCause {T = T} s1 t (Err refusal) → ((IsNotBad refusal → ⊥) → D) → OpenStops (Rose s0 t) U D C (fault_of_part refusal)
+pub open_part : {T : Type 0} (refusal : PartErr) (s0 s1 t : ℕ) (U D : Type 0) (C : ℕ → Type 0) → s0 ≤ s1 → HasPartCause {T = T} s1 t (Err refusal) →
+    ((IsNotBad refusal → ⊥) → D) → OpenStops (Rose s0 t) U D C (fault_of_part refusal)
 open_part err.Device s0 s1 t U D C le cause bad = omega (arith, le, cause.device)
 open_part err.Memory s0 s1 t U D C le cause bad = tt
 open_part (err.Bad b) s0 s1 t U D C le cause bad = bad (λ d. d)
 
 -- what stops the opening stops the session
-pub open_stops : (f : Fault) (A B I O U V D E : Type 0) (C K : ℕ → Type 0) (input : Option (List ℕ)) → (A → B) → (U → V) → (D → E) → ((n : ℕ) → C n → K n) → OpenStops A U D C f → Stops B I O V E K input f
+pub open_stops : (f : Fault) (A B I O U V D E : Type 0) (C K : ℕ → Type 0) (input : Option (List ℕ)) → (A → B) → (U → V) → (D → E) → ((n : ℕ) → C n → K n) →
+    OpenStops A U D C f → Stops B I O V E K input f
 open_stops fault.Usage A B I O U V D E C K input rose none bad counts stops = stops
 open_stops fault.StoreFault A B I O U V D E C K input rose none bad counts stops = rose stops
 open_stops fault.ReadFault A B I O U V D E C K input rose none bad counts stops = absurd stops
@@ -76,7 +78,8 @@ ended (serve.Show (show.Part err.Memory)) I O L MayStop e = tt
 ended (serve.Show (show.Part (err.Bad b))) I O L MayStop e = e
 
 -- what stops the lines stops the session
-pub line_stops : (f : Fault) (B I O V E : Type 0) (K : ℕ → Type 0) (MayStop : PartErr → Type 0) (input : Option (List ℕ)) → (MayStop err.Device → B) → ((b : Bad) → MayStop (err.Bad b) → E) → LineStops I O (IsTooLong input) MayStop f → Stops B I O V E K input f
+pub line_stops : (f : Fault) (B I O V E : Type 0) (K : ℕ → Type 0) (MayStop : PartErr → Type 0) (input : Option (List ℕ)) → (MayStop err.Device → B) →
+    ((b : Bad) → MayStop (err.Bad b) → E) → LineStops I O (IsTooLong input) MayStop f → Stops B I O V E K input f
 line_stops fault.Usage B I O V E K MayStop input rose bad stops = stops
 line_stops fault.StoreFault B I O V E K MayStop input rose bad stops = rose stops
 line_stops fault.ReadFault B I O V E K MayStop input rose bad stops = stops

@@ -28,7 +28,8 @@ loaded_later base head files now r s same fits e o = record {
     size_is = same.size ∙ o.reader.size_is;
   };
   stands = λ code collection is.
-      text_stays r s files now collection same (ap is_some e) (ap (λ (f : Option Files). file_at f r.text.name) e) (ap (λ (f : Option Files). file_at f r.places.name) e) (o.stands code collection (before code collection is));
+      text_stays r s files now collection same (ap is_some e) (ap (λ (f : Option Files). file_at f r.text.name) e)
+      (ap (λ (f : Option Files). file_at f r.places.name) e) (o.stands code collection (before code collection is));
   code = λ code collection is. same.code ∙ o.code code collection (before code collection is);
 }
   where
@@ -37,7 +38,8 @@ loaded_later base head files now r s same fits e o = record {
 
 -- a reader that was loaded
 pub loaded_now : (base : List ℕ) (head : Head) (files now : Option Files) (r : TextReading) → now ≡ files → TextFits r now → IsTextReader r base head →
-    ((code : TextCode) (collection : List ℕ) → IsText base files head code collection → TextStands r now collection) → ((code : TextCode) (collection : List ℕ) → IsText base files head code collection → r.code ≡ code) → IsLoaded base head now r
+    ((code : TextCode) (collection : List ℕ) → IsText base files head code collection → TextStands r now collection) →
+    ((code : TextCode) (collection : List ℕ) → IsText base files head code collection → r.code ≡ code) → IsLoaded base head now r
 loaded_now base head files now r e fits reader stands code = record {
   fits = fits;
   reader = reader;

@@ -15,12 +15,14 @@ put_all w0 w1 w2 waited waiting bytes passed put =
     put ∙ ap (λ w. appended w waiting) passed.given ∙ appended-appended w0 passed.sent waiting ∙ ap (appended w0) passed.whole
 
 -- rows were passed on, and what waited of them was put with what came behind it
-pub put_rest : {T E : Type 0} (w0 w1 w2 : Option (List ℕ)) (waiting rows more : List ℕ) (r : Result T E) → Passed w0 w1 [] waiting rows → AfterPut w1 w2 (waiting ++ more) r → AfterPut w0 w2 (rows ++ more) r
+pub put_rest : {T E : Type 0} (w0 w1 w2 : Option (List ℕ)) (waiting rows more : List ℕ) (r : Result T E) → Passed w0 w1 [] waiting rows →
+    AfterPut w1 w2 (waiting ++ more) r → AfterPut w0 w2 (rows ++ more) r
 put_rest w0 w1 w2 waiting rows more r passed put =
     subst (λ x. AfterPut w0 w2 x r) (sym (append_assoc passed.sent waiting more) ∙ ap (λ x. x ++ more) passed.whole) (put_second w0 w1 w2 passed.sent (waiting ++ more) r passed.given put)
 
 -- the same where nothing had waited
-pub put_rows : {T E : Type 0} (w0 w1 w2 : Option (List ℕ)) (waited waiting rows more : List ℕ) (r : Result T E) → waited ≡ [] → Passed w0 w1 waited waiting rows → AfterPut w1 w2 (waiting ++ more) r → AfterPut w0 w2 (rows ++ more) r
+pub put_rows : {T E : Type 0} (w0 w1 w2 : Option (List ℕ)) (waited waiting rows more : List ℕ) (r : Result T E) → waited ≡ [] →
+    Passed w0 w1 waited waiting rows → AfterPut w1 w2 (waiting ++ more) r → AfterPut w0 w2 (rows ++ more) r
 put_rows w0 w1 w2 waited waiting rows more r none passed put =
     put_rest w0 w1 w2 waiting rows more r (subst (λ p. Passed w0 w1 p waiting rows) none passed) put
 

@@ -57,7 +57,8 @@ goes_none (s ∷ more) now goes = absurd goes
 
 -- ---- the pages of the text
 
-texts_more : (f : Shown → ℕ) (most : Option ℕ) (so_far : List Shown) (hit : Shown) (total : ℕ) → length so_far ≡ total → sum_by f (limited_to most (so_far ++ hit ∷ [])) ≡ sum_by f (limited_to most so_far) + (if shows most total then f hit else 0)
+texts_more : (f : Shown → ℕ) (most : Option ℕ) (so_far : List Shown) (hit : Shown) (total : ℕ) → length so_far ≡ total →
+    sum_by f (limited_to most (so_far ++ hit ∷ [])) ≡ sum_by f (limited_to most so_far) + (if shows most total then f hit else 0)
 texts_more f most so_far hit total size =
     elim (cases_Bool (shows most total)) [
       | inl more ↦ omega (
@@ -74,7 +75,8 @@ none_more true = refl
 none_more false = refl
 
 pages_adds : (code : TextCode) (collection : List ℕ) (mode : Mode) (most : Option ℕ) (so_far : List Shown) (hit : Shown) (total : ℕ) → length so_far ≡ total →
-    sum_by (doc_pages code collection) (texts_in mode most (so_far ++ hit ∷ [])) ≡ sum_by (doc_pages code collection) (texts_in mode most so_far) + (if shows most total then mode_pages code collection mode hit else 0)
+    sum_by (doc_pages code collection) (texts_in mode most (so_far ++ hit ∷ [])) ≡ sum_by (doc_pages code collection) (texts_in mode most so_far)
+    + (if shows most total then mode_pages code collection mode hit else 0)
 pages_adds code collection Docnums most so_far hit total size = omega (arith, none_more (shows most total))
 pages_adds code collection Text most so_far hit total size = texts_more (doc_pages code collection) most so_far hit total size
 pages_adds code collection Count most so_far hit total size = omega (arith, none_more (shows most total))
@@ -84,7 +86,8 @@ texts_front f most xs ys =
     let front = first-front most xs ys in
     omega (arith, ap (sum_by f) front.1, sum_by-append f (limited_to most xs) front.0)
 
-pages_front : (code : TextCode) (collection : List ℕ) (mode : Mode) (most : Option ℕ) (xs ys : List Shown) → sum_by (doc_pages code collection) (texts_in mode most xs) ≤ sum_by (doc_pages code collection) (texts_in mode most (xs ++ ys))
+pages_front : (code : TextCode) (collection : List ℕ) (mode : Mode) (most : Option ℕ) (xs ys : List Shown) →
+    sum_by (doc_pages code collection) (texts_in mode most xs) ≤ sum_by (doc_pages code collection) (texts_in mode most (xs ++ ys))
 pages_front code collection Docnums most xs ys = omega arith
 pages_front code collection Text most xs ys = texts_front (doc_pages code collection) most xs ys
 pages_front code collection Count most xs ys = omega arith
@@ -96,7 +99,8 @@ no_pages code collection Count most = refl
 
 -- ---- one document after another
 
-pub walked_start : (base : List ℕ) (code : TextCode) (collection : List ℕ) (q : Query) (now : Settings) (w : Option (List ℕ)) (waiting : List ℕ) (m : Matching) (r : Reads) → waiting ≡ [] → query_of m.asks ≡ q → m.decided ≡ 0 → MatchesOver base collection m → Walked base code collection q now w w waiting 0 m r r
+pub walked_start : (base : List ℕ) (code : TextCode) (collection : List ℕ) (q : Query) (now : Settings) (w : Option (List ℕ)) (waiting : List ℕ) (m : Matching)
+    (r : Reads) → waiting ≡ [] → query_of m.asks ≡ q → m.decided ≡ 0 → MatchesOver base collection m → Walked base code collection q now w w waiting 0 m r r
 walked_start base code collection q now w waiting m r none asks before over = record {
   so_far = [];
   split = ap (λ p. satisfying collection p) (sym asks) ∙ ap (λ n. found (query_of m.asks) (n + 1) (drop n (documents collection))) (sym before);
@@ -108,9 +112,12 @@ walked_start base code collection q now w waiting m r none asks before over = re
 }
 
 -- a document that was found
-pub walked_hit : (base : List ℕ) (code : TextCode) (collection : List ℕ) (q : Query) (now : Settings) (w0 w1 w2 : Option (List ℕ)) (waiting waiting2 : List ℕ) (total number bound : ℕ) (m n : Matching) (r0 r1 r2 r3 : Reads) →
-    Walked base code collection q now w0 w1 waiting total m r0 r1 → GoesOn (left_of collection m) (left_of collection n) (Some number) → MatchesOver base collection n → PagesWithin bound (pages_read m.places) (pages_read n.places) r1 r2 → r2 part.Text ≡ r1 part.Text →
-    Passed w1 w2 waiting waiting2 (hit_text (document collection number) now.mode now.most total (at_score number None)) → r3 part.Post ≡ r2 part.Post → r3 part.Text ≤ r2 part.Text + hit_pages code collection now total (at_score number None) →
+pub walked_hit : (base : List ℕ) (code : TextCode) (collection : List ℕ) (q : Query) (now : Settings) (w0 w1 w2 : Option (List ℕ)) (waiting waiting2 : List ℕ)
+    (total number bound : ℕ) (m n : Matching) (r0 r1 r2 r3 : Reads) →
+    Walked base code collection q now w0 w1 waiting total m r0 r1 → GoesOn (left_of collection m) (left_of collection n) (Some number) →
+    MatchesOver base collection n → PagesWithin bound (pages_read m.places) (pages_read n.places) r1 r2 → r2 part.Text ≡ r1 part.Text →
+    Passed w1 w2 waiting waiting2 (hit_text (document collection number) now.mode now.most total (at_score number None)) → r3 part.Post ≡ r2 part.Post →
+    r3 part.Text ≤ r2 part.Text + hit_pages code collection now total (at_score number None) →
     Walked base code collection q now w0 w2 waiting2 (total + 1) n r0 r3
 walked_hit base code collection q now w0 w1 w2 waiting waiting2 total number bound m n r0 r1 r2 r3 w goes over pages text passed post shown_text =
     let hit = at_score number None in
@@ -118,7 +125,8 @@ walked_hit base code collection q now w0 w1 w2 waiting waiting2 total number bou
     pass_both w0 w1 w2 [] waiting waiting2 (flat_map (shown collection now.mode) (limited_to now.most w.so_far)) (hit_text (document collection number) now.mode now.most total hit) w.passed passed in
     record {
       so_far = w.so_far ++ hit ∷ [];
-      split = w.split ∙ ap (λ l. w.so_far ++ l) (goes_some (left_of collection m) (left_of collection n) number (left_plain collection m) goes) ∙ sym (append_assoc w.so_far (hit ∷ []) (left_of collection n));
+      split = w.split ∙ ap (λ l. w.so_far ++ l) (goes_some (left_of collection m) (left_of collection n) number (left_plain collection m) goes)
+          ∙ sym (append_assoc w.so_far (hit ∷ []) (left_of collection n));
       total_is = omega (arith, length-append w.so_far (hit ∷ []), w.total_is);
       passed = subst (Passed w0 w2 [] waiting2) (sym (hit_adds collection now (document collection number) w.so_far hit total refl w.total_is)) whole;
       over = over;
@@ -129,19 +137,25 @@ walked_hit base code collection q now w0 w1 w2 waiting waiting2 total number bou
 -- ---- the end, and stops before it
 
 -- what was printed so far is a prefix of the reply
-so_far_prefix : (base : List ℕ) (code : TextCode) (collection : List ℕ) (q : Query) (now : Settings) (w0 w1 : Option (List ℕ)) (waiting : List ℕ) (total : ℕ) (m : Matching) (r0 r1 : Reads) → Walked base code collection q now w0 w1 waiting total m r0 r1 → GrewByPrefix w0 w1 (answer_text collection now (satisfying collection q))
+so_far_prefix : (base : List ℕ) (code : TextCode) (collection : List ℕ) (q : Query) (now : Settings) (w0 w1 : Option (List ℕ)) (waiting : List ℕ) (total : ℕ)
+    (m : Matching) (r0 r1 : Reads) → Walked base code collection q now w0 w1 waiting total m r0 r1 →
+    GrewByPrefix w0 w1 (answer_text collection now (satisfying collection q))
 so_far_prefix base code collection q now w0 w1 waiting total m r0 r1 w =
     let front = reply-front collection now w.so_far (left_of collection m) in
-    let part : GrewByPrefix w0 w1 (w.passed.sent ++ waiting) = grew_first w0 w1 w.passed.sent waiting (record { count = length w.passed.sent; within = omega arith; is = w.passed.given ∙ ap (appended w0) (sym (take-length w.passed.sent)) }) in
+    let part : GrewByPrefix w0 w1 (w.passed.sent ++ waiting) = grew_first w0 w1 w.passed.sent waiting
+    (record { count = length w.passed.sent; within = omega arith; is = w.passed.given ∙ ap (appended w0) (sym (take-length w.passed.sent)) }) in
     let shown_part : GrewByPrefix w0 w1 (flat_map (shown collection now.mode) (limited_to now.most w.so_far)) = subst (GrewByPrefix w0 w1) w.passed.whole part in
     subst (GrewByPrefix w0 w1) (sym (ap (answer_text collection now) w.split ∙ front.1)) (grew_first w0 w1 _ front.0 shown_part)
 
-pages_so_far : (base : List ℕ) (code : TextCode) (collection : List ℕ) (q : Query) (now : Settings) (w0 w1 : Option (List ℕ)) (waiting : List ℕ) (total : ℕ) (m : Matching) (r0 r1 : Reads) → Walked base code collection q now w0 w1 waiting total m r0 r1 → r1 part.Text ≤ r0 part.Text + answer_pages code collection now (satisfying collection q)
+pages_so_far : (base : List ℕ) (code : TextCode) (collection : List ℕ) (q : Query) (now : Settings) (w0 w1 : Option (List ℕ)) (waiting : List ℕ) (total : ℕ)
+    (m : Matching) (r0 r1 : Reads) → Walked base code collection q now w0 w1 waiting total m r0 r1 →
+    r1 part.Text ≤ r0 part.Text + answer_pages code collection now (satisfying collection q)
 pages_so_far base code collection q now w0 w1 waiting total m r0 r1 w =
     omega (arith, w.text, pages_front code collection now.mode now.most w.so_far (left_of collection m), ap (answer_pages code collection now) w.split)
 
 -- the lists could not be read
-pub walked_stop : (base : List ℕ) (code : TextCode) (collection : List ℕ) (q : Query) (now : Settings) (w0 w1 : Option (List ℕ)) (waiting : List ℕ) (total bound : ℕ) (m n : Matching) (r0 r1 r2 : Reads) (error : ShowErr) →
+pub walked_stop : (base : List ℕ) (code : TextCode) (collection : List ℕ) (q : Query) (now : Settings) (w0 w1 : Option (List ℕ)) (waiting : List ℕ)
+    (total bound : ℕ) (m n : Matching) (r0 r1 r2 : Reads) (error : ShowErr) →
     Walked base code collection q now w0 w1 waiting total m r0 r1 → PagesWithin bound (pages_read m.places) (pages_read n.places) r1 r2 → r2 part.Text ≡ r1 part.Text → ShowIsNotBad (Err error) →
     Answered code collection now (satisfying collection q) bound w0 w1 r0 r2 (Err error)
 walked_stop base code collection q now w0 w1 waiting total bound m n r0 r1 r2 error w pages text sound = record {
@@ -152,9 +166,12 @@ walked_stop base code collection q now w0 w1 waiting total bound m n r0 r1 r2 er
 }
 
 -- a document could not be shown
-pub walked_cut : (base : List ℕ) (code : TextCode) (collection : List ℕ) (q : Query) (now : Settings) (w0 w1 w2 : Option (List ℕ)) (waiting : List ℕ) (total number bound : ℕ) (m n : Matching) (r0 r1 r2 r3 : Reads) (error : ShowErr) →
-    Walked base code collection q now w0 w1 waiting total m r0 r1 → GoesOn (left_of collection m) (left_of collection n) (Some number) → PagesWithin bound (pages_read m.places) (pages_read n.places) r1 r2 → r2 part.Text ≡ r1 part.Text →
-    GrewByPrefix w1 w2 (waiting ++ hit_text (document collection number) now.mode now.most total (at_score number None)) → r3 part.Post ≡ r2 part.Post → r3 part.Text ≤ r2 part.Text + hit_pages code collection now total (at_score number None) → ShowIsNotBad (Err error) →
+pub walked_cut : (base : List ℕ) (code : TextCode) (collection : List ℕ) (q : Query) (now : Settings) (w0 w1 w2 : Option (List ℕ)) (waiting : List ℕ)
+    (total number bound : ℕ) (m n : Matching) (r0 r1 r2 r3 : Reads) (error : ShowErr) →
+    Walked base code collection q now w0 w1 waiting total m r0 r1 → GoesOn (left_of collection m) (left_of collection n) (Some number) →
+    PagesWithin bound (pages_read m.places) (pages_read n.places) r1 r2 → r2 part.Text ≡ r1 part.Text →
+    GrewByPrefix w1 w2 (waiting ++ hit_text (document collection number) now.mode now.most total (at_score number None)) → r3 part.Post ≡ r2 part.Post →
+    r3 part.Text ≤ r2 part.Text + hit_pages code collection now total (at_score number None) → ShowIsNotBad (Err error) →
     Answered code collection now (satisfying collection q) bound w0 w2 r0 r3 (Err error)
 walked_cut base code collection q now w0 w1 w2 waiting total number bound m n r0 r1 r2 r3 error w goes pages text grew post shown_text sound =
     let hit = at_score number None in
@@ -183,19 +200,24 @@ walked_cut base code collection q now w0 w1 w2 waiting total number bound m n r0
     }
 
 -- all were found
-ended : (base : List ℕ) (code : TextCode) (collection : List ℕ) (q : Query) (now : Settings) (w0 w1 : Option (List ℕ)) (waiting : List ℕ) (total : ℕ) (m n : Matching) (r0 r1 : Reads) → Walked base code collection q now w0 w1 waiting total m r0 r1 → GoesOn (left_of collection m) (left_of collection n) None →
+ended : (base : List ℕ) (code : TextCode) (collection : List ℕ) (q : Query) (now : Settings) (w0 w1 : Option (List ℕ)) (waiting : List ℕ) (total : ℕ)
+    (m n : Matching) (r0 r1 : Reads) → Walked base code collection q now w0 w1 waiting total m r0 r1 →
+    GoesOn (left_of collection m) (left_of collection n) None →
     (shown_part : List ℕ) × Passed w0 w1 [] waiting shown_part × (answer_text collection now (satisfying collection q) ≡ shown_part ++ count total)
 unfolding answer_text
 ended base code collection q now w0 w1 waiting total m n r0 r1 w goes =
     let all : satisfying collection q ≡ w.so_far = w.split ∙ ap (λ l. w.so_far ++ l) (goes_none (left_of collection m) (left_of collection n) goes) ∙ append-nil w.so_far in (
       flat_map (shown collection now.mode) (limited_to now.most w.so_far),
       w.passed,
-      ap (λ xs. flat_map (shown collection now.mode) (limited_to now.most xs) ++ count (length xs)) all ∙ ap (λ k. flat_map (shown collection now.mode) (limited_to now.most w.so_far) ++ count k) w.total_is,
+      ap (λ xs. flat_map (shown collection now.mode) (limited_to now.most xs) ++ count (length xs)) all
+          ∙ ap (λ k. flat_map (shown collection now.mode) (limited_to now.most w.so_far) ++ count k) w.total_is,
     )
 
 -- the count was put behind all that waited, or refused
-pub walked_end : (base : List ℕ) (code : TextCode) (collection : List ℕ) (q : Query) (now : Settings) (w0 w1 w2 : Option (List ℕ)) (waiting : List ℕ) (total bound : ℕ) (m n : Matching) (r0 r1 r2 : Reads) (result : Result (Unit {0}) ShowErr) →
-    Walked base code collection q now w0 w1 waiting total m r0 r1 → GoesOn (left_of collection m) (left_of collection n) None → PagesWithin bound (pages_read m.places) (pages_read n.places) r1 r2 → r2 part.Text ≡ r1 part.Text →
+pub walked_end : (base : List ℕ) (code : TextCode) (collection : List ℕ) (q : Query) (now : Settings) (w0 w1 w2 : Option (List ℕ)) (waiting : List ℕ)
+    (total bound : ℕ) (m n : Matching) (r0 r1 r2 : Reads) (result : Result (Unit {0}) ShowErr) →
+    Walked base code collection q now w0 w1 waiting total m r0 r1 → GoesOn (left_of collection m) (left_of collection n) None →
+    PagesWithin bound (pages_read m.places) (pages_read n.places) r1 r2 → r2 part.Text ≡ r1 part.Text →
     AfterPut w1 w2 (waiting ++ count total) result → ShowIsNotBad result →
     Answered code collection now (satisfying collection q) bound w0 w2 r0 r2 result
 walked_end base code collection q now w0 w1 w2 waiting total bound m n r0 r1 r2 result w goes pages text put sound =

@@ -36,7 +36,8 @@ pub record Marking (collection t : List ℕ) (last : ℕ) (old new : DocumentMar
 pub marking_start : (collection t : List ℕ) (marks : DocumentMarks) → Marking collection t 0 marks marks
 marking_start collection t marks = record { near = λ doc some within. absurd (omega (arith, some, within)); far = λ doc some behind. refl }
 
-pub marking_next : (collection t : List ℕ) (last : ℕ) (old mid new : DocumentMarks) (p : Posting) → Marking collection t last old mid → head_of (from_doc (last + 1) (postings collection t)) ≡ Some p → last < p.doc → p.doc ≤ length (documents collection) →
+pub marking_next : (collection t : List ℕ) (last : ℕ) (old mid new : DocumentMarks) (p : Posting) → Marking collection t last old mid →
+    head_of (from_doc (last + 1) (postings collection t)) ≡ Some p → last < p.doc → p.doc ≤ length (documents collection) →
     ((other : ℕ) → 1 ≤ other → has_doc new other ≡ (other == p.doc || has_doc mid other)) → Marking collection t p.doc old new
 marking_next collection t last old mid new p walk is low le marked = record {
   near = λ doc some high. elim (cases_eq doc p.doc) [
@@ -59,7 +60,8 @@ one_list : (doc t : List ℕ) → list_any (has_term doc) (t ∷ []) ≡ has_ter
 one_list doc t = or_none (has_term doc t)
 
 -- where no document is left
-pub marking_end : (collection t : List ℕ) (last : ℕ) (old new : DocumentMarks) → Marking collection t last old new → ((doc : ℕ) → last < doc → doc ≤ length (documents collection) → has_term (document collection doc) t ≡ false) → AddsLists collection (t ∷ []) old new
+pub marking_end : (collection t : List ℕ) (last : ℕ) (old new : DocumentMarks) → Marking collection t last old new →
+    ((doc : ℕ) → last < doc → doc ≤ length (documents collection) → has_term (document collection doc) t ≡ false) → AddsLists collection (t ∷ []) old new
 marking_end collection t last old new walk none = record {
   each = λ doc some le. elim (cases_lt last doc) [
     | inl behind ↦ walk.far doc some behind ∙ sym (ap (λ b. has_doc old doc || b) (one_list (document collection doc) t ∙ none doc behind le) ∙ or_none (has_doc old doc))
@@ -72,7 +74,8 @@ marking_end collection t last old new walk none = record {
 pub adds_none : (collection : List ℕ) (marks : DocumentMarks) → AddsLists collection [] marks marks
 adds_none collection marks = record { each = λ doc some le. sym (or_none (has_doc marks doc)) }
 
-pub adds_more : (collection : List ℕ) (ts us : List (List ℕ)) (old mid new : DocumentMarks) → AddsLists collection ts old mid → AddsLists collection us mid new → AddsLists collection (ts ++ us) old new
+pub adds_more : (collection : List ℕ) (ts us : List (List ℕ)) (old mid new : DocumentMarks) → AddsLists collection ts old mid →
+    AddsLists collection us mid new → AddsLists collection (ts ++ us) old new
 adds_more collection ts us old mid new first then = record {
   each = λ doc some le.
       then.each doc some le

@@ -42,12 +42,14 @@ pages_next collection ns i n within is =
 pub pages_cut : (collection : List ℕ) (ns : List ℕ) (i : ℕ) → ranked_bound collection (terms_at collection (take i ns)) ≤ ranked_bound collection (terms_at collection ns)
 pages_cut collection ns i =
     let number : ℕ → List ℕ = λ k. get_or (dictionary collection) k [] in
-    let whole : terms_at collection ns ≡ terms_at collection (take i ns) ++ terms_at collection (drop i ns) = ap (terms_at collection) (sym (take-append-drop i ns)) ∙ map-append number (take i ns) (drop i ns) in
+    let whole : terms_at collection ns ≡ terms_at collection (take i ns) ++ terms_at collection (drop i ns) =
+    ap (terms_at collection) (sym (take-append-drop i ns)) ∙ map-append number (take i ns) (drop i ns) in
     omega (arith, ap (ranked_bound collection) whole, bound-append collection (terms_at collection (take i ns)) (terms_at collection (drop i ns)))
 
 -- ---- a pattern, a line, and a session
 
-pub pattern_bound : (collection : List ℕ) (p : Pattern) (terms : List (List ℕ)) (ns : List ℕ) → ns ≡ matching_numbers p 0 terms → terms ≡ dictionary collection → ranked_bound collection (terms_at collection ns) ≡ pattern_pages collection p
+pub pattern_bound : (collection : List ℕ) (p : Pattern) (terms : List (List ℕ)) (ns : List ℕ) → ns ≡ matching_numbers p 0 terms →
+    terms ≡ dictionary collection → ranked_bound collection (terms_at collection ns) ≡ pattern_pages collection p
 unfolding pattern_pages
 pattern_bound collection p terms ns is same = ap (ranked_bound collection) (matching_terms collection p terms ns is same)
 
@@ -55,6 +57,7 @@ pub line_bound : (collection line : List ℕ) (p : Pattern) → pattern_of line 
 line_bound collection line p is = ap (pages_of collection) is
 
 -- the first of the lines of an input
-pub patterns_within : (s t : WildState) (answered : List Question) (code : TextCode) (collection given : List ℕ) → WildAsked s t answered → (more : List Question) × (heard_questions Questions given ≡ answered ++ more) → WildOver s collection → ReadsPatterns code collection given s.reads t.reads
+pub patterns_within : (s t : WildState) (answered : List Question) (code : TextCode) (collection given : List ℕ) → WildAsked s t answered →
+    (more : List Question) × (heard_questions Questions given ≡ answered ++ more) → WildOver s collection → ReadsPatterns code collection given s.reads t.reads
 patterns_within s t answered code collection given a first over =
     record { post = omega (arith, a.post collection over, asked_lines (wild_pages collection) given answered first.0 first.1) }

@@ -33,7 +33,8 @@ unfolding wild_reply
 says_bad collection line at e = rw e refl
 
 -- a line that is no pattern
-pub line_bad : (collection line : List ℕ) (at : ℕ) (w0 w1 : Option (List ℕ)) (result : Result (Unit {0}) ShowErr) → pattern_of line ≡ bad at → AfterPut w0 w1 (bad_pattern at) result → ShowIsNotBad result → WildReplied collection line w0 w1 result
+pub line_bad : (collection line : List ℕ) (at : ℕ) (w0 w1 : Option (List ℕ)) (result : Result (Unit {0}) ShowErr) → pattern_of line ≡ bad at →
+    AfterPut w0 w1 (bad_pattern at) result → ShowIsNotBad result → WildReplied collection line w0 w1 result
 line_bad collection line at w0 w1 result is put sound = record {
   put = subst (λ t. AfterPut w0 w1 t result) (sym (says_bad collection line at is)) put;
   sound = sound;
@@ -43,7 +44,8 @@ says_matches : (collection line : List ℕ) (p : Pattern) → pattern_of line �
 unfolding wild_reply
 says_matches collection line p e = rw e refl
 
-pub line_matched : (collection line : List ℕ) (p : Pattern) (w0 w1 : Option (List ℕ)) (result : Result (Unit {0}) ShowErr) → pattern_of line ≡ sides p → WildAnswered collection p w0 w1 result → WildReplied collection line w0 w1 result
+pub line_matched : (collection line : List ℕ) (p : Pattern) (w0 w1 : Option (List ℕ)) (result : Result (Unit {0}) ShowErr) → pattern_of line ≡ sides p →
+    WildAnswered collection p w0 w1 result → WildReplied collection line w0 w1 result
 line_matched collection line p w0 w1 result is a = record {
   put = subst (λ t. AfterPut w0 w1 t result) (sym (says_matches collection line p is)) a.put;
   sound = a.sound;
@@ -59,13 +61,15 @@ pub patterns_over : (s : WildState) (collection : List ℕ) → WildOver s colle
 patterns_over s collection over = record { collection = collection; over = over; by_is = refl }
 
 -- why a line stops the session
-line_stops : (s t : WildState) (f g : ℕ) (error : ShowErr) → HasShowCause (Err error) s.faults t.faults f g → ((collection : List ℕ) → WildOver s collection → ShowIsNotBad (Err error)) → PartStops (WildMayStop s t) error
+line_stops : (s t : WildState) (f g : ℕ) (error : ShowErr) → HasShowCause (Err error) s.faults t.faults f g →
+    ((collection : List ℕ) → WildOver s collection → ShowIsNotBad (Err error)) → PartStops (WildMayStop s t) error
 line_stops s t f g (show.Part Device) cause sound = cause.caused
 line_stops s t f g (show.Part Memory) cause sound = tt
 line_stops s t f g (show.Part (Bad b)) cause sound = sound
 line_stops s t f g show.Write cause sound = tt
 line_stops s t f g show.Memory cause sound = tt
 
-pub line_part : (s t : WildState) (f g : ℕ) (r : Result (Unit {0}) ShowErr) → HasShowCause r s.faults t.faults f g → ((collection : List ℕ) → WildOver s collection → ShowIsNotBad r) → IfErr r (PartStops (WildMayStop s t))
+pub line_part : (s t : WildState) (f g : ℕ) (r : Result (Unit {0}) ShowErr) → HasShowCause r s.faults t.faults f g →
+    ((collection : List ℕ) → WildOver s collection → ShowIsNotBad r) → IfErr r (PartStops (WildMayStop s t))
 line_part s t f g (Ok value) cause sound = tt
 line_part s t f g (Err error) cause sound = line_stops s t f g error cause sound

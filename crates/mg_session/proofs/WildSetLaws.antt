@@ -26,7 +26,9 @@ use Rattle.mg_session.proofs.SetLaws.{set_lexicon, set_weights}
 -- ---- the parts of a set
 
 -- what a searcher was made of, by what loading its terms answers
-pub wild_parts : (base : List ℕ) (files now : Option Files) (head : Head) (code : TextCode) (collection : List ℕ) (terms : LexTerms) (room : ℕ) (parts : WildParts) → parts ≡ record { base = base; terms = terms; all = head.documents; room = room } → now ≡ files → StandsBy head code files base collection →
+pub wild_parts : (base : List ℕ) (files now : Option Files) (head : Head) (code : TextCode) (collection : List ℕ) (terms : LexTerms) (room : ℕ)
+    (parts : WildParts) → parts ≡ record { base = base; terms = terms; all = head.documents; room = room } → now ≡ files →
+    StandsBy head code files base collection →
     (IsLexicon base files head.terms collection → HasTermsOf terms collection) → (IsWithinLimits head.version collection → IsLexicon base files head.terms collection → TellsOf terms collection) →
     PartsAreOf now parts collection
 wild_parts base files now head code collection terms room parts made same is has tells =
@@ -42,7 +44,8 @@ wild_parts base files now head code collection terms room parts made same is has
 
 -- ---- its rotations
 
-strings_from : (collection : List ℕ) (n : ℕ) (ts : List (List ℕ)) → strings_of (map (λ (t : ℕ × List ℕ). record { string = t.1; field = info_bytes (info_of collection t.0 t.1) }) (enumerate_from n ts)) ≡ ts
+strings_from : (collection : List ℕ) (n : ℕ) (ts : List (List ℕ)) →
+    strings_of (map (λ (t : ℕ × List ℕ). record { string = t.1; field = info_bytes (info_of collection t.0 t.1) }) (enumerate_from n ts)) ≡ ts
 strings_from collection n [] = refl
 strings_from collection n (t ∷ ts) = ap (λ us. t ∷ us) (strings_from collection (n + 1) ts)
 
@@ -70,7 +73,8 @@ not_held terms bytes count found whole many =
     omega (arith, whole.few, many.many, held)
 
 -- the lexicon of a set that stands has the terms of the collection
-pub set_has : (base : List ℕ) (files : Option Files) (head : Head) (code : TextCode) (collection : List ℕ) → StandsBy head code files base collection → most_rotations < rotation_count (dictionary collection) →
+pub set_has : (base : List ℕ) (files : Option Files) (head : Head) (code : TextCode) (collection : List ℕ) → StandsBy head code files base collection →
+    most_rotations < rotation_count (dictionary collection) →
     HasTooMany (bytes_at files (full_name base part.Lex)) head.terms (rotation_count (dictionary collection))
 set_has base files head code collection is many =
     let lexicon_is = set_lexicon base files head code collection is in
@@ -85,7 +89,9 @@ set_has base files head code collection is many =
     }
 
 -- too many rotations that Lex tells of are those of the collection that stands
-pub counted_of : (files : Option Files) (base collection : List ℕ) → Stands files base collection → (found terms : ℕ) → HasTooMany (bytes_at files (full_name base part.Lex)) terms found → found ≡ rotation_count (dictionary collection)
+pub counted_of : (files : Option Files) (base collection : List ℕ) → Stands files base collection → (found terms : ℕ) →
+    HasTooMany (bytes_at files (full_name base part.Lex)) terms found → found ≡ rotation_count (dictionary collection)
 counted_of files base collection stands found terms many =
-    let same = one_front 16 (bytes_at files (full_name base part.Lex)) many.es (lexicon collection) many.entries.front (record { entries = lexicon_entries collection; bytes_are = stands.stand.are.lex }) in
+    let same = one_front 16 (bytes_at files (full_name base part.Lex)) many.es (lexicon collection) many.entries.front
+    (record { entries = lexicon_entries collection; bytes_are = stands.stand.are.lex }) in
     many.counted ∙ ap (λ es. rotation_count (strings_of es)) same ∙ ap rotation_count (lexicon_strings collection)

@@ -31,7 +31,8 @@ abbrev Answers : Option Files → List ℕ → Head → RotErr → Type 0
 Answers files base head refusal = IsSome files → AnswersRotated {T = LexTerms} (λ r. r) (bytes_at files (full_name base part.Lex)) head.terms (Err refusal)
 
 pub rotated_stops : (refusal : RotErr) (s t : ℕ) (head : Head) (files : Option Files) (base : List ℕ) → Answers files base head refusal →
-    ((collection : List ℕ) (bad : declared.Bad) → IsLexicon base files head.terms collection → not_loaded refusal ≢ not_loaded (rot.Part (Bad bad))) → IsBeyond refusal → (not_loaded refusal ≡ not_loaded (rot.Part Device) → Rose s t) →
+    ((collection : List ℕ) (bad : declared.Bad) → IsLexicon base files head.terms collection → not_loaded refusal ≢ not_loaded (rot.Part (Bad bad))) →
+    IsBeyond refusal → (not_loaded refusal ≡ not_loaded (rot.Part Device) → Rose s t) →
     OpenStops (Rose s t) ⊥ (StandsByNone head files base) (CountedBy head files base) (fault_of_rotated refusal)
 rotated_stops (rot.Part Device) s t head files base answer never beyond cause = cause refl
 rotated_stops (rot.Part Memory) s t head files base answer never beyond cause = tt
@@ -39,7 +40,8 @@ rotated_stops (rot.Part (Bad bad)) s t head files base answer never beyond cause
 rotated_stops (rot.TooMany count) s t head files base answer never beyond cause = (beyond, answer)
 
 -- too many rotations are told, unless the store fails or memory is wanting
-pub rotated_refused : {T : Type 0} (refusal : RotErr) (head : Head) (files : Option Files) (base : List ℕ) → Answers files base head refusal → IsSome files → (count : ℕ) → TooManyBy head files base count →
+pub rotated_refused : {T : Type 0} (refusal : RotErr) (head : Head) (files : Option Files) (base : List ℕ) → Answers files base head refusal → IsSome files →
+    (count : ℕ) → TooManyBy head files base count →
     RefusedFor {T = T} (Err (fault_of_rotated refusal)) (fault.TooManyRotations count)
 rotated_refused (rot.Part Device) head files base answer told count many = inr (inl refl)
 rotated_refused (rot.Part Memory) head files base answer told count many = inr (inr refl)

@@ -108,13 +108,15 @@ terms_from p all front (t ∷ ts) n is size =
     filter-miss t ts is = rw is refl
 
 -- the terms with these numbers are those that match
-pub matching_terms : (collection : List ℕ) (p : Pattern) (terms : List (List ℕ)) (ns : List ℕ) → ns ≡ matching_numbers p 0 terms → terms ≡ dictionary collection → terms_at collection ns ≡ matching collection p
+pub matching_terms : (collection : List ℕ) (p : Pattern) (terms : List (List ℕ)) (ns : List ℕ) → ns ≡ matching_numbers p 0 terms →
+    terms ≡ dictionary collection → terms_at collection ns ≡ matching collection p
 matching_terms collection p terms ns is same =
     ap (terms_at collection) (is ∙ ap (matching_numbers p 0) same) ∙ terms_from p (dictionary collection) [] (dictionary collection) 0 refl refl
 
 -- ---- what is told of a term
 
-pub told_info : (collection : List ℕ) (r : LexTerms) (n : ℕ) (info : TermInfo) → HasTermsOf r collection → TellsOf r collection → n < length r.terms → slice_get r.infos n ≡ Some info → info.number ≡ n → IsInfoOf collection (get_or (dictionary collection) n []) info
+pub told_info : (collection : List ℕ) (r : LexTerms) (n : ℕ) (info : TermInfo) → HasTermsOf r collection → TellsOf r collection → n < length r.terms →
+    slice_get r.infos n ≡ Some info → info.number ≡ n → IsInfoOf collection (get_or (dictionary collection) n []) info
 told_info collection r n info has tells within is number =
     let there : slice_get (dictionary collection) n ≡ Some (get_or (dictionary collection) n []) = slice_get-get_or (dictionary collection) n [] (omega (arith, within, ap length has.terms)) in
     record {
@@ -126,7 +128,8 @@ pub told_docs : (collection t : List ℕ) (info : TermInfo) → IsInfoOf collect
 told_docs collection t info told = ap (λ (x : defs.TermInfo). x.docs) told.is
 
 -- the terms with one number more
-pub terms_next : (collection : List ℕ) (ns : List ℕ) (i n : ℕ) → i < length ns → n ≡ get_or ns i 0 → terms_at collection (take (i + 1) ns) ≡ terms_at collection (take i ns) ++ get_or (dictionary collection) n [] ∷ []
+pub terms_next : (collection : List ℕ) (ns : List ℕ) (i n : ℕ) → i < length ns → n ≡ get_or ns i 0 →
+    terms_at collection (take (i + 1) ns) ≡ terms_at collection (take i ns) ++ get_or (dictionary collection) n [] ∷ []
 terms_next collection ns i n within is =
     let number : ℕ → List ℕ = λ k. get_or (dictionary collection) k [] in
     ap (map number) (take_more ns i 0 within) ∙ map-append number (take i ns) (get_or ns i 0 ∷ []) ∙ ap (λ k. terms_at collection (take i ns) ++ number k ∷ []) (sym is)
@@ -145,12 +148,15 @@ term_cut_second t n w0 w1 w2 p0 p1 first grew =
     subst (λ x. GrewByPrefix w0 w2 (p0 ++ x)) (term-is t n)
     (pass_cut w0 w1 w2 p0 p1 (codes "+ ") (t ++ (codes " " ++ row n None)) first (pass_part w1 w2 p1 t (codes " " ++ row n None) grew))
 
-pub term_cut_third : (t : List ℕ) (n : ℕ) (w0 w1 w2 w3 : Option (List ℕ)) (p0 p1 p2 : List ℕ) → Passed w0 w1 p0 p1 (codes "+ ") → Passed w1 w2 p1 p2 t → GrewByPrefix w2 w3 (p2 ++ codes " ") → GrewByPrefix w0 w3 (p0 ++ term_row t n)
+pub term_cut_third : (t : List ℕ) (n : ℕ) (w0 w1 w2 w3 : Option (List ℕ)) (p0 p1 p2 : List ℕ) → Passed w0 w1 p0 p1 (codes "+ ") → Passed w1 w2 p1 p2 t →
+    GrewByPrefix w2 w3 (p2 ++ codes " ") → GrewByPrefix w0 w3 (p0 ++ term_row t n)
 term_cut_third t n w0 w1 w2 w3 p0 p1 p2 first second grew =
     subst (λ x. GrewByPrefix w0 w3 (p0 ++ x)) (term-is t n)
     (pass_cut w0 w1 w3 p0 p1 (codes "+ ") (t ++ (codes " " ++ row n None)) first (pass_cut w1 w2 w3 p1 p2 t (codes " " ++ row n None) second (pass_part w2 w3 p2 (codes " ") (row n None) grew)))
 
-pub term_passed : {T E : Type 0} (t : List ℕ) (n : ℕ) (w0 w1 w2 w3 w4 : Option (List ℕ)) (p0 p1 p2 p3 p4 : List ℕ) (r : Result T E) → Passed w0 w1 p0 p1 (codes "+ ") → Passed w1 w2 p1 p2 t → Passed w2 w3 p2 p3 (codes " ") → AfterPass w3 w4 p3 p4 (row n None) r → AfterPass w0 w4 p0 p4 (term_row t n) r
+pub term_passed : {T E : Type 0} (t : List ℕ) (n : ℕ) (w0 w1 w2 w3 w4 : Option (List ℕ)) (p0 p1 p2 p3 p4 : List ℕ) (r : Result T E) →
+    Passed w0 w1 p0 p1 (codes "+ ") → Passed w1 w2 p1 p2 t → Passed w2 w3 p2 p3 (codes " ") → AfterPass w3 w4 p3 p4 (row n None) r →
+    AfterPass w0 w4 p0 p4 (term_row t n) r
 term_passed t n w0 w1 w2 w3 w4 p0 p1 p2 p3 p4 r first second third last =
     subst (λ x. AfterPass w0 w4 p0 p4 x r) (term-is t n)
     (pass_more w0 w1 w4 p0 p1 p4 (codes "+ ") (t ++ (codes " " ++ row n None)) r first
@@ -170,25 +176,33 @@ rows-one : (collection t : List ℕ) → term_rows collection (t ∷ []) ≡ ter
 unfolding term_rows
 rows-one collection t = append-nil (term_row t (docs collection t))
 
-rows-next : (collection : List ℕ) (ns : List ℕ) (i n : ℕ) → i < length ns → n ≡ get_or ns i 0 → term_rows collection (terms_at collection (take (i + 1) ns)) ≡ term_rows collection (terms_at collection (take i ns)) ++ term_row (get_or (dictionary collection) n []) (docs collection (get_or (dictionary collection) n []))
+rows-next : (collection : List ℕ) (ns : List ℕ) (i n : ℕ) → i < length ns → n ≡ get_or ns i 0 →
+    term_rows collection (terms_at collection (take (i + 1) ns)) ≡ term_rows collection (terms_at collection (take i ns))
+    ++ term_row (get_or (dictionary collection) n []) (docs collection (get_or (dictionary collection) n []))
 rows-next collection ns i n within is =
     let t = get_or (dictionary collection) n [] in
-    ap (term_rows collection) (terms_next collection ns i n within is) ∙ rows-append collection (terms_at collection (take i ns)) (t ∷ []) ∙ ap (λ x. term_rows collection (terms_at collection (take i ns)) ++ x) (rows-one collection t)
+    ap (term_rows collection) (terms_next collection ns i n within is) ∙ rows-append collection (terms_at collection (take i ns)) (t ∷ [])
+    ∙ ap (λ x. term_rows collection (terms_at collection (take i ns)) ++ x) (rows-one collection t)
 
 pub terms_start : (collection : List ℕ) (ns : List ℕ) (w : Option (List ℕ)) (waiting : List ℕ) → Passed w w waiting waiting (term_rows collection (terms_at collection (take 0 ns)))
 terms_start collection ns w waiting = subst (Passed w w waiting waiting) (sym (rows-none collection)) (pass_nothing w waiting)
 
-row_told : (collection : List ℕ) (n count : ℕ) (t : List ℕ) → t ≡ get_or (dictionary collection) n [] → count ≡ docs collection (get_or (dictionary collection) n []) → term_row t count ≡ term_row (get_or (dictionary collection) n []) (docs collection (get_or (dictionary collection) n []))
+row_told : (collection : List ℕ) (n count : ℕ) (t : List ℕ) → t ≡ get_or (dictionary collection) n [] →
+    count ≡ docs collection (get_or (dictionary collection) n []) →
+    term_row t count ≡ term_row (get_or (dictionary collection) n []) (docs collection (get_or (dictionary collection) n []))
 row_told collection n count t is told = ap (λ u. term_row u count) is ∙ ap (term_row (get_or (dictionary collection) n [])) told
 
-pub terms_passed : (collection : List ℕ) (ns : List ℕ) (i n count : ℕ) (t : List ℕ) (w0 w1 w2 : Option (List ℕ)) (p0 p1 p2 : List ℕ) → i < length ns → n ≡ get_or ns i 0 → t ≡ get_or (dictionary collection) n [] → count ≡ docs collection (get_or (dictionary collection) n []) →
-    Passed w0 w1 p0 p1 (term_rows collection (terms_at collection (take i ns))) → Passed w1 w2 p1 p2 (term_row t count) → Passed w0 w2 p0 p2 (term_rows collection (terms_at collection (take (i + 1) ns)))
+pub terms_passed : (collection : List ℕ) (ns : List ℕ) (i n count : ℕ) (t : List ℕ) (w0 w1 w2 : Option (List ℕ)) (p0 p1 p2 : List ℕ) → i < length ns →
+    n ≡ get_or ns i 0 → t ≡ get_or (dictionary collection) n [] → count ≡ docs collection (get_or (dictionary collection) n []) →
+    Passed w0 w1 p0 p1 (term_rows collection (terms_at collection (take i ns))) → Passed w1 w2 p1 p2 (term_row t count) →
+    Passed w0 w2 p0 p2 (term_rows collection (terms_at collection (take (i + 1) ns)))
 terms_passed collection ns i n count t w0 w1 w2 p0 p1 p2 within is named told before one =
     subst (Passed w0 w2 p0 p2) (sym (rows-next collection ns i n within is))
     (pass_both w0 w1 w2 p0 p1 p2 (term_rows collection (terms_at collection (take i ns))) _ before (subst (Passed w1 w2 p1 p2) (row_told collection n count t named told) one))
 
 -- a row was refused
-pub terms_cut : (collection : List ℕ) (ns : List ℕ) (i n count : ℕ) (t : List ℕ) (w0 w1 w2 : Option (List ℕ)) (p0 p1 : List ℕ) → i < length ns → n ≡ get_or ns i 0 → t ≡ get_or (dictionary collection) n [] → count ≡ docs collection (get_or (dictionary collection) n []) →
+pub terms_cut : (collection : List ℕ) (ns : List ℕ) (i n count : ℕ) (t : List ℕ) (w0 w1 w2 : Option (List ℕ)) (p0 p1 : List ℕ) → i < length ns →
+    n ≡ get_or ns i 0 → t ≡ get_or (dictionary collection) n [] → count ≡ docs collection (get_or (dictionary collection) n []) →
     Passed w0 w1 p0 p1 (term_rows collection (terms_at collection (take i ns))) → GrewByPrefix w1 w2 (p1 ++ term_row t count) → GrewByPrefix w0 w2 (p0 ++ term_rows collection (terms_at collection ns))
 terms_cut collection ns i n count t w0 w1 w2 p0 p1 within is named told before grew =
     let front = term_rows collection (terms_at collection (take i ns)) in
@@ -197,11 +211,13 @@ terms_cut collection ns i n count t w0 w1 w2 p0 p1 within is named told before g
     let split : terms_at collection ns ≡ terms_at collection (take (i + 1) ns) ++ terms_at collection (drop (i + 1) ns) =
     ap (terms_at collection) (sym (take-append-drop (i + 1) ns)) ∙ map-append (λ k. get_or (dictionary collection) k []) (take (i + 1) ns) (drop (i + 1) ns) in
     let whole : term_rows collection (terms_at collection ns) ≡ (front ++ one) ++ back =
-    ap (term_rows collection) split ∙ rows-append collection (terms_at collection (take (i + 1) ns)) (terms_at collection (drop (i + 1) ns)) ∙ ap (λ x. x ++ back) (rows-next collection ns i n within is) in
+    ap (term_rows collection) split ∙ rows-append collection (terms_at collection (take (i + 1) ns)) (terms_at collection (drop (i + 1) ns))
+    ∙ ap (λ x. x ++ back) (rows-next collection ns i n within is) in
     let cut : GrewByPrefix w0 w2 (p0 ++ (front ++ one)) = pass_cut w0 w1 w2 p0 p1 front one before (subst (λ x. GrewByPrefix w1 w2 (p1 ++ x)) (row_told collection n count t named told) grew) in
     subst (λ x. GrewByPrefix w0 w2 (p0 ++ x)) (sym whole) (pass_part w0 w2 p0 (front ++ one) back cut)
 
-pub terms_all : (collection : List ℕ) (ns : List ℕ) (i : ℕ) (w0 w1 : Option (List ℕ)) (p0 p1 : List ℕ) → i ≡ length ns → Passed w0 w1 p0 p1 (term_rows collection (terms_at collection (take i ns))) → Passed w0 w1 p0 p1 (term_rows collection (terms_at collection ns))
+pub terms_all : (collection : List ℕ) (ns : List ℕ) (i : ℕ) (w0 w1 : Option (List ℕ)) (p0 p1 : List ℕ) → i ≡ length ns →
+    Passed w0 w1 p0 p1 (term_rows collection (terms_at collection (take i ns))) → Passed w0 w1 p0 p1 (term_rows collection (terms_at collection ns))
 terms_all collection ns i w0 w1 p0 p1 is passed = subst (λ xs. Passed w0 w1 p0 p1 (term_rows collection (terms_at collection xs))) (ap (λ k. take k ns) is ∙ take-length ns) passed
 
 -- ---- the rows of documents
@@ -217,7 +233,8 @@ numbers-is marks last = refl
 rows_next : (marks : DocumentMarks) (last doc : ℕ) → IsNextBehind last marks doc → rows_to marks doc ≡ rows_to marks last ++ row doc None
 unfolding rows_to
 rows_next marks last doc next =
-    ap (flat_map (λ n. row n None)) (marked_next marks last doc next) ∙ flat_map-append (λ n. row n None) (marked_to marks last) (doc ∷ []) ∙ ap (λ x. flat_map (λ n. row n None) (marked_to marks last) ++ x) (append-nil (row doc None))
+    ap (flat_map (λ n. row n None)) (marked_next marks last doc next) ∙ flat_map-append (λ n. row n None) (marked_to marks last) (doc ∷ [])
+    ∙ ap (λ x. flat_map (λ n. row n None) (marked_to marks last) ++ x) (append-nil (row doc None))
 
 pub rows_start : (marks : DocumentMarks) (w : Option (List ℕ)) (waiting : List ℕ) → Passed w w waiting waiting (rows_to marks 0)
 unfolding rows_to
@@ -233,8 +250,10 @@ size_next marks last doc next = ap length (marked_next marks last doc next) ∙ 
     one_more [] = refl
     one_more (n ∷ ns) = omega (arith, one_more ns)
 
-pub rows_passed : (marks : DocumentMarks) (last doc : ℕ) (w0 w1 w2 : Option (List ℕ)) (p0 p1 p2 : List ℕ) → IsNextBehind last marks doc → Passed w0 w1 p0 p1 (rows_to marks last) → Passed w1 w2 p1 p2 (row doc None) → Passed w0 w2 p0 p2 (rows_to marks doc)
-rows_passed marks last doc w0 w1 w2 p0 p1 p2 next before one = subst (Passed w0 w2 p0 p2) (sym (rows_next marks last doc next)) (pass_both w0 w1 w2 p0 p1 p2 (rows_to marks last) (row doc None) before one)
+pub rows_passed : (marks : DocumentMarks) (last doc : ℕ) (w0 w1 w2 : Option (List ℕ)) (p0 p1 p2 : List ℕ) → IsNextBehind last marks doc →
+    Passed w0 w1 p0 p1 (rows_to marks last) → Passed w1 w2 p1 p2 (row doc None) → Passed w0 w2 p0 p2 (rows_to marks doc)
+rows_passed marks last doc w0 w1 w2 p0 p1 p2 next before one = subst (Passed w0 w2 p0 p2) (sym (rows_next marks last doc next))
+    (pass_both w0 w1 w2 p0 p1 p2 (rows_to marks last) (row doc None) before one)
 
 marked_front : (marks : DocumentMarks) (n m : ℕ) → n ≤ m → (rest : List ℕ) × (marked_to marks m ≡ marked_to marks n ++ rest)
 marked_front marks n zero le = ([], ap (marked_to marks) (omega (arith, le)) ∙ sym (append-nil (marked_to marks n)))
@@ -250,7 +269,8 @@ marked_front marks n (suc m) le =
     ]
 
 -- a row was refused
-pub rows_cut : (marks : DocumentMarks) (last doc : ℕ) (w0 w1 w2 : Option (List ℕ)) (p0 p1 : List ℕ) → IsNextBehind last marks doc → Passed w0 w1 p0 p1 (rows_to marks last) → GrewByPrefix w1 w2 (p1 ++ row doc None) → GrewByPrefix w0 w2 (p0 ++ numbers_text (marked_to marks marks.all))
+pub rows_cut : (marks : DocumentMarks) (last doc : ℕ) (w0 w1 w2 : Option (List ℕ)) (p0 p1 : List ℕ) → IsNextBehind last marks doc →
+    Passed w0 w1 p0 p1 (rows_to marks last) → GrewByPrefix w1 w2 (p1 ++ row doc None) → GrewByPrefix w0 w2 (p0 ++ numbers_text (marked_to marks marks.all))
 unfolding rows_to
 rows_cut marks last doc w0 w1 w2 p0 p1 next before grew =
     let front = marked_front marks doc marks.all next.within in
@@ -263,7 +283,9 @@ rows_cut marks last doc w0 w1 w2 p0 p1 next before grew =
     subst (λ x. GrewByPrefix w0 w2 (p0 ++ x)) (sym whole) (pass_part w0 w2 p0 (rows (marked_to marks doc)) (rows front.0 ++ total) here)
 
 -- the count was passed on, or refused
-pub rows_counted : {T E : Type 0} (marks : DocumentMarks) (last total : ℕ) (w0 w1 w2 : Option (List ℕ)) (p0 p1 p2 : List ℕ) (r : Result T E) → last ≤ marks.all → ((other : ℕ) → last < other → has_doc marks other ≡ false) → length (marked_to marks last) ≡ total → Passed w0 w1 p0 p1 (rows_to marks last) → AfterPass w1 w2 p1 p2 (count total) r →
+pub rows_counted : {T E : Type 0} (marks : DocumentMarks) (last total : ℕ) (w0 w1 w2 : Option (List ℕ)) (p0 p1 p2 : List ℕ) (r : Result T E) →
+    last ≤ marks.all → ((other : ℕ) → last < other → has_doc marks other ≡ false) → length (marked_to marks last) ≡ total →
+    Passed w0 w1 p0 p1 (rows_to marks last) → AfterPass w1 w2 p1 p2 (count total) r →
     AfterPass w0 w2 p0 p2 (numbers_text (marked_to marks marks.all)) r
 rows_counted marks last total w0 w1 w2 p0 p1 p2 r le none size before counted =
     let whole : rows_to marks last ++ count total ≡ numbers_text (marked_to marks marks.all) =
@@ -295,14 +317,17 @@ length-parts : (front ds : List (List ℕ)) → length (front ++ ds) ≡ length 
 length-parts [] ds = omega arith
 length-parts (f ∷ front) ds = omega (arith, length-parts front ds)
 
-marked_from : (p : Pattern) (collection : List ℕ) (marks : DocumentMarks) (front ds : List (List ℕ)) (n m : ℕ) → MarksMatches p collection marks → documents collection ≡ front ++ ds → n ≡ length front → m ≡ n + length ds → marked_to marks m ≡ marked_to marks n ++ with_match p (n + 1) ds
-marked_from p collection marks front [] n m all is size end = ap (marked_to marks) (omega (arith, end)) ∙ sym (append-nil (marked_to marks n)) ∙ ap (λ ns. marked_to marks n ++ ns) (sym (with-none p (n + 1)))
+marked_from : (p : Pattern) (collection : List ℕ) (marks : DocumentMarks) (front ds : List (List ℕ)) (n m : ℕ) → MarksMatches p collection marks →
+    documents collection ≡ front ++ ds → n ≡ length front → m ≡ n + length ds → marked_to marks m ≡ marked_to marks n ++ with_match p (n + 1) ds
+marked_from p collection marks front [] n m all is size end = ap (marked_to marks) (omega (arith, end)) ∙ sym (append-nil (marked_to marks n))
+    ∙ ap (λ ns. marked_to marks n ++ ns) (sym (with-none p (n + 1)))
 marked_from p collection marks front (d ∷ ds) n m all is size end =
     let here : document collection (n + 1) ≡ d = document_at collection d front ds (n + 1) is (omega (arith, size)) in
     let within : n + 1 ≤ length (documents collection) = omega (arith, ap length is, length-parts front (d ∷ ds), size) in
     let told : has_doc marks (suc n) ≡ has_match p d = ap (has_doc marks) (sym (add-one n)) ∙ all (n + 1) (omega arith) within ∙ ap (has_match p) here in
     let rest : marked_to marks m ≡ marked_to marks (suc n) ++ with_match p (n + 1 + 1) ds =
-    marked_from p collection marks (front ++ d ∷ []) ds (n + 1) m all (is ∙ sym (append_assoc front (d ∷ []) ds)) (omega (arith, size, one_longer front d)) (omega (arith, end)) ∙ ap (λ k. marked_to marks k ++ with_match p (n + 1 + 1) ds) (add-one n) in
+    marked_from p collection marks (front ++ d ∷ []) ds (n + 1) m all (is ∙ sym (append_assoc front (d ∷ []) ds)) (omega (arith, size, one_longer front d))
+    (omega (arith, end)) ∙ ap (λ k. marked_to marks k ++ with_match p (n + 1 + 1) ds) (add-one n) in
     elim (cases_Bool (has_match p d)) [
       | inl hit ↦
           rest
@@ -321,7 +346,8 @@ in_them [] k lt = absurd (omega (arith, lt))
 in_them (d ∷ ds) zero lt = or_left (same_term d d) (list_any (same_term d) ds) (same-refl d)
 in_them (d ∷ ds) (suc k) lt = or_right (same_term (get_or ds k []) d) (list_any (same_term (get_or ds k [])) ds) (in_them ds k (omega (arith, lt)))
 
-marks_matches : (collection : List ℕ) (p : Pattern) (ts : List (List ℕ)) (old new : DocumentMarks) → ((doc : ℕ) → has_doc old doc ≡ false) → AddsLists collection ts old new → ts ≡ matching collection p → MarksMatches p collection new
+marks_matches : (collection : List ℕ) (p : Pattern) (ts : List (List ℕ)) (old new : DocumentMarks) → ((doc : ℕ) → has_doc old doc ≡ false) →
+    AddsLists collection ts old new → ts ≡ matching collection p → MarksMatches p collection new
 marks_matches collection p ts old new none added is doc some within =
     added.each doc some within
     ∙ ap (λ b. b || list_any (has_term (document collection doc)) ts) (none doc)
@@ -338,7 +364,9 @@ text-is collection p = refl
 pub record Matched (collection : List ℕ) (p : Pattern) (ns : List ℕ) (marks : DocumentMarks) : Type 0 where
   pub whole : match_text collection p ≡ term_rows collection (terms_at collection ns) ++ numbers_text (marked_to marks marks.all)
 
-pub matched : (base : List ℕ) (files : Option Files) (terms : LexTerms) (all : ℕ) (collection : List ℕ) (p : Pattern) (ns : List ℕ) (old new : DocumentMarks) → WildSources base files terms all collection → ns ≡ matching_numbers p 0 terms.terms → ((doc : ℕ) → has_doc old doc ≡ false) → AddsLists collection (terms_at collection ns) old new → new.all ≡ all → Matched collection p ns new
+pub matched : (base : List ℕ) (files : Option Files) (terms : LexTerms) (all : ℕ) (collection : List ℕ) (p : Pattern) (ns : List ℕ) (old new : DocumentMarks) →
+    WildSources base files terms all collection → ns ≡ matching_numbers p 0 terms.terms → ((doc : ℕ) → has_doc old doc ≡ false) →
+    AddsLists collection (terms_at collection ns) old new → new.all ≡ all → Matched collection p ns new
 matched base files terms all collection p ns old new sources is none added room =
     let ts : terms_at collection ns ≡ matching collection p = matching_terms collection p terms.terms ns is sources.terms_are.terms in
     let marks : MarksMatches p collection new = marks_matches collection p (terms_at collection ns) old new none added ts in
@@ -355,22 +383,30 @@ pub wild_stop : (collection : List ℕ) (p : Pattern) (w : Option (List ℕ)) (e
 wild_stop collection p w error sound = record { put = grew_nothing w (match_text collection p); sound = sound }
 
 -- a row of a term was refused
-pub wild_terms_cut : (collection : List ℕ) (p : Pattern) (ns : List ℕ) (marks : DocumentMarks) (w0 w1 : Option (List ℕ)) (p0 : List ℕ) (error : ShowErr) → Matched collection p ns marks → p0 ≡ [] → GrewByPrefix w0 w1 (p0 ++ term_rows collection (terms_at collection ns)) → ShowIsNotBad (Err error) → WildAnswered collection p w0 w1 (Err error)
+pub wild_terms_cut : (collection : List ℕ) (p : Pattern) (ns : List ℕ) (marks : DocumentMarks) (w0 w1 : Option (List ℕ)) (p0 : List ℕ) (error : ShowErr) →
+    Matched collection p ns marks → p0 ≡ [] → GrewByPrefix w0 w1 (p0 ++ term_rows collection (terms_at collection ns)) → ShowIsNotBad (Err error) →
+    WildAnswered collection p w0 w1 (Err error)
 wild_terms_cut collection p ns marks w0 w1 p0 error m none grew sound = record {
-  put = subst (GrewByPrefix w0 w1) (sym m.whole) (grew_first w0 w1 (term_rows collection (terms_at collection ns)) (numbers_text (marked_to marks marks.all)) (pass_refused w0 w1 p0 (term_rows collection (terms_at collection ns)) none grew));
+  put = subst (GrewByPrefix w0 w1) (sym m.whole) (grew_first w0 w1 (term_rows collection (terms_at collection ns)) (numbers_text (marked_to marks marks.all))
+      (pass_refused w0 w1 p0 (term_rows collection (terms_at collection ns)) none grew));
   sound = sound;
 }
 
 -- a row of a document or the count was refused
-pub wild_marked_cut : (collection : List ℕ) (p : Pattern) (ns : List ℕ) (marks : DocumentMarks) (w0 w1 w2 : Option (List ℕ)) (p0 p1 : List ℕ) (error : ShowErr) → Matched collection p ns marks → p0 ≡ [] → Passed w0 w1 p0 p1 (term_rows collection (terms_at collection ns)) → GrewByPrefix w1 w2 (p1 ++ numbers_text (marked_to marks marks.all)) → ShowIsNotBad (Err error) →
+pub wild_marked_cut : (collection : List ℕ) (p : Pattern) (ns : List ℕ) (marks : DocumentMarks) (w0 w1 w2 : Option (List ℕ)) (p0 p1 : List ℕ)
+    (error : ShowErr) → Matched collection p ns marks → p0 ≡ [] → Passed w0 w1 p0 p1 (term_rows collection (terms_at collection ns)) →
+    GrewByPrefix w1 w2 (p1 ++ numbers_text (marked_to marks marks.all)) → ShowIsNotBad (Err error) →
     WildAnswered collection p w0 w2 (Err error)
 wild_marked_cut collection p ns marks w0 w1 w2 p0 p1 error m none rows grew sound = record {
-  put = subst (GrewByPrefix w0 w2) (sym m.whole) (pass_refused w0 w2 p0 _ none (pass_cut w0 w1 w2 p0 p1 (term_rows collection (terms_at collection ns)) (numbers_text (marked_to marks marks.all)) rows grew));
+  put = subst (GrewByPrefix w0 w2) (sym m.whole) (pass_refused w0 w2 p0 _ none
+      (pass_cut w0 w1 w2 p0 p1 (term_rows collection (terms_at collection ns)) (numbers_text (marked_to marks marks.all)) rows grew));
   sound = sound;
 }
 
 -- what waited was put or refused
-pub wild_end : (collection : List ℕ) (p : Pattern) (ns : List ℕ) (marks : DocumentMarks) (w0 w1 w2 w3 : Option (List ℕ)) (p0 p1 p2 : List ℕ) (result : Result (Unit {0}) ShowErr) → Matched collection p ns marks → p0 ≡ [] → Passed w0 w1 p0 p1 (term_rows collection (terms_at collection ns)) → Passed w1 w2 p1 p2 (numbers_text (marked_to marks marks.all)) →
+pub wild_end : (collection : List ℕ) (p : Pattern) (ns : List ℕ) (marks : DocumentMarks) (w0 w1 w2 w3 : Option (List ℕ)) (p0 p1 p2 : List ℕ)
+    (result : Result (Unit {0}) ShowErr) → Matched collection p ns marks → p0 ≡ [] → Passed w0 w1 p0 p1 (term_rows collection (terms_at collection ns)) →
+    Passed w1 w2 p1 p2 (numbers_text (marked_to marks marks.all)) →
     AfterPut w2 w3 p2 result → ShowIsNotBad result → WildAnswered collection p w0 w3 result
 wild_end collection p ns marks w0 w1 w2 w3 p0 p1 p2 result m none rows numbers put sound =
     let both = pass_both w0 w1 w2 p0 p1 p2 (term_rows collection (terms_at collection ns)) (numbers_text (marked_to marks marks.all)) rows numbers in

@@ -39,7 +39,8 @@ IsFailureCaused (Err show.Write) s t f g = Rose f g
 IsFailureCaused (Err show.Memory) s t f g = Unit {0}
 
 -- the store's failure and the output's each have a cause, and no fault is forgotten
-pub record HasShowCause (result : Result (Unit {0}) ShowErr) (store_before store_now output_before output_now : ℕ) : Type 0 where
+pub record HasShowCause (result : Result (Unit {0}) ShowErr) (store_before store_now output_before output_now : ℕ) :
+    Type 0 where
   pub store : store_before ≤ store_now
   pub output : output_before ≤ output_now
   pub caused : IsFailureCaused result store_before store_now output_before output_now
@@ -74,29 +75,37 @@ abbrev pub answer_pages : TextCode → List ℕ → Settings → List Shown → 
 answer_pages code collection now answer = sum_by (doc_pages code collection) (texts_in now.mode now.most answer)
 
 -- the lists, weights and text are those of this collection, which has so many documents, its text under these codes
-pub record AnswersFor (base : List ℕ) (files : Option Files) (texts : Texting) (all : ℕ) (code : TextCode) (collection : List ℕ) : Type 0 where
+pub record AnswersFor (base : List ℕ) (files : Option Files) (texts : Texting) (all : ℕ) (code : TextCode)
+    (collection : List ℕ) : Type 0 where
   pub weights : WeightsStand base files collection
   pub texts_are : TextsStand texts files code collection
   pub all_is : all ≡ length (documents collection)
 
 -- An answer was printed, or a part of its text; no part is bad, and no pages were read but so many of Post, and those of the documents that are shown.
-pub record Answered (code : TextCode) (collection : List ℕ) (now : Settings) (answer : List Shown) (bound : ℕ) (before after : Option (List ℕ)) (reads_before reads_now : Reads) (result : Result (Unit {0}) ShowErr) : Type 0 where
-  pub put : AfterPut before after (answer_text collection now answer) result
-  pub sound : ShowIsNotBad result
-  pub post : reads_now part.Post ≤ reads_before part.Post + bound
-  pub text : reads_now part.Text ≤ reads_before part.Text + answer_pages code collection now answer
+pub record Answered (code : TextCode) (collection : List ℕ) (now : Settings) (answer : List Shown) (bound : ℕ)
+    (before after : Option (List ℕ)) (reads_before reads_now : Reads) (result : Result (Unit {0}) ShowErr) : Type 0
+  where
+    pub put : AfterPut before after (answer_text collection now answer) result
+    pub sound : ShowIsNotBad result
+    pub post : reads_now part.Post ≤ reads_before part.Post + bound
+    pub text : reads_now part.Text ≤ reads_before part.Text + answer_pages code collection now answer
 
 -- A query line was replied to, or a part of the reply was printed; no part is bad, and no more pages were read than the line allows.
-pub record Replied (code : TextCode) (collection : List ℕ) (ranked : Bool) (now : Settings) (line : List ℕ) (before after : Option (List ℕ)) (reads_before reads_now : Reads) (result : Result (Unit {0}) ShowErr) : Type 0 where
-  pub put : AfterPut before after (reply_as ranked collection now line) result
-  pub sound : ShowIsNotBad result
-  pub post : reads_now part.Post ≤ reads_before part.Post + bound_by ranked collection line
-  pub text : reads_now part.Text ≤ reads_before part.Text + answer_pages code collection now (answer_by ranked collection line)
+pub record Replied (code : TextCode) (collection : List ℕ) (ranked : Bool) (now : Settings) (line : List ℕ)
+    (before after : Option (List ℕ)) (reads_before reads_now : Reads) (result : Result (Unit {0}) ShowErr) : Type 0
+  where
+    pub put : AfterPut before after (reply_as ranked collection now line) result
+    pub sound : ShowIsNotBad result
+    pub post : reads_now part.Post ≤ reads_before part.Post + bound_by ranked collection line
+    pub text : reads_now part.Text ≤ reads_before part.Text + answer_pages code collection now
+        (answer_by ranked collection line)
 
 -- ---- while the documents of a Boolean answer are shown
 
 -- So many were found, and the first of them shown.
-pub record Walked (base : List ℕ) (code : TextCode) (collection : List ℕ) (q : Query) (now : Settings) (before after : Option (List ℕ)) (waiting : List ℕ) (total : ℕ) (m : Matching) (reads_before reads_now : Reads) : Type 0 where
+pub record Walked (base : List ℕ) (code : TextCode) (collection : List ℕ) (q : Query) (now : Settings)
+    (before after : Option (List ℕ)) (waiting : List ℕ) (total : ℕ) (m : Matching) (reads_before reads_now : Reads) :
+    Type 0 where
   pub so_far : List Shown
   pub split : satisfying collection q ≡ so_far ++ left_of collection m
   pub total_is : length so_far ≡ total
@@ -145,12 +154,14 @@ known_infos (None ∷ infos) = known_infos infos
 known_infos (Some info ∷ infos) = info ∷ known_infos infos
 
 -- what was told of the first of some terms
-pub record FirstInfos (collection : List ℕ) (ts : List (List ℕ)) (count : ℕ) (infos : List (Option TermInfo)) : Type 0 where
-  pub each : (k : ℕ) → k < count → IsToldOf collection (get_or ts k []) (slice_index_or infos k None)
+pub record FirstInfos (collection : List ℕ) (ts : List (List ℕ)) (count : ℕ) (infos : List (Option TermInfo)) : Type 0
+  where
+    pub each : (k : ℕ) → k < count → IsToldOf collection (get_or ts k []) (slice_index_or infos k None)
 
 -- ---- while rows are shown
 
 -- so many of them were passed on
-pub record RowsShown (code : TextCode) (collection : List ℕ) (mode : Mode) (rows : List Hit) (count : ℕ) (before after : Option (List ℕ)) (waited waiting : List ℕ) (reads_before reads_now : Reads) : Type 0 where
+pub record RowsShown (code : TextCode) (collection : List ℕ) (mode : Mode) (rows : List Hit) (count : ℕ)
+    (before after : Option (List ℕ)) (waited waiting : List ℕ) (reads_before reads_now : Reads) : Type 0 where
   pub passed : Passed before after waited waiting (rows_text collection mode (take count rows))
   pub text : reads_now part.Text ≤ reads_before part.Text + rows_pages code collection mode (take count rows)

@@ -41,13 +41,16 @@ pub record HeadOpened (base : List ℕ) (before now : StoreAt) (result : Result 
   -- what is loaded is the head of the files
   pub head : IfOk result (λ head. IsSome before.files → HasHead before.files base head)
   -- the cause of each refusal
-  pub cause : IfErr result (OpenStops (StoreRose before now) (IsSome before.files → HasNoHead before.files base) (StandsForNone before.files base) (λ count. ⊥))
+  pub cause : IfErr result (OpenStops (StoreRose before now) (IsSome before.files → HasNoHead before.files base)
+      (StandsForNone before.files base) (λ count. ⊥))
   -- where there is none, that is told; where there is one, it is refused only for a failing store or want of memory
   pub not_built : IsSome before.files → HasNoHead before.files base → RefusedFor result NotBuilt
-  pub built : (h : defs.Head) → IsSome before.files → IsHead 1 2 (bytes_at before.files (full_name base part.Head)) h → IfErr result IsLack
+  pub built : (h : defs.Head) → IsSome before.files → IsHead 1 2 (bytes_at before.files (full_name base part.Head)) h →
+      IfErr result IsLack
 
 -- The parts of a set with this head were opened, or one of them is refused.
-pub record SetOpened {T : Type 0} (IsOver : T → TextCode → List ℕ → Type 0) (IsKept : Part → Type 0) (counted : ℕ → Type 0) (head : Head) (base : List ℕ)
+pub record SetOpened {T : Type 0} (IsOver : T → TextCode → List ℕ → Type 0) (IsKept : Part → Type 0)
+    (counted : ℕ → Type 0) (head : Head) (base : List ℕ)
     (before now : StoreAt) (result : Result T Fault) : Type 0 where
   -- no file changes, no fault is forgotten, and these parts are not read
   pub files : now.files ≡ before.files

@@ -33,13 +33,15 @@ abbrev pub UnreadIn : Mode → Part → Type 0
 UnreadIn m p = NeverRead p ⊎ ((m ≢ mode.Text) × (is_of_text p ≡ true))
 
 -- no file changed, no fault was forgotten, and no part was read that a query line in this mode does not read
-pub record Stepped (m : Mode) (files_before files_now : Option Files) (reads_before reads_now : Reads) (faults_before faults_now : ℕ) : Type 0 where
+pub record Stepped (m : Mode) (files_before files_now : Option Files) (reads_before reads_now : Reads)
+    (faults_before faults_now : ℕ) : Type 0 where
   pub files : files_now ≡ files_before
   pub faults : faults_before ≤ faults_now
   pub unread : (p : Part) → UnreadIn m p → reads_now p ≡ reads_before p
 
 -- a call that only reads, and that reads no part but those that documents are shown from in this mode
-pub record ShownIn (m : Mode) (files_before files_now : Option Files) (reads_before reads_now : Reads) (faults_before faults_now : ℕ) : Type 0 where
+pub record ShownIn (m : Mode) (files_before files_now : Option Files) (reads_before reads_now : Reads)
+    (faults_before faults_now : ℕ) : Type 0 where
   pub files : files_now ≡ files_before
   pub faults : faults_before ≤ faults_now
   pub others : (p : Part) → is_shown_from m p ≡ false → reads_now p ≡ reads_before p

@@ -34,7 +34,8 @@ found_at number places = found_if (nat_lt 0 places) number places
 
 -- of these documents, those that have places of a phrase
 unfoldable pub found_among : List ℕ → List (List ℕ) → List Shown → List PhraseHit
-found_among collection phrase candidates = flat_map (λ (s : Shown). found_at s.number (phrase_places phrase (document collection s.number))) candidates
+found_among collection phrase candidates = flat_map (λ (s : Shown).
+    found_at s.number (phrase_places phrase (document collection s.number))) candidates
 
 -- what is printed for them
 unfoldable pub rows_of : List PhraseHit → List ℕ
@@ -67,21 +68,26 @@ pub record ReadsPhrases (code : TextCode) (collection given : List ℕ) (before 
 -- ---- an answer
 
 -- The documents with places of a phrase were printed, or a part of that text; no part is bad, and no pages were read but so many of Post, and those of the documents that have all its terms.
-pub record PhraseAnswered (code : TextCode) (collection : List ℕ) (phrase : List (List ℕ)) (before after : Option (List ℕ)) (reads_before reads_now : Reads) (result : Result (Unit {0}) ShowErr) : Type 0 where
-  pub put : AfterPut before after (found_text (with_places phrase 1 (documents collection))) result
-  pub sound : ShowIsNotBad result
-  pub post : reads_now part.Post ≤ reads_before part.Post + joined_bound collection phrase
-  pub text : reads_now part.Text ≤ reads_before part.Text + candidate_pages code collection phrase
+pub record PhraseAnswered (code : TextCode) (collection : List ℕ) (phrase : List (List ℕ))
+    (before after : Option (List ℕ)) (reads_before reads_now : Reads) (result : Result (Unit {0}) ShowErr) : Type 0
+  where
+    pub put : AfterPut before after (found_text (with_places phrase 1 (documents collection))) result
+    pub sound : ShowIsNotBad result
+    pub post : reads_now part.Post ≤ reads_before part.Post + joined_bound collection phrase
+    pub text : reads_now part.Text ≤ reads_before part.Text + candidate_pages code collection phrase
 
 -- The same of a line.
-pub record PhraseReplied (code : TextCode) (collection line : List ℕ) (before after : Option (List ℕ)) (reads_before reads_now : Reads) (result : Result (Unit {0}) ShowErr) : Type 0 where
+pub record PhraseReplied (code : TextCode) (collection line : List ℕ) (before after : Option (List ℕ))
+    (reads_before reads_now : Reads) (result : Result (Unit {0}) ShowErr) : Type 0 where
   pub put : AfterPut before after (phrase_reply collection line) result
   pub sound : ShowIsNotBad result
   pub post : reads_now part.Post ≤ reads_before part.Post + line_lists collection line
   pub text : reads_now part.Text ≤ reads_before part.Text + line_pages code collection line
 
 -- While the documents that have all its terms are searched: so many were found, and their rows passed on.
-pub record PhraseWalked (base : List ℕ) (code : TextCode) (collection : List ℕ) (phrase : List (List ℕ)) (q : Query) (before after : Option (List ℕ)) (waiting : List ℕ) (total : ℕ) (m : Matching) (reads_before reads_now : Reads) : Type 0 where
+pub record PhraseWalked (base : List ℕ) (code : TextCode) (collection : List ℕ) (phrase : List (List ℕ)) (q : Query)
+    (before after : Option (List ℕ)) (waiting : List ℕ) (total : ℕ) (m : Matching) (reads_before reads_now : Reads) :
+    Type 0 where
   pub so_far : List Shown
   pub split : satisfying collection q ≡ so_far ++ left_of collection m
   pub total_is : length (found_among collection phrase so_far) ≡ total

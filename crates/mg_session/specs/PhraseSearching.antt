@@ -53,7 +53,8 @@ pub record SamePhraseParts (old new : PhraseParts) : Type 0 where
   pub most : new.most ≡ old.most
 
 -- the lists and the text are those of this collection, which has so many documents and at most so many bytes
-pub record PhraseSources (base : List ℕ) (files : Option Files) (text : TextReading) (all most : ℕ) (collection : List ℕ) : Type 0 where
+pub record PhraseSources (base : List ℕ) (files : Option Files) (text : TextReading) (all most : ℕ)
+    (collection : List ℕ) : Type 0 where
   pub lists : ListsStand base files collection
   pub text_is : TextStands text files collection
   pub all_is : all ≡ length (documents collection)
@@ -71,7 +72,8 @@ abbrev pub PartsOverBy : Option Files → PhraseParts → TextCode → List ℕ 
 PartsOverBy files p code collection = PartsOver files p collection × (p.text.code ≡ code)
 
 -- no file changed, no fault was forgotten, and no part was read that a session never reads
-pub record OnlyReads (files_before files_now : Option Files) (reads_before reads_now : Reads) (faults_before faults_now : ℕ) : Type 0 where
+pub record OnlyReads (files_before files_now : Option Files) (reads_before reads_now : Reads)
+    (faults_before faults_now : ℕ) : Type 0 where
   pub files : files_now ≡ files_before
   pub faults : faults_before ≤ faults_now
   pub unread : (p : Part) → NeverRead p → reads_now p ≡ reads_before p
@@ -92,8 +94,10 @@ pub record PhrasesBy (s : PhraseState) (by : Settings → List ℕ → List ℕ)
 pub record PhrasesAsked (s t : PhraseState) (questions : List Question) : Type 0 where
   pub step : OnlyReads s.files t.files s.reads t.reads s.faults t.faults
   pub same : SamePhraseParts s.parts t.parts
-  pub post : (collection : List ℕ) → PhrasesOver s collection → t.reads part.Post ≤ s.reads part.Post + sum_by (λ (q : Question). line_lists collection q.line) questions
-  pub text : (collection : List ℕ) → PhrasesOver s collection → t.reads part.Text ≤ s.reads part.Text + sum_by (λ (q : Question). line_pages s.parts.text.code collection q.line) questions
+  pub post : (collection : List ℕ) → PhrasesOver s collection → t.reads part.Post
+      ≤ s.reads part.Post + sum_by (λ (q : Question). line_lists collection q.line) questions
+  pub text : (collection : List ℕ) → PhrasesOver s collection → t.reads part.Text
+      ≤ s.reads part.Text + sum_by (λ (q : Question). line_pages s.parts.text.code collection q.line) questions
 
 -- why a part may be refused
 abbrev pub PhraseMayStop : PhraseState → PhraseState → PartErr → Type 0

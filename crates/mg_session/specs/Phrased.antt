@@ -17,5 +17,6 @@ pub record Phrased (base : List ℕ) (run : Run) : Type 0 where
   -- it prints the session of phrases; of the lists and of the text it reads no more pages than the phrases allow, and some parts never
   pub served : Served phrase_session ReadsPhrases NeverRead CountsNone base run
   -- where the files stand, the input is not too long and no device fails, it is done, or memory is wanting
-  pub complete : (collection given : List ℕ) → Stands run.store.files base collection → run.input.left ≡ Some given → is_too_much input_limit given ≡ false
+  pub complete : (collection given : List ℕ) → Stands run.store.files base collection → run.input.left ≡ Some given →
+      is_too_much input_limit given ≡ false
       → ¬ StoreFailed run → ¬ InputFailed run → ¬ OutputFailed run → (run.status ≡ Done) ⊎ Stops run Memory

@@ -19,8 +19,10 @@ pub record Queried (base : List ℕ) (run : Run) : Type 0 where
   -- it prints the session; of the lists and of the text it reads no more pages than the query lines allow, and some parts never
   pub served : Served session ReadsWithin NeverRead CountsNone base run
   -- where the files stand, the input is not too long and no device fails, it is done, or memory is wanting
-  pub complete : (collection given : List ℕ) → Stands run.store.files base collection → run.input.left ≡ Some given → is_too_much input_limit given ≡ false
+  pub complete : (collection given : List ℕ) → Stands run.store.files base collection → run.input.left ≡ Some given →
+      is_too_much input_limit given ≡ false
       → ¬ StoreFailed run → ¬ InputFailed run → ¬ OutputFailed run → (run.status ≡ Done) ⊎ Stops run Memory
   -- where no query line asks for texts, neither the models nor the text are read
-  pub texts_unread : (given : List ℕ) → run.input.left ≡ Some given → AskForNoText (questions_of given) → (p : Part) → is_of_text p ≡ true
+  pub texts_unread : (given : List ℕ) → run.input.left ≡ Some given → AskForNoText (questions_of given) → (p : Part) →
+      is_of_text p ≡ true
       → run.store_now.reads p ≡ run.store.reads p

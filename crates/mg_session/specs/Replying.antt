@@ -33,66 +33,98 @@ use Rattle.mg_session.specs.WildAnswers.{WildAnswered, WildReplied}
 
 -- for each collection, and the codes of its text, that lists, weights and text are of
 abbrev pub ForAnswers : List ℕ → Option Files → Texting → ℕ → (TextCode → List ℕ → Type 0) → Type 0
-ForAnswers base files texts all holds = (code : TextCode) (collection : List ℕ) → AnswersFor base files texts all code collection → holds code collection
+ForAnswers base files texts all holds = (code : TextCode) (collection : List ℕ) →
+    AnswersFor base files texts all code collection → holds code collection
 
 -- over the lists, weights and text of a base: where this is told of its terms, a query is answered
-abbrev pub AnswersQuery : {X Y : Type 0} → stores.Ghosts X → sinks.Ghosts Y → X → X → Y → Y → Result (Unit {0}) ShowErr → List ℕ → Texting → ℕ → Query → List (Option TermInfo) → Settings → Type 0
-AnswersQuery of_store of_out store store_now out out_now result base texts all q infos now = ForAnswers base (of_store.files store) texts all (λ code collection.
+abbrev pub AnswersQuery : {X Y : Type 0} → stores.Ghosts X → sinks.Ghosts Y → X → X → Y → Y →
+    Result (Unit {0}) ShowErr → List ℕ → Texting → ℕ → Query → List (Option TermInfo) → Settings → Type 0
+AnswersQuery of_store of_out store store_now out out_now result base texts all q infos now =
+    ForAnswers base (of_store.files store) texts all (λ code collection.
     AreInfos collection (query_terms q) infos →
-    Answered code collection now (satisfying collection q) (boolean_bound collection q) (of_out.written out) (of_out.written out_now) (of_store.reads store) (of_store.reads store_now) result)
+    Answered code collection now (satisfying collection q) (boolean_bound collection q) (of_out.written out)
+    (of_out.written out_now) (of_store.reads store) (of_store.reads store_now) result)
 
 -- over the lists, weights and text of some base, of which none was asked for yet: those that satisfy the query are the answer
-abbrev pub AnswersMatches : {X Y : Type 0} → stores.Ghosts X → sinks.Ghosts Y → X → X → Y → Y → Result (Unit {0}) ShowErr → Texting → Matching → Settings → Type 0
-AnswersMatches of_store of_out store store_now out out_now result texts m now = (base : List ℕ) → ForAnswers base (of_store.files store) texts m.all (λ code collection.
+abbrev pub AnswersMatches : {X Y : Type 0} → stores.Ghosts X → sinks.Ghosts Y → X → X → Y → Y →
+    Result (Unit {0}) ShowErr → Texting → Matching → Settings → Type 0
+AnswersMatches of_store of_out store store_now out out_now result texts m now = (base : List ℕ) →
+    ForAnswers base (of_store.files store) texts m.all (λ code collection.
     MatchesOver base collection m →
-    Answered code collection now (satisfying collection (query_of m.asks)) (boolean_bound collection (query_of m.asks)) (of_out.written out) (of_out.written out_now) (of_store.reads store) (of_store.reads store_now) result)
+    Answered code collection now (satisfying collection (query_of m.asks)) (boolean_bound collection (query_of m.asks))
+    (of_out.written out) (of_out.written out_now) (of_store.reads store) (of_store.reads store_now) result)
 
 -- where this is told of distinct terms, their ranking is the answer
-abbrev pub AnswersTerms : {X Y : Type 0} → stores.Ghosts X → sinks.Ghosts Y → X → X → Y → Y → Result (Unit {0}) ShowErr → List ℕ → Texting → ℕ → List (Option TermInfo) → Settings → Type 0
-AnswersTerms of_store of_out store store_now out out_now result base texts all infos now = ForAnswers base (of_store.files store) texts all (λ code collection.
+abbrev pub AnswersTerms : {X Y : Type 0} → stores.Ghosts X → sinks.Ghosts Y → X → X → Y → Y →
+    Result (Unit {0}) ShowErr → List ℕ → Texting → ℕ → List (Option TermInfo) → Settings → Type 0
+AnswersTerms of_store of_out store store_now out out_now result base texts all infos now =
+    ForAnswers base (of_store.files store) texts all (λ code collection.
     (terms : List (List ℕ)) → AreInfos collection terms infos → IsDistinct bytes_eq terms →
-    Answered code collection now (ranking collection terms) (ranked_bound collection terms) (of_out.written out) (of_out.written out_now) (of_store.reads store) (of_store.reads store_now) result)
+    Answered code collection now (ranking collection terms) (ranked_bound collection terms) (of_out.written out)
+    (of_out.written out_now) (of_store.reads store) (of_store.reads store_now) result)
 
 -- over the open parts: an answer is shown, and of Post no more pages are read than its bound
-abbrev pub AnswersOpened : {X Y : Type 0} → stores.Ghosts X → sinks.Ghosts Y → X → X → Y → Y → Result (Unit {0}) ShowErr → Opened → Settings → (List ℕ → List Shown) → (List ℕ → ℕ) → Type 0
-AnswersOpened of_store of_out store store_now out out_now result opened now answer bound = ForOpened (of_store.files store) opened (λ code collection.
-    Answered code collection now (answer collection) (bound collection) (of_out.written out) (of_out.written out_now) (of_store.reads store) (of_store.reads store_now) result)
+abbrev pub AnswersOpened : {X Y : Type 0} → stores.Ghosts X → sinks.Ghosts Y → X → X → Y → Y →
+    Result (Unit {0}) ShowErr → Opened → Settings → (List ℕ → List Shown) → (List ℕ → ℕ) → Type 0
+AnswersOpened of_store of_out store store_now out out_now result opened now answer bound =
+    ForOpened (of_store.files store) opened (λ code collection.
+    Answered code collection now (answer collection) (bound collection) (of_out.written out) (of_out.written out_now)
+    (of_store.reads store) (of_store.reads store_now) result)
 
 -- over the open parts: a line is replied to, ranked or Boolean
-abbrev pub RepliesTo : {X Y : Type 0} → stores.Ghosts X → sinks.Ghosts Y → X → X → Y → Y → Result (Unit {0}) ShowErr → Opened → Bool → Settings → List ℕ → Type 0
-RepliesTo of_store of_out store store_now out out_now result opened ranked now line = ForOpened (of_store.files store) opened (λ code collection.
-    Replied code collection ranked now line (of_out.written out) (of_out.written out_now) (of_store.reads store) (of_store.reads store_now) result)
+abbrev pub RepliesTo : {X Y : Type 0} → stores.Ghosts X → sinks.Ghosts Y → X → X → Y → Y → Result (Unit {0}) ShowErr →
+    Opened → Bool → Settings → List ℕ → Type 0
+RepliesTo of_store of_out store store_now out out_now result opened ranked now line =
+    ForOpened (of_store.files store) opened (λ code collection.
+    Replied code collection ranked now line (of_out.written out) (of_out.written out_now) (of_store.reads store)
+    (of_store.reads store_now) result)
 
 -- ---- phrases
 
 -- over the lists and the text of a base: where this is told of its terms, which the query joins, a phrase is answered
-abbrev pub AnswersPhrase : {X Y : Type 0} → stores.Ghosts X → sinks.Ghosts Y → X → X → Y → Y → Result (Unit {0}) ShowErr → List ℕ → TextReading → ℕ → ℕ → Query → List (Option TermInfo) → List (List ℕ) → Type 0
-AnswersPhrase of_store of_out store store_now out out_now result base text all most q infos phrase = ForEach (PhraseSources base (of_store.files store) text all most) (λ collection.
+abbrev pub AnswersPhrase : {X Y : Type 0} → stores.Ghosts X → sinks.Ghosts Y → X → X → Y → Y →
+    Result (Unit {0}) ShowErr → List ℕ → TextReading → ℕ → ℕ → Query → List (Option TermInfo) → List (List ℕ) → Type 0
+AnswersPhrase of_store of_out store store_now out out_now result base text all most q infos phrase =
+    ForEach (PhraseSources base (of_store.files store) text all most) (λ collection.
     AreInfos collection (query_terms q) infos →
-    PhraseAnswered text.code collection phrase (of_out.written out) (of_out.written out_now) (of_store.reads store) (of_store.reads store_now) result)
+    PhraseAnswered text.code collection phrase (of_out.written out) (of_out.written out_now) (of_store.reads store)
+    (of_store.reads store_now) result)
 
 -- over the lists and the text of some base, of which none was asked for yet: a phrase is answered by those that have all its terms
-abbrev pub AnswersCandidates : {X Y : Type 0} → stores.Ghosts X → sinks.Ghosts Y → X → X → Y → Y → Result (Unit {0}) ShowErr → TextReading → Matching → ℕ → List (List ℕ) → Type 0
-AnswersCandidates of_store of_out store store_now out out_now result text m most phrase = (base : List ℕ) → ForEach (PhraseSources base (of_store.files store) text m.all most) (λ collection.
+abbrev pub AnswersCandidates : {X Y : Type 0} → stores.Ghosts X → sinks.Ghosts Y → X → X → Y → Y →
+    Result (Unit {0}) ShowErr → TextReading → Matching → ℕ → List (List ℕ) → Type 0
+AnswersCandidates of_store of_out store store_now out out_now result text m most phrase = (base : List ℕ) →
+    ForEach (PhraseSources base (of_store.files store) text m.all most) (λ collection.
     MatchesOver base collection m →
-    PhraseAnswered text.code collection phrase (of_out.written out) (of_out.written out_now) (of_store.reads store) (of_store.reads store_now) result)
+    PhraseAnswered text.code collection phrase (of_out.written out) (of_out.written out_now) (of_store.reads store)
+    (of_store.reads store_now) result)
 
 -- over the parts that phrases are sought in: a phrase of these words is answered
-abbrev pub AnswersWords : {X Y : Type 0} → stores.Ghosts X → sinks.Ghosts Y → X → X → Y → Y → Result (Unit {0}) ShowErr → PhraseParts → List (List ℕ) → Type 0
-AnswersWords of_store of_out store store_now out out_now result parts phrase = ForEach (PartsOver (of_store.files store) parts) (λ collection.
-    PhraseAnswered parts.text.code collection phrase (of_out.written out) (of_out.written out_now) (of_store.reads store) (of_store.reads store_now) result)
+abbrev pub AnswersWords : {X Y : Type 0} → stores.Ghosts X → sinks.Ghosts Y → X → X → Y → Y →
+    Result (Unit {0}) ShowErr → PhraseParts → List (List ℕ) → Type 0
+AnswersWords of_store of_out store store_now out out_now result parts phrase =
+    ForEach (PartsOver (of_store.files store) parts) (λ collection.
+    PhraseAnswered parts.text.code collection phrase (of_out.written out) (of_out.written out_now)
+    (of_store.reads store) (of_store.reads store_now) result)
 
 -- over the parts that phrases are sought in: a line is replied to as a phrase
-abbrev pub RepliesToPhrase : {X Y : Type 0} → stores.Ghosts X → sinks.Ghosts Y → X → X → Y → Y → Result (Unit {0}) ShowErr → PhraseParts → List ℕ → Type 0
-RepliesToPhrase of_store of_out store store_now out out_now result parts line = ForEach (PartsOver (of_store.files store) parts) (λ collection.
-    PhraseReplied parts.text.code collection line (of_out.written out) (of_out.written out_now) (of_store.reads store) (of_store.reads store_now) result)
+abbrev pub RepliesToPhrase : {X Y : Type 0} → stores.Ghosts X → sinks.Ghosts Y → X → X → Y → Y →
+    Result (Unit {0}) ShowErr → PhraseParts → List ℕ → Type 0
+RepliesToPhrase of_store of_out store store_now out out_now result parts line =
+    ForEach (PartsOver (of_store.files store) parts) (λ collection.
+    PhraseReplied parts.text.code collection line (of_out.written out) (of_out.written out_now) (of_store.reads store)
+    (of_store.reads store_now) result)
 
 -- ---- patterns
 
 -- a pattern is answered
-abbrev pub AnswersPattern : {Y : Type 0} → (Y → Option (List ℕ)) → Y → Y → Result (Unit {0}) ShowErr → Pattern → List ℕ → Type 0
-AnswersPattern written out out_now result p collection = WildAnswered collection p (written out) (written out_now) result
+abbrev pub AnswersPattern : {Y : Type 0} → (Y → Option (List ℕ)) → Y → Y → Result (Unit {0}) ShowErr → Pattern →
+    List ℕ → Type 0
+AnswersPattern written out out_now result p collection = WildAnswered collection p (written out) (written out_now)
+    result
 
 -- a line is replied to as a pattern
-abbrev pub RepliesToPattern : {Y : Type 0} → (Y → Option (List ℕ)) → Y → Y → Result (Unit {0}) ShowErr → List ℕ → List ℕ → Type 0
-RepliesToPattern written out out_now result line collection = WildReplied collection line (written out) (written out_now) result
+abbrev pub RepliesToPattern : {Y : Type 0} → (Y → Option (List ℕ)) → Y → Y → Result (Unit {0}) ShowErr → List ℕ →
+    List ℕ → Type 0
+RepliesToPattern written out out_now result line collection = WildReplied collection line (written out)
+    (written out_now) result

@@ -24,10 +24,24 @@ use Rattle.mg_session.specs.Texts.{SameTexts, Texting, TextsStand}
 -- ---- the same parts
 
 pub same_parts : (r : Fronted) → SameParts r r
-same_parts r = record { strings = refl; places = refl; strings_part = refl; places_part = refl; width = refl; count = refl }
+same_parts r = record {
+  strings = refl;
+  places = refl;
+  strings_part = refl;
+  places_part = refl;
+  width = refl;
+  count = refl;
+}
 
 pub parts_then : (a b c : Fronted) → SameParts a b → SameParts b c → SameParts a c
-parts_then a b c p q = record { strings = q.strings ∙ p.strings; places = q.places ∙ p.places; strings_part = q.strings_part ∙ p.strings_part; places_part = q.places_part ∙ p.places_part; width = q.width ∙ p.width; count = q.count ∙ p.count }
+parts_then a b c p q = record {
+  strings = q.strings ∙ p.strings;
+  places = q.places ∙ p.places;
+  strings_part = q.strings_part ∙ p.strings_part;
+  places_part = q.places_part ∙ p.places_part;
+  width = q.width ∙ p.width;
+  count = q.count ∙ p.count;
+}
 
 pub same_texts : (t : Texting) → SameTexts t t
 same_texts t = record { base = refl; head = refl }
@@ -39,11 +53,17 @@ pub same_opened : (o : Opened) → SameOpened o o
 same_opened o = record { base = refl; lex = same_parts o.lex; texts = same_texts o.texts; all = refl }
 
 opened_then : (a b c : Opened) → SameOpened a b → SameOpened b c → SameOpened a c
-opened_then a b c p q = record { base = q.base ∙ p.base; lex = parts_then a.lex b.lex c.lex p.lex q.lex; texts = texts_then a.texts b.texts c.texts p.texts q.texts; all = q.all ∙ p.all }
+opened_then a b c p q = record {
+  base = q.base ∙ p.base;
+  lex = parts_then a.lex b.lex c.lex p.lex q.lex;
+  texts = texts_then a.texts b.texts c.texts p.texts q.texts;
+  all = q.all ∙ p.all;
+}
 
 -- ---- the parts stay those of the collection
 
-pub lex_later : (a b : Fronted) (files now : Option Files) (collection : List ℕ) → SameParts a b → now ≡ files → LexStands a files collection → LexStands b now collection
+pub lex_later : (a b : Fronted) (files now : Option Files) (collection : List ℕ) → SameParts a b → now ≡ files →
+    LexStands a files collection → LexStands b now collection
 lex_later a b files now collection same e is = record {
   told = subst IsSome (sym e) is.told;
   lex = ap (bytes_at now) same.strings ∙ ap (λ f. bytes_at f a.strings.name) e ∙ is.lex;
@@ -52,14 +72,20 @@ lex_later a b files now collection same e is = record {
   few = is.few;
 }
 
-pub texts_later : (t u : Texting) (files now : Option Files) (code : TextCode) (collection : List ℕ) → SameTexts t u → now ≡ files → TextsStand t files code collection → TextsStand u now code collection
+pub texts_later : (t u : Texting) (files now : Option Files) (code : TextCode) (collection : List ℕ) → SameTexts t u →
+    now ≡ files → TextsStand t files code collection → TextsStand u now code collection
 texts_later t u files now code collection same e is =
-    subst (λ f. IsText u.base f u.head code collection) (sym e) (subst (λ b. IsText b files u.head code collection) (sym same.base) (subst (λ (h : Head). IsText t.base files h code collection) (sym same.head) is))
+    subst (λ f. IsText u.base f u.head code collection) (sym e)
+    (subst (λ b. IsText b files u.head code collection) (sym same.base)
+    (subst (λ (h : Head). IsText t.base files h code collection) (sym same.head) is))
 
-pub weights_later : (base now_base : List ℕ) (files now : Option Files) (collection : List ℕ) → now_base ≡ base → now ≡ files → WeightsStand base files collection → WeightsStand now_base now collection
-weights_later base now_base files now collection same e is = subst (λ b. WeightsStand b now collection) (sym same) (subst (λ f. WeightsStand base f collection) (sym e) is)
+pub weights_later : (base now_base : List ℕ) (files now : Option Files) (collection : List ℕ) → now_base ≡ base →
+    now ≡ files → WeightsStand base files collection → WeightsStand now_base now collection
+weights_later base now_base files now collection same e is = subst (λ b. WeightsStand b now collection) (sym same)
+    (subst (λ f. WeightsStand base f collection) (sym e) is)
 
-pub over_later : (s t : Searching) (xs : List Question) (code : TextCode) (collection : List ℕ) → Asked s t xs → Over s code collection → Over t code collection
+pub over_later : (s t : Searching) (xs : List Question) (code : TextCode) (collection : List ℕ) → Asked s t xs →
+    Over s code collection → Over t code collection
 over_later s t xs code collection a o = record {
   version = o.version;
   limits = o.limits;
@@ -74,7 +100,9 @@ over_later s t xs code collection a o = record {
 -- the first of them, and those behind these
 pub ask_before : (xs ys : List Question) → AskForNoText (xs ++ ys) → AskForNoText xs
 ask_before [] ys none = λ k d lt. absurd (omega (arith, lt))
-ask_before (x ∷ xs) ys none = All-cons (λ (q : Question). q.now.mode ≢ mode.Text) x xs (All-head (λ (q : Question). q.now.mode ≢ mode.Text) x (xs ++ ys) none) (ask_before xs ys (All-tail (λ (q : Question). q.now.mode ≢ mode.Text) x (xs ++ ys) none))
+ask_before (x ∷ xs) ys none = All-cons (λ (q : Question). q.now.mode ≢ mode.Text) x xs
+    (All-head (λ (q : Question). q.now.mode ≢ mode.Text) x (xs ++ ys) none)
+    (ask_before xs ys (All-tail (λ (q : Question). q.now.mode ≢ mode.Text) x (xs ++ ys) none))
 
 ask_behind : (xs ys : List Question) → AskForNoText (xs ++ ys) → AskForNoText ys
 ask_behind [] ys none = none
@@ -97,15 +125,34 @@ asked_more s t u xs ys a b = record {
   faults = omega (arith, a.faults, b.faults);
   same = opened_then s.opened t.opened u.opened a.same b.same;
   unread = λ p never. b.unread p never ∙ a.unread p never;
-  texts_unread = λ none p of_text. b.texts_unread (ask_behind xs ys none) p of_text ∙ a.texts_unread (ask_before xs ys none) p of_text;
-  post = λ code collection over. omega (arith, a.post code collection over, b.post code collection (over_later s t xs code collection a over), sum_by-append (line_bound collection) xs ys);
-  shown = λ code collection over. omega (arith, a.shown code collection over, b.shown code collection (over_later s t xs code collection a over), sum_by-append (line_text_bound code collection) xs ys);
+  texts_unread = λ none p of_text. b.texts_unread (ask_behind xs ys none) p of_text
+      ∙ a.texts_unread (ask_before xs ys none) p of_text;
+  post = λ code collection over. omega (
+    arith,
+    a.post code collection over,
+    b.post code collection (over_later s t xs code collection a over),
+    sum_by-append (line_bound collection) xs ys,
+  );
+  shown = λ code collection over. omega (
+    arith,
+    a.shown code collection over,
+    b.shown code collection (over_later s t xs code collection a over),
+    sum_by-append (line_text_bound code collection) xs ys,
+  );
 }
 
-pub answers_later : (s t : Searching) (xs : List Question) (by : Settings → List ℕ → List ℕ) → Asked s t xs → AnswersBy s by → AnswersBy t by
-answers_later s t xs by a answers = record { code = answers.code; collection = answers.collection; over = over_later s t xs answers.code answers.collection a answers.over; by_is = answers.by_is }
+pub answers_later : (s t : Searching) (xs : List Question) (by : Settings → List ℕ → List ℕ) → Asked s t xs →
+    AnswersBy s by → AnswersBy t by
+answers_later s t xs by a answers = record {
+  code = answers.code;
+  collection = answers.collection;
+  over = over_later s t xs answers.code answers.collection a answers.over;
+  by_is = answers.by_is;
+}
 
-pub stops_later : (s t u : Searching) (xs : List Question) (error : PartErr) → Asked s t xs → MayStop t u error → MayStop s u error
+pub stops_later : (s t u : Searching) (xs : List Question) (error : PartErr) → Asked s t xs → MayStop t u error →
+    MayStop s u error
 stops_later s t u xs Device a stops = omega (arith, a.faults, stops)
 stops_later s t u xs Memory a stops = tt
-stops_later s t u xs (Bad bad) a stops = λ code collection over. stops code collection (over_later s t xs code collection a over)
+stops_later s t u xs (Bad bad) a stops = λ code collection over.
+    stops code collection (over_later s t xs code collection a over)

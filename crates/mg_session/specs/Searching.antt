@@ -32,7 +32,12 @@ pub record Opened : Type 0 where
 
 -- those of a base, before any document was shown from its text
 abbrev pub opened_at : List ℕ → Fronted → Head → Opened
-opened_at base lex head = record { base = base; lex = lex; texts = record { base = base; head = head; reader = None }; all = head.documents }
+opened_at base lex head = record {
+  base = base;
+  lex = lex;
+  texts = record { base = base; head = head; reader = None };
+  all = head.documents;
+}
 
 -- these, and the store that they are read from
 pub record Searching : Type 0 where
@@ -90,8 +95,10 @@ pub record Asked (s t : Searching) (questions : List Question) : Type 0 where
   pub same : SameOpened s.opened t.opened
   pub unread : (p : Part) → NeverRead p → t.reads p ≡ s.reads p
   pub texts_unread : AskForNoText questions → (p : Part) → is_of_text p ≡ true → t.reads p ≡ s.reads p
-  pub post : (code : TextCode) (collection : List ℕ) → Over s code collection → t.reads part.Post ≤ s.reads part.Post + sum_by (line_bound collection) questions
-  pub shown : (code : TextCode) (collection : List ℕ) → Over s code collection → t.reads part.Text ≤ s.reads part.Text + sum_by (line_text_bound code collection) questions
+  pub post : (code : TextCode) (collection : List ℕ) → Over s code collection →
+      t.reads part.Post ≤ s.reads part.Post + sum_by (line_bound collection) questions
+  pub shown : (code : TextCode) (collection : List ℕ) → Over s code collection →
+      t.reads part.Text ≤ s.reads part.Text + sum_by (line_text_bound code collection) questions
 
 -- why a part may be refused
 abbrev pub MayStop : Searching → Searching → PartErr → Type 0

@@ -37,8 +37,10 @@ LineStops input_rose output_rose long MayStop InputTooLong = long
 LineStops input_rose output_rose long MayStop _ = ⊥
 
 -- The lines of an input were answered between two states of an answerer and its device, or some of them.
-pub record LinesServed {A : Type 0} (hearing : Hearing) (Answers : A → (Settings → List ℕ → List ℕ) → Type 0) (After : A → A → List Question → Type 0)
-    (MayStop : A → A → PartErr → Type 0) (old new : A) (input input_now : SourceAt) (out out_now : SinkAt) (result : Result (Unit {0}) Fault) : Type 0 where
+pub record LinesServed {A : Type 0} (hearing : Hearing) (Answers : A → (Settings → List ℕ → List ℕ) → Type 0)
+    (After : A → A → List Question → Type 0)
+    (MayStop : A → A → PartErr → Type 0) (old new : A) (input input_now : SourceAt) (out out_now : SinkAt)
+    (result : Result (Unit {0}) Fault) : Type 0 where
   -- the whole session is printed, or a prefix of it, by each reply function that the state answers by
   pub all : (reply : Settings → List ℕ → List ℕ) (given : List ℕ) → Answers old reply → input.left ≡ Some given
       → OnOk result (out_now.written ≡ appended out.written (heard_session hearing reply given))
@@ -50,29 +52,35 @@ pub record LinesServed {A : Type 0} (hearing : Hearing) (Answers : A → (Settin
   -- the first of its query lines were answered
   pub answered : AnsweredSome hearing After old new input.left
   -- the cause of each refusal
-  pub cause : IfErr result (LineStops (SourceRose input input_now) (SinkRose out out_now) (IsTooLong input.left) (MayStop old new))
+  pub cause : IfErr result (LineStops (SourceRose input input_now) (SinkRose out out_now) (IsTooLong input.left)
+      (MayStop old new))
 
 -- ---- a run
 
 -- A session prints this text of a collection and an input, reads no more pages than this, does not read these parts, and counts these rotations.
 -- Told of each collection that the files of this name stand for, and for each input that the source tells.
-pub record Served (text : List ℕ → List ℕ → List ℕ) (IsWithin : TextCode → List ℕ → List ℕ → Reads → Reads → Type 0) (IsUnread : Part → Type 0)
+pub record Served (text : List ℕ → List ℕ → List ℕ) (IsWithin : TextCode → List ℕ → List ℕ → Reads → Reads → Type 0)
+    (IsUnread : Part → Type 0)
     (IsCounted : Option Files → List ℕ → ℕ → Type 0) (base : List ℕ) (run : Run) : Type 0 where
   -- status 0: the whole session is printed, and the input was read to its end or a line `.quit`
-  pub done : (collection given : List ℕ) → Stands run.store.files base collection → run.input.left ≡ Some given → run.status ≡ Done
+  pub done : (collection given : List ℕ) → Stands run.store.files base collection → run.input.left ≡ Some given →
+      run.status ≡ Done
       → run.out_now.written ≡ appended run.out.written (text collection given)
   pub left : (given : List ℕ) → run.input.left ≡ Some given → run.status ≡ Done → LeftEnough given run.input_now.left
-  pub within : (given : List ℕ) → run.input.left ≡ Some given → run.status ≡ Done → is_too_much input_limit given ≡ false
+  pub within : (given : List ℕ) → run.input.left ≡ Some given → run.status ≡ Done →
+      is_too_much input_limit given ≡ false
   -- every status: a prefix of the session is printed; after the statuses 5 and 17 nothing, and the input is not read
   pub prefix : (collection given : List ℕ) → Stands run.store.files base collection → run.input.left ≡ Some given
       → GrewByPrefix run.out.written run.out_now.written (text collection given)
   pub silent : (fault : Fault) → IsFirst fault → Stops run fault → SaysNothing run
   pub untouched : (fault : Fault) → IsFirst fault → Stops run fault → run.input_now.left ≡ run.input.left
   -- the cause of every other status; 5 comes exactly where it has it, unless the store fails or memory is wanting
-  pub cause : IfStopped run.status (ServeStops IsCounted base (StoreFailed run) (InputFailed run) (OutputFailed run) run.store.files run.input.left)
+  pub cause : IfStopped run.status (ServeStops IsCounted base (StoreFailed run) (InputFailed run) (OutputFailed run)
+      run.store.files run.input.left)
   pub not_built : IsSome run.store.files → HasNoHead run.store.files base → StopsUnless run NotBuilt
   -- no file changes; no more pages are read than the lines allow, and some parts are never read
   pub files : KeepsFiles run
-  pub pages : (head : Head) (code : TextCode) (collection given : List ℕ) → StandsBy head code run.store.files base collection → run.input.left ≡ Some given
+  pub pages : (head : Head) (code : TextCode) (collection given : List ℕ) →
+      StandsBy head code run.store.files base collection → run.input.left ≡ Some given
       → IsWithin code collection given run.store.reads run.store_now.reads
   pub unread : (p : Part) → IsUnread p → run.store_now.reads p ≡ run.store.reads p

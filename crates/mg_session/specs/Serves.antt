@@ -23,7 +23,8 @@ Stops store_rose input_rose output_rose unbuilt damaged counted input WriteFault
 Stops store_rose input_rose output_rose unbuilt damaged counted input NotBuilt = unbuilt
 Stops store_rose input_rose output_rose unbuilt damaged counted input (Damaged bad) = damaged
 Stops store_rose input_rose output_rose unbuilt damaged counted input Memory = Unit {0}
-Stops store_rose input_rose output_rose unbuilt damaged counted input InputTooLong = ForSome input (λ given. is_too_much input_limit given ≡ true)
+Stops store_rose input_rose output_rose unbuilt damaged counted input InputTooLong =
+    ForSome input (λ given. is_too_much input_limit given ≡ true)
 Stops store_rose input_rose output_rose unbuilt damaged counted input (TooManyRotations count) = counted count
 Stops store_rose input_rose output_rose unbuilt damaged counted input _ = ⊥
 
@@ -32,13 +33,16 @@ abbrev pub CountsNone : Option Files → List ℕ → ℕ → Type 0
 CountsNone files base count = ⊥
 
 -- the cause of each refusal by the files under a base
-abbrev pub ServeStops : (Option Files → List ℕ → ℕ → Type 0) → List ℕ → Type 0 → Type 0 → Type 0 → Option Files → Option (List ℕ) → Fault → Type 0
+abbrev pub ServeStops : (Option Files → List ℕ → ℕ → Type 0) → List ℕ → Type 0 → Type 0 → Type 0 → Option Files →
+    Option (List ℕ) → Fault → Type 0
 ServeStops IsCounted base store_rose input_rose output_rose files input fault =
-    Stops store_rose input_rose output_rose (IsSome files → HasNoHead files base) (StandsForNone files base) (IsCounted files base) input fault
+    Stops store_rose input_rose output_rose (IsSome files → HasNoHead files base) (StandsForNone files base)
+    (IsCounted files base) input fault
 
 -- the same where rotations are not counted
 abbrev pub StopsFor : List ℕ → Type 0 → Type 0 → Type 0 → Option Files → Option (List ℕ) → Fault → Type 0
-StopsFor base store_rose input_rose output_rose files input fault = ServeStops CountsNone base store_rose input_rose output_rose files input fault
+StopsFor base store_rose input_rose output_rose files input fault =
+    ServeStops CountsNone base store_rose input_rose output_rose files input fault
 
 -- a refusal before the input is read
 abbrev pub IsFirst : Fault → Type 0

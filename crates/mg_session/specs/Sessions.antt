@@ -13,12 +13,15 @@ use Rattle.mg_session.specs.Texts.{Texting, TextsStand}
 
 -- that the open parts are of
 abbrev pub ForOpened : Option Files → Opened → (TextCode → List ℕ → Type 0) → Type 0
-ForOpened files opened holds = (code : TextCode) (collection : List ℕ) → OpenedOver files opened code collection → holds code collection
+ForOpened files opened holds = (code : TextCode) (collection : List ℕ) → OpenedOver files opened code collection →
+    holds code collection
 
 -- whose text this is
 abbrev pub ForText : Texting → Option Files → (TextCode → List ℕ → Type 0) → Type 0
-ForText texts files holds = (code : TextCode) (collection : List ℕ) → TextsStand texts files code collection → holds code collection
+ForText texts files holds = (code : TextCode) (collection : List ℕ) → TextsStand texts files code collection →
+    holds code collection
 
 -- whose lexicon this is, and which is within the limits of some version
 abbrev pub ForLexicon : Fronted → Option Files → (List ℕ → Type 0) → Type 0
-ForLexicon lex files holds = (version : ℕ) (collection : List ℕ) → IsWithinLimits version collection → LexStands lex files collection → holds collection
+ForLexicon lex files holds = (version : ℕ) (collection : List ℕ) → IsWithinLimits version collection →
+    LexStands lex files collection → holds collection

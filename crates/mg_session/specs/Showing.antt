@@ -19,29 +19,41 @@ use Rattle.mg_session.specs.Answering.{hit_pages, mode_pages, rows_pages, rows_t
 -- ---- a document
 
 -- what this mode shows of it is passed on
-abbrev pub PassesShown : {Y : Type 0} → (Y → Option (List ℕ)) → Y → Y → List ℕ → List ℕ → Result (Unit {0}) ShowErr → Mode → ℕ → Option ℕ → List ℕ → Type 0
-PassesShown written out out_now waited waiting result mode number score collection = Passes written out out_now waited waiting result (shown collection mode (at_score number score))
+abbrev pub PassesShown : {Y : Type 0} → (Y → Option (List ℕ)) → Y → Y → List ℕ → List ℕ → Result (Unit {0}) ShowErr →
+    Mode → ℕ → Option ℕ → List ℕ → Type 0
+PassesShown written out out_now waited waiting result mode number score collection =
+    Passes written out out_now waited waiting result (shown collection mode (at_score number score))
 
 -- and no pages of the text are read but those on which it lies, where this mode shows its text
 abbrev pub ReadsShown : {X : Type 0} → (X → Reads) → X → X → Mode → ℕ → Option ℕ → TextCode → List ℕ → Type 0
-ReadsShown reads store store_now mode number score code collection = reads store_now part.Text ≤ reads store part.Text + mode_pages code collection mode (at_score number score)
+ReadsShown reads store store_now mode number score code collection = reads store_now part.Text
+    ≤ reads store part.Text + mode_pages code collection mode (at_score number score)
 
 -- ---- a document of a Boolean answer, after so many of them
 
-abbrev pub PassesHit : {Y : Type 0} → (Y → Option (List ℕ)) → Y → Y → List ℕ → List ℕ → Result (Unit {0}) ShowErr → Settings → ℕ → ℕ → List ℕ → Type 0
-PassesHit written out out_now waited waiting result now total number collection = Passes written out out_now waited waiting result (hit_by now (document collection number) total (at_score number None))
+abbrev pub PassesHit : {Y : Type 0} → (Y → Option (List ℕ)) → Y → Y → List ℕ → List ℕ → Result (Unit {0}) ShowErr →
+    Settings → ℕ → ℕ → List ℕ → Type 0
+PassesHit written out out_now waited waiting result now total number collection =
+    Passes written out out_now waited waiting result
+    (hit_by now (document collection number) total (at_score number None))
 
 abbrev pub ReadsHit : {X : Type 0} → (X → Reads) → X → X → Settings → ℕ → ℕ → TextCode → List ℕ → Type 0
-ReadsHit reads store store_now now total number code collection = reads store_now part.Text ≤ reads store part.Text + hit_pages code collection now total (at_score number None)
+ReadsHit reads store store_now now total number code collection = reads store_now part.Text
+    ≤ reads store part.Text + hit_pages code collection now total (at_score number None)
 
 -- ---- rows of a ranked answer
 
-abbrev pub PassesRows : {Y : Type 0} → (Y → Option (List ℕ)) → Y → Y → List ℕ → List ℕ → Result (Unit {0}) ShowErr → Mode → List Hit → List ℕ → Type 0
-PassesRows written out out_now waited waiting result mode rows collection = Passes written out out_now waited waiting result (rows_text collection mode rows)
+abbrev pub PassesRows : {Y : Type 0} → (Y → Option (List ℕ)) → Y → Y → List ℕ → List ℕ → Result (Unit {0}) ShowErr →
+    Mode → List Hit → List ℕ → Type 0
+PassesRows written out out_now waited waiting result mode rows collection =
+    Passes written out out_now waited waiting result (rows_text collection mode rows)
 
 abbrev pub ReadsRows : {X : Type 0} → (X → Reads) → X → X → Mode → List Hit → TextCode → List ℕ → Type 0
-ReadsRows reads store store_now mode rows code collection = reads store_now part.Text ≤ reads store part.Text + rows_pages code collection mode rows
+ReadsRows reads store store_now mode rows code collection = reads store_now part.Text
+    ≤ reads store part.Text + rows_pages code collection mode rows
 
 -- and behind them how many documents there are
-abbrev pub PutsRanking : {Y : Type 0} → (Y → Option (List ℕ)) → Y → Y → Result (Unit {0}) ShowErr → Mode → Ranking → List ℕ → Type 0
-PutsRanking written out out_now result mode ranking collection = Puts written out out_now result (rows_text collection mode ranking.rows ++ count ranking.total)
+abbrev pub PutsRanking : {Y : Type 0} → (Y → Option (List ℕ)) → Y → Y → Result (Unit {0}) ShowErr → Mode → Ranking →
+    List ℕ → Type 0
+PutsRanking written out out_now result mode ranking collection = Puts written out out_now result
+    (rows_text collection mode ranking.rows ++ count ranking.total)

@@ -16,7 +16,8 @@ pub record Texting : Type 0 where
 pub record IsLoaded (base : List ℕ) (head : Head) (files : Option Files) (r : TextReading) : Type 0 where
   pub fits : TextFits r files
   pub reader : IsTextReader r base head
-  pub stands : (code : TextCode) (collection : List ℕ) → IsText base files head code collection → TextStands r files collection
+  pub stands : (code : TextCode) (collection : List ℕ) → IsText base files head code collection →
+      TextStands r files collection
   pub code : (code : TextCode) (collection : List ℕ) → IsText base files head code collection → r.code ≡ code
 
 -- the head's numbers are within the limits of the models, and the reader was loaded from these files

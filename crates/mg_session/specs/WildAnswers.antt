@@ -44,13 +44,15 @@ pub record ReadsPatterns (code : TextCode) (collection given : List ℕ) (before
   pub post : now part.Post ≤ before part.Post + sum_by (wild_pages collection) (plain_questions (lines given))
 
 -- no file changed, no fault was forgotten, and no part was read that a session of patterns never reads
-pub record ReadsNoOther (files_before files_now : Option Files) (reads_before reads_now : Reads) (faults_before faults_now : ℕ) : Type 0 where
+pub record ReadsNoOther (files_before files_now : Option Files) (reads_before reads_now : Reads)
+    (faults_before faults_now : ℕ) : Type 0 where
   pub files : files_now ≡ files_before
   pub faults : faults_before ≤ faults_now
   pub unread : (p : Part) → NeverReadByPatterns p → reads_now p ≡ reads_before p
 
 -- the lists are those of this collection, which has so many documents, and the terms are its terms with what stands of each
-pub record WildSources (base : List ℕ) (files : Option Files) (terms : LexTerms) (all : ℕ) (collection : List ℕ) : Type 0 where
+pub record WildSources (base : List ℕ) (files : Option Files) (terms : LexTerms) (all : ℕ) (collection : List ℕ) : Type
+    0 where
   pub lists : ListsStand base files collection
   pub terms_are : HasTermsOf terms collection
   pub infos_are : TellsOf terms collection
@@ -58,14 +60,17 @@ pub record WildSources (base : List ℕ) (files : Option Files) (terms : LexTerm
 
 -- for each collection whose terms these are, with what stands of each
 abbrev pub ForLexTerms : LexTerms → (List ℕ → Type 0) → Type 0
-ForLexTerms terms holds = (collection : List ℕ) → HasTermsOf terms collection → TellsOf terms collection → holds collection
+ForLexTerms terms holds = (collection : List ℕ) → HasTermsOf terms collection → TellsOf terms collection →
+    holds collection
 
 -- The terms that match a pattern and the documents with one of them were printed, or a part of that text; no part is bad.
-pub record WildAnswered (collection : List ℕ) (p : Pattern) (before after : Option (List ℕ)) (result : Result (Unit {0}) ShowErr) : Type 0 where
+pub record WildAnswered (collection : List ℕ) (p : Pattern) (before after : Option (List ℕ))
+    (result : Result (Unit {0}) ShowErr) : Type 0 where
   pub put : AfterPut before after (match_text collection p) result
   pub sound : ShowIsNotBad result
 
 -- The same of a line.
-pub record WildReplied (collection line : List ℕ) (before after : Option (List ℕ)) (result : Result (Unit {0}) ShowErr) : Type 0 where
+pub record WildReplied (collection line : List ℕ) (before after : Option (List ℕ))
+    (result : Result (Unit {0}) ShowErr) : Type 0 where
   pub put : AfterPut before after (wild_reply collection line) result
   pub sound : ShowIsNotBad result

@@ -12,7 +12,8 @@ use Rattle.mg_session.specs.DocumentSets.{DocumentMarks, has_doc}
 
 -- the documents of a collection that have one of these terms were added
 pub record AddsLists (collection : List ℕ) (ts : List (List ℕ)) (old new : DocumentMarks) : Type 0 where
-  pub each : (doc : ℕ) → 1 ≤ doc → doc ≤ length (documents collection) → has_doc new doc ≡ (has_doc old doc || list_any (has_term (document collection doc)) ts)
+  pub each : (doc : ℕ) → 1 ≤ doc → doc ≤ length (documents collection) →
+      has_doc new doc ≡ (has_doc old doc || list_any (has_term (document collection doc)) ts)
 
 -- the terms of a collection with these numbers
 abbrev pub terms_at : List ℕ → List ℕ → List (List ℕ)

@@ -58,7 +58,8 @@ pub record WildBy (s : WildState) (by : Settings → List ℕ → List ℕ) : Ty
 pub record WildAsked (s t : WildState) (questions : List Question) : Type 0 where
   pub step : ReadsNoOther s.files t.files s.reads t.reads s.faults t.faults
   pub same : t.parts ≡ s.parts
-  pub post : (collection : List ℕ) → WildOver s collection → t.reads part.Post ≤ s.reads part.Post + sum_by (λ (q : Question). wild_pages collection q.line) questions
+  pub post : (collection : List ℕ) → WildOver s collection → t.reads part.Post
+      ≤ s.reads part.Post + sum_by (λ (q : Question). wild_pages collection q.line) questions
 
 -- why a part may be refused
 abbrev pub WildMayStop : WildState → WildState → PartErr → Type 0

@@ -37,7 +37,8 @@ CountsTooMany files base count = (most_rotations < count) × (IsSome files → H
 
 -- the cause of each refusal by the files under a base
 abbrev pub WildStops : List ℕ → Type 0 → Type 0 → Type 0 → Option Files → Option (List ℕ) → Fault → Type 0
-WildStops base store_rose input_rose output_rose files input fault = ServeStops CountsTooMany base store_rose input_rose output_rose files input fault
+WildStops base store_rose input_rose output_rose files input fault =
+    ServeStops CountsTooMany base store_rose input_rose output_rose files input fault
 
 -- the fault of a lexicon whose terms are not held
 abbrev pub fault_of_rotated : RotErr → Fault

@@ -35,9 +35,11 @@ fn show_matches<S: Store, D: Documents<S>, O: Sink>(
     requires all { (D.texts texts.old).head.documents ≡ matches.old.all }
     ensures fits { TextsFit (S.files store.new) (D.texts texts.new) }
     ensures same { SameTexts (D.texts texts.old) (D.texts texts.new) }
-    ensures answer { AnswersMatches S.Store O.Sink store.old store.new out.old out.new result (D.texts texts.old) matches.old now.now }
+    ensures answer { AnswersMatches S.Store O.Sink store.old store.new out.old out.new result
+        (D.texts texts.old) matches.old now.now }
     ensures step { Between S.files S.reads S.faults store.old store.new (Stepped now.now.mode) }
-    ensures cause { HasShowCause result (S.faults store.old) (S.faults store.new) (O.faults out.old) (O.faults out.new) }
+    ensures cause { HasShowCause result (S.faults store.old) (S.faults store.new) (O.faults out.old)
+        (O.faults out.new) }
     ensures lack { HasShowLack (O.lacks out.old) (O.lacks out.new) result }
 {
     let mut pending = Pending::new();
@@ -75,9 +77,11 @@ pub(crate) fn answer_query<S: Store, D: Documents<S>, O: Sink>(
     requires all { (D.texts texts.old).head.documents ≡ all }
     ensures fits { TextsFit (S.files store.new) (D.texts texts.new) }
     ensures same { SameTexts (D.texts texts.old) (D.texts texts.new) }
-    ensures answer { AnswersQuery S.Store O.Sink store.old store.new out.old out.new result base.now (D.texts texts.old) all (query_of query.now) infos.now now.now }
+    ensures answer { AnswersQuery S.Store O.Sink store.old store.new out.old out.new result base.now
+        (D.texts texts.old) all (query_of query.now) infos.now now.now }
     ensures step { Between S.files S.reads S.faults store.old store.new (Stepped now.now.mode) }
-    ensures cause { HasShowCause result (S.faults store.old) (S.faults store.new) (O.faults out.old) (O.faults out.new) }
+    ensures cause { HasShowCause result (S.faults store.old) (S.faults store.new) (O.faults out.old)
+        (O.faults out.new) }
     ensures lack { HasShowLack (O.lacks out.old) (O.lacks out.new) result }
 {
     let mut matches = match Matches::start(alloc, base, query, infos, all) {

@@ -30,7 +30,8 @@ fn pass_places<O: Sink>(
     number: u32,
     places: u64,
 ) -> Result<(), PutErr>
-    ensures content { Passes O.written out.old out.new pending.old pending.new result (rows_of (found_at number places)) }
+    ensures content { Passes O.written out.old out.new pending.old pending.new result
+        (rows_of (found_at number places)) }
     ensures cause { HasPutCause (O.faults out.old) (O.faults out.new) result }
     ensures lack { HasLack (O.lacks out.old) (O.lacks out.new) result }
 {
@@ -58,9 +59,11 @@ fn search_matches<S: Store, T: Searched<S>, O: Sink>(
     ensures fits { TextFits (T.text text.new) (S.files store.new) }
     ensures same { SameText (T.text text.old) (T.text text.new) }
     ensures most { T.most text.new ≡ T.most text.old }
-    ensures answer { AnswersCandidates S.Store O.Sink store.old store.new out.old out.new result (T.text text.old) matches.old (T.most text.old) phrase.now }
+    ensures answer { AnswersCandidates S.Store O.Sink store.old store.new out.old out.new result
+        (T.text text.old) matches.old (T.most text.old) phrase.now }
     ensures step { Between S.files S.reads S.faults store.old store.new OnlyReads }
-    ensures cause { HasShowCause result (S.faults store.old) (S.faults store.new) (O.faults out.old) (O.faults out.new) }
+    ensures cause { HasShowCause result (S.faults store.old) (S.faults store.new) (O.faults out.old)
+        (O.faults out.new) }
     ensures lack { HasShowLack (O.lacks out.old) (O.lacks out.new) result }
 {
     let mut pending = Pending::new();
@@ -109,9 +112,11 @@ pub(crate) fn answer_phrase<S: Store, T: Searched<S>, O: Sink>(
     ensures fits { TextFits (T.text text.new) (S.files store.new) }
     ensures same { SameText (T.text text.old) (T.text text.new) }
     ensures most { T.most text.new ≡ T.most text.old }
-    ensures answer { AnswersPhrase S.Store O.Sink store.old store.new out.old out.new result base.now (T.text text.old) all (T.most text.old) (query_of query.now) infos.now phrase.now }
+    ensures answer { AnswersPhrase S.Store O.Sink store.old store.new out.old out.new result
+        base.now (T.text text.old) all (T.most text.old) (query_of query.now) infos.now phrase.now }
     ensures step { Between S.files S.reads S.faults store.old store.new OnlyReads }
-    ensures cause { HasShowCause result (S.faults store.old) (S.faults store.new) (O.faults out.old) (O.faults out.new) }
+    ensures cause { HasShowCause result (S.faults store.old) (S.faults store.new) (O.faults out.old)
+        (O.faults out.new) }
     ensures lack { HasShowLack (O.lacks out.old) (O.lacks out.new) result }
 {
     let mut matches = match Matches::start(alloc, base, query, infos, all) {

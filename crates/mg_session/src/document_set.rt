@@ -47,7 +47,8 @@ impl DocumentSet {
         requires some { 1 ≤ doc }
         requires within { doc ≤ self.old.all }
         ensures room { self.new.all ≡ self.old.all }
-        ensures marked { (other : ℕ) → 1 ≤ other → has_doc self.new other ≡ (other == doc || has_doc self.old other) }
+        ensures marked { (other : ℕ) → 1 ≤ other → has_doc self.new other
+            ≡ (other == doc || has_doc self.old other) }
     {
         let place = doc as usize - 1;
         self.words[place / 64] |= 1 << (place % 64);

@@ -30,10 +30,14 @@ pub(crate) trait Documents<S: Store> {
         ensures fits { TextsFit (S.files store.new) (texts self.new) }
         ensures same { SameTexts (texts self.old) (texts self.new) }
         ensures content { ForText (texts self.old) (S.files store.old)
-            (λ code collection. Puts O.written out.old out.new result (document collection number)) }
-        ensures pages { ForText (texts self.old) (S.files store.old) (ReadsShown S.reads store.old store.new mode.Text number None) }
-        ensures sound { ForText (texts self.old) (S.files store.old) (λ code collection. ShowIsNotBad result) }
+            (λ code collection. Puts O.written out.old out.new result
+            (document collection number)) }
+        ensures pages { ForText (texts self.old) (S.files store.old)
+            (ReadsShown S.reads store.old store.new mode.Text number None) }
+        ensures sound { ForText (texts self.old) (S.files store.old)
+            (λ code collection. ShowIsNotBad result) }
         ensures looked { Between S.files S.reads S.faults store.old store.new (ShownIn mode.Text) }
-        ensures cause { HasShowCause result (S.faults store.old) (S.faults store.new) (O.faults out.old) (O.faults out.new) }
+        ensures cause { HasShowCause result (S.faults store.old) (S.faults store.new)
+            (O.faults out.old) (O.faults out.new) }
         ensures lack { HasShowLack (O.lacks out.old) (O.lacks out.new) result };
 }

@@ -28,7 +28,8 @@ pub(crate) fn find_terms<S: Store>(
     ensures size { IfOk result (λ infos. length infos.items ≡ length terms.now) }
     ensures answer { ForLexicon lex.old (S.files store.old)
         (λ collection. AnswersOr result (λ infos. AreInfos collection terms.now infos.items)) }
-    ensures looked { Between S.files S.reads S.faults store.old store.new (LookedAt part.Lex part.LexAt) }
+    ensures looked { Between S.files S.reads S.faults store.old store.new
+        (LookedAt part.Lex part.LexAt) }
     ensures cause { HasPartCause (S.faults store.old) (S.faults store.new) result }
 {
     let mut infos = Vec::new(alloc);

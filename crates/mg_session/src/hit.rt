@@ -30,11 +30,15 @@ fn show_text<S: Store, D: Documents<S>, O: Sink>(
     ensures fits { TextsFit (S.files store.new) (D.texts texts.new) }
     ensures same { SameTexts (D.texts texts.old) (D.texts texts.new) }
     ensures content { ForText (D.texts texts.old) (S.files store.old)
-        (λ code. PassesShown O.written out.old out.new pending.old pending.new result mode.Text number score) }
-    ensures pages { ForText (D.texts texts.old) (S.files store.old) (ReadsShown S.reads store.old store.new mode.Text number score) }
-    ensures sound { ForText (D.texts texts.old) (S.files store.old) (λ code collection. ShowIsNotBad result) }
+        (λ code. PassesShown O.written out.old out.new pending.old pending.new result mode.Text
+        number score) }
+    ensures pages { ForText (D.texts texts.old) (S.files store.old)
+        (ReadsShown S.reads store.old store.new mode.Text number score) }
+    ensures sound { ForText (D.texts texts.old) (S.files store.old)
+        (λ code collection. ShowIsNotBad result) }
     ensures looked { Between S.files S.reads S.faults store.old store.new (ShownIn mode.Text) }
-    ensures cause { HasShowCause result (S.faults store.old) (S.faults store.new) (O.faults out.old) (O.faults out.new) }
+    ensures cause { HasShowCause result (S.faults store.old) (S.faults store.new) (O.faults out.old)
+        (O.faults out.new) }
     ensures lack { HasShowLack (O.lacks out.old) (O.lacks out.new) result }
 {
     match pending.header(out, number, score) {
@@ -71,11 +75,15 @@ pub(crate) fn show_doc<S: Store, D: Documents<S>, O: Sink>(
     ensures fits { TextsFit (S.files store.new) (D.texts texts.new) }
     ensures same { SameTexts (D.texts texts.old) (D.texts texts.new) }
     ensures content { ForText (D.texts texts.old) (S.files store.old)
-        (λ code. PassesShown O.written out.old out.new pending.old pending.new result mode number score) }
-    ensures pages { ForText (D.texts texts.old) (S.files store.old) (ReadsShown S.reads store.old store.new mode number score) }
-    ensures sound { ForText (D.texts texts.old) (S.files store.old) (λ code collection. ShowIsNotBad result) }
+        (λ code. PassesShown O.written out.old out.new pending.old pending.new result mode number
+        score) }
+    ensures pages { ForText (D.texts texts.old) (S.files store.old)
+        (ReadsShown S.reads store.old store.new mode number score) }
+    ensures sound { ForText (D.texts texts.old) (S.files store.old)
+        (λ code collection. ShowIsNotBad result) }
     ensures looked { Between S.files S.reads S.faults store.old store.new (ShownIn mode) }
-    ensures cause { HasShowCause result (S.faults store.old) (S.faults store.new) (O.faults out.old) (O.faults out.new) }
+    ensures cause { HasShowCause result (S.faults store.old) (S.faults store.new) (O.faults out.old)
+        (O.faults out.new) }
     ensures lack { HasShowLack (O.lacks out.old) (O.lacks out.new) result }
 {
     match mode {
@@ -105,11 +113,15 @@ pub(crate) fn show_hit<S: Store, D: Documents<S>, O: Sink>(
     ensures fits { TextsFit (S.files store.new) (D.texts texts.new) }
     ensures same { SameTexts (D.texts texts.old) (D.texts texts.new) }
     ensures content { ForText (D.texts texts.old) (S.files store.old)
-        (λ code. PassesHit O.written out.old out.new pending.old pending.new result now.now total number) }
-    ensures pages { ForText (D.texts texts.old) (S.files store.old) (ReadsHit S.reads store.old store.new now.now total number) }
-    ensures sound { ForText (D.texts texts.old) (S.files store.old) (λ code collection. ShowIsNotBad result) }
+        (λ code. PassesHit O.written out.old out.new pending.old pending.new result now.now total
+        number) }
+    ensures pages { ForText (D.texts texts.old) (S.files store.old)
+        (ReadsHit S.reads store.old store.new now.now total number) }
+    ensures sound { ForText (D.texts texts.old) (S.files store.old)
+        (λ code collection. ShowIsNotBad result) }
     ensures looked { Between S.files S.reads S.faults store.old store.new (ShownIn now.now.mode) }
-    ensures cause { HasShowCause result (S.faults store.old) (S.faults store.new) (O.faults out.old) (O.faults out.new) }
+    ensures cause { HasShowCause result (S.faults store.old) (S.faults store.new) (O.faults out.old)
+        (O.faults out.new) }
     ensures lack { HasShowLack (O.lacks out.old) (O.lacks out.new) result }
 {
     if !shows(now.most, total) {

@@ -31,7 +31,8 @@ pub fn serve_phrase<S: Store, I: Source, O: Sink>(
     out: &mut O,
 ) -> Result<(), Fault>
     // What a run does that asks a session of phrases, whatever its error output is.
-    ensures phrased { Runs S.Store I.Source O.Sink store.old store.new input.old input.new out.old out.new result (Phrased base.now) }
+    ensures phrased { Runs S.Store I.Source O.Sink store.old store.new input.old input.new out.old
+        out.new result (Phrased base.now) }
     ensures later { S.faults store.old ≤ S.faults store.new }
 {
     let head = match load_head(store, base) {

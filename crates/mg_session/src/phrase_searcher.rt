@@ -56,7 +56,13 @@ impl<'a, S: Store> PhraseSearcher<'a, S> {
         text: TextReader<'a, S>,
         head: &Head,
     ) -> Self
-        ensures { result ≡ record { base = base.entry.now; lex = lex.entry; text = text.entry; all = head.now.documents; most = head.now.collection } }
+        ensures { result ≡ record {
+          base = base.entry.now;
+          lex = lex.entry;
+          text = text.entry;
+          all = head.now.documents;
+          most = head.now.collection;
+        } }
     {
         PhraseSearcher {
             alloc,
@@ -77,7 +83,8 @@ impl<'a, S: Store> PhraseSearcher<'a, S> {
         requires words { head.now.words ≤ 2 ^ 22 }
         requires others { head.now.others ≤ 2 ^ 22 }
         ensures fits { IfOk result (PartsFit (S.files store.new)) }
-        ensures opened { SetOpened (PartsOverBy (S.files store.new)) KeptByPhrases (λ count. ⊥) head.now base.entry.now
+        ensures opened { SetOpened (PartsOverBy (S.files store.new)) KeptByPhrases (λ count. ⊥)
+            head.now base.entry.now
             (store_at S.files S.reads S.faults store.old)
             (store_at S.files S.reads S.faults store.new) result }
     {
@@ -104,9 +111,11 @@ impl<'a, S: Store> PhraseSearcher<'a, S> {
         requires fits { PartsFit (S.files store.old) self.old }
         ensures fits { PartsFit (S.files store.new) self.new }
         ensures same { SamePhraseParts self.old self.new }
-        ensures replied { RepliesToPhrase S.Store O.Sink store.old store.new out.old out.new result self.old line.now }
+        ensures replied { RepliesToPhrase S.Store O.Sink store.old store.new out.old out.new result
+            self.old line.now }
         ensures step { Between S.files S.reads S.faults store.old store.new OnlyReads }
-        ensures cause { HasShowCause result (S.faults store.old) (S.faults store.new) (O.faults out.old) (O.faults out.new) }
+        ensures cause { HasShowCause result (S.faults store.old) (S.faults store.new)
+            (O.faults out.old) (O.faults out.new) }
         ensures lack { HasShowLack (O.lacks out.old) (O.lacks out.new) result }
     {
         let read = match read_phrase(self.alloc, line) {
@@ -128,9 +137,11 @@ impl<'a, S: Store> PhraseSearcher<'a, S> {
         requires fits { PartsFit (S.files store.old) self.old }
         ensures fits { PartsFit (S.files store.new) self.new }
         ensures same { SamePhraseParts self.old self.new }
-        ensures answer { AnswersWords S.Store O.Sink store.old store.new out.old out.new result self.old read.now.phrase }
+        ensures answer { AnswersWords S.Store O.Sink store.old store.new out.old out.new result
+            self.old read.now.phrase }
         ensures step { Between S.files S.reads S.faults store.old store.new OnlyReads }
-        ensures cause { HasShowCause result (S.faults store.old) (S.faults store.new) (O.faults out.old) (O.faults out.new) }
+        ensures cause { HasShowCause result (S.faults store.old) (S.faults store.new)
+            (O.faults out.old) (O.faults out.new) }
         ensures lack { HasShowLack (O.lacks out.old) (O.lacks out.new) result }
     {
         match &read.query {
@@ -153,9 +164,11 @@ impl<'a, S: Store> PhraseSearcher<'a, S> {
         requires fits { PartsFit (S.files store.old) self.old }
         ensures fits { PartsFit (S.files store.new) self.new }
         ensures same { SamePhraseParts self.old self.new }
-        ensures answer { AnswersWords S.Store O.Sink store.old store.new out.old out.new result self.old phrase.now }
+        ensures answer { AnswersWords S.Store O.Sink store.old store.new out.old out.new result
+            self.old phrase.now }
         ensures step { Between S.files S.reads S.faults store.old store.new OnlyReads }
-        ensures cause { HasShowCause result (S.faults store.old) (S.faults store.new) (O.faults out.old) (O.faults out.new) }
+        ensures cause { HasShowCause result (S.faults store.old) (S.faults store.new)
+            (O.faults out.old) (O.faults out.new) }
         ensures lack { HasShowLack (O.lacks out.old) (O.lacks out.new) result }
     {
         let infos = match find_terms(self.alloc, store, &mut self.lex, phrase.as_slice()) {

@@ -35,11 +35,15 @@ fn show_rows<S: Store, D: Documents<S>, O: Sink>(
     ensures fits { TextsFit (S.files store.new) (D.texts texts.new) }
     ensures same { SameTexts (D.texts texts.old) (D.texts texts.new) }
     ensures content { ForText (D.texts texts.old) (S.files store.old)
-        (λ code. PassesRows O.written out.old out.new pending.old pending.new result mode rows.now) }
-    ensures pages { ForText (D.texts texts.old) (S.files store.old) (ReadsRows S.reads store.old store.new mode rows.now) }
-    ensures sound { ForText (D.texts texts.old) (S.files store.old) (λ code collection. ShowIsNotBad result) }
+        (λ code. PassesRows O.written out.old out.new pending.old pending.new result mode
+        rows.now) }
+    ensures pages { ForText (D.texts texts.old) (S.files store.old)
+        (ReadsRows S.reads store.old store.new mode rows.now) }
+    ensures sound { ForText (D.texts texts.old) (S.files store.old)
+        (λ code collection. ShowIsNotBad result) }
     ensures looked { Between S.files S.reads S.faults store.old store.new (ShownIn mode) }
-    ensures cause { HasShowCause result (S.faults store.old) (S.faults store.new) (O.faults out.old) (O.faults out.new) }
+    ensures cause { HasShowCause result (S.faults store.old) (S.faults store.new) (O.faults out.old)
+        (O.faults out.new) }
     ensures lack { HasShowLack (O.lacks out.old) (O.lacks out.new) result }
 {
     for place in 0..rows.len() {
@@ -74,10 +78,13 @@ fn show_ranked<S: Store, D: Documents<S>, O: Sink>(
     ensures same { SameTexts (D.texts texts.old) (D.texts texts.new) }
     ensures content { ForText (D.texts texts.old) (S.files store.old)
         (λ code. PutsRanking O.written out.old out.new result mode ranked.now) }
-    ensures pages { ForText (D.texts texts.old) (S.files store.old) (ReadsRows S.reads store.old store.new mode ranked.now.rows) }
-    ensures sound { ForText (D.texts texts.old) (S.files store.old) (λ code collection. ShowIsNotBad result) }
+    ensures pages { ForText (D.texts texts.old) (S.files store.old)
+        (ReadsRows S.reads store.old store.new mode ranked.now.rows) }
+    ensures sound { ForText (D.texts texts.old) (S.files store.old)
+        (λ code collection. ShowIsNotBad result) }
     ensures looked { Between S.files S.reads S.faults store.old store.new (ShownIn mode) }
-    ensures cause { HasShowCause result (S.faults store.old) (S.faults store.new) (O.faults out.old) (O.faults out.new) }
+    ensures cause { HasShowCause result (S.faults store.old) (S.faults store.new) (O.faults out.old)
+        (O.faults out.new) }
     ensures lack { HasShowLack (O.lacks out.old) (O.lacks out.new) result }
 {
     let mut pending = Pending::new();
@@ -114,9 +121,11 @@ pub(crate) fn answer_terms<S: Store, D: Documents<S>, O: Sink>(
     requires all { (D.texts texts.old).head.documents ≡ all }
     ensures fits { TextsFit (S.files store.new) (D.texts texts.new) }
     ensures same { SameTexts (D.texts texts.old) (D.texts texts.new) }
-    ensures answer { AnswersTerms S.Store O.Sink store.old store.new out.old out.new result base.now (D.texts texts.old) all infos.now now.now }
+    ensures answer { AnswersTerms S.Store O.Sink store.old store.new out.old out.new result base.now
+        (D.texts texts.old) all infos.now now.now }
     ensures step { Between S.files S.reads S.faults store.old store.new (Stepped now.now.mode) }
-    ensures cause { HasShowCause result (S.faults store.old) (S.faults store.new) (O.faults out.old) (O.faults out.new) }
+    ensures cause { HasShowCause result (S.faults store.old) (S.faults store.new) (O.faults out.old)
+        (O.faults out.new) }
     ensures lack { HasShowLack (O.lacks out.old) (O.lacks out.new) result }
 {
     let known = match known_of(alloc, infos) {

@@ -32,12 +32,15 @@ pub(crate) trait Searched<S: Store> {
         ensures fits { TextFits (text self.new) (S.files store.new) }
         ensures same { SameText (text self.old) (text self.new) }
         ensures most { most self.new ≡ most self.old }
-        ensures content { ForShortDocument (text self.old) (S.files store.old) number (most self.old)
+        ensures content { ForShortDocument (text self.old) (S.files store.old) number
+            (most self.old)
             (λ doc. IfOk result (λ places. places ≡ phrase_places phrase.now doc)) }
-        ensures never_bad { ForShortDocument (text self.old) (S.files store.old) number (most self.old)
+        ensures never_bad { ForShortDocument (text self.old) (S.files store.old) number
+            (most self.old)
             (λ _. IfErr result IsNotBad) }
         ensures pages { WhereTextStands (text self.old) (S.files store.old)
             (PagesOfDocument (text self.old) number (S.reads store.old) (S.reads store.new)) }
-        ensures looked { Between S.files S.reads S.faults store.old store.new (LookedAt part.Text part.Places) }
+        ensures looked { Between S.files S.reads S.faults store.old store.new
+            (LookedAt part.Text part.Places) }
         ensures cause { HasPartCause (S.faults store.old) (S.faults store.new) result };
 }

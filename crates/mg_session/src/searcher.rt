@@ -70,7 +70,8 @@ impl<'a, S: Store> Searcher<'a, S> {
         requires words { head.now.words ≤ 2 ^ 22 }
         requires others { head.now.others ≤ 2 ^ 22 }
         ensures fits { IfOk result (SearchFits (S.files store.new)) }
-        ensures opened { SetOpened (OpenedOver (S.files store.new)) KeptByQueries (λ count. ⊥) head.now base.entry.now
+        ensures opened { SetOpened (OpenedOver (S.files store.new)) KeptByQueries (λ count. ⊥)
+            head.now base.entry.now
             (store_at S.files S.reads S.faults store.old)
             (store_at S.files S.reads S.faults store.new) result }
     {
@@ -94,9 +95,11 @@ impl<'a, S: Store> Searcher<'a, S> {
         requires fits { SearchFits (S.files store.old) self.old }
         ensures fits { SearchFits (S.files store.new) self.new }
         ensures same { SameOpened self.old self.new }
-        ensures replied { RepliesTo S.Store O.Sink store.old store.new out.old out.new result self.old false now.now line.now }
+        ensures replied { RepliesTo S.Store O.Sink store.old store.new out.old out.new result
+            self.old false now.now line.now }
         ensures step { Between S.files S.reads S.faults store.old store.new (Stepped now.now.mode) }
-        ensures cause { HasShowCause result (S.faults store.old) (S.faults store.new) (O.faults out.old) (O.faults out.new) }
+        ensures cause { HasShowCause result (S.faults store.old) (S.faults store.new)
+            (O.faults out.old) (O.faults out.new) }
         ensures lack { HasShowLack (O.lacks out.old) (O.lacks out.new) result }
     {
         match read_boolean(self.alloc, line) {
@@ -118,11 +121,13 @@ impl<'a, S: Store> Searcher<'a, S> {
         requires fits { SearchFits (S.files store.old) self.old }
         ensures fits { SearchFits (S.files store.new) self.new }
         ensures same { SameOpened self.old self.new }
-        ensures answer { AnswersOpened S.Store O.Sink store.old store.new out.old out.new result self.old now.now
+        ensures answer { AnswersOpened S.Store O.Sink store.old store.new out.old out.new result
+            self.old now.now
             (λ collection. satisfying collection (query_of query.now))
             (λ collection. boolean_bound collection (query_of query.now)) }
         ensures step { Between S.files S.reads S.faults store.old store.new (Stepped now.now.mode) }
-        ensures cause { HasShowCause result (S.faults store.old) (S.faults store.new) (O.faults out.old) (O.faults out.new) }
+        ensures cause { HasShowCause result (S.faults store.old) (S.faults store.new)
+            (O.faults out.old) (O.faults out.new) }
         ensures lack { HasShowLack (O.lacks out.old) (O.lacks out.new) result }
     {
         let infos = match find_terms(self.alloc, store, &mut self.lex, terms.as_slice()) {
@@ -154,9 +159,11 @@ impl<'a, S: Store> Searcher<'a, S> {
         requires fits { SearchFits (S.files store.old) self.old }
         ensures fits { SearchFits (S.files store.new) self.new }
         ensures same { SameOpened self.old self.new }
-        ensures replied { RepliesTo S.Store O.Sink store.old store.new out.old out.new result self.old true now.now line.now }
+        ensures replied { RepliesTo S.Store O.Sink store.old store.new out.old out.new result
+            self.old true now.now line.now }
         ensures step { Between S.files S.reads S.faults store.old store.new (Stepped now.now.mode) }
-        ensures cause { HasShowCause result (S.faults store.old) (S.faults store.new) (O.faults out.old) (O.faults out.new) }
+        ensures cause { HasShowCause result (S.faults store.old) (S.faults store.new)
+            (O.faults out.old) (O.faults out.new) }
         ensures lack { HasShowLack (O.lacks out.old) (O.lacks out.new) result }
     {
         match parse_ranked(self.alloc, line) {
@@ -178,10 +185,13 @@ impl<'a, S: Store> Searcher<'a, S> {
         requires fits { SearchFits (S.files store.old) self.old }
         ensures fits { SearchFits (S.files store.new) self.new }
         ensures same { SameOpened self.old self.new }
-        ensures answer { AnswersOpened S.Store O.Sink store.old store.new out.old out.new result self.old now.now
-            (λ collection. ranking collection terms.now) (λ collection. ranked_bound collection terms.now) }
+        ensures answer { AnswersOpened S.Store O.Sink store.old store.new out.old out.new result
+            self.old now.now
+            (λ collection. ranking collection terms.now)
+            (λ collection. ranked_bound collection terms.now) }
         ensures step { Between S.files S.reads S.faults store.old store.new (Stepped now.now.mode) }
-        ensures cause { HasShowCause result (S.faults store.old) (S.faults store.new) (O.faults out.old) (O.faults out.new) }
+        ensures cause { HasShowCause result (S.faults store.old) (S.faults store.new)
+            (O.faults out.old) (O.faults out.new) }
         ensures lack { HasShowLack (O.lacks out.old) (O.lacks out.new) result }
     {
         let infos = match find_terms(self.alloc, store, &mut self.lex, terms.as_slice()) {
@@ -212,9 +222,11 @@ impl<'a, S: Store> Searcher<'a, S> {
         requires fits { SearchFits (S.files store.old) self.old }
         ensures fits { SearchFits (S.files store.new) self.new }
         ensures same { SameOpened self.old self.new }
-        ensures replied { RepliesTo S.Store O.Sink store.old store.new out.old out.new result self.old now.now.ranked now.now line.now }
+        ensures replied { RepliesTo S.Store O.Sink store.old store.new out.old out.new result
+            self.old now.now.ranked now.now line.now }
         ensures step { Between S.files S.reads S.faults store.old store.new (Stepped now.now.mode) }
-        ensures cause { HasShowCause result (S.faults store.old) (S.faults store.new) (O.faults out.old) (O.faults out.new) }
+        ensures cause { HasShowCause result (S.faults store.old) (S.faults store.new)
+            (O.faults out.old) (O.faults out.new) }
         ensures lack { HasShowLack (O.lacks out.old) (O.lacks out.new) result }
     {
         if now.ranked {

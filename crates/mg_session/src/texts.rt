@@ -67,11 +67,15 @@ impl<'a, S: Store> Texts<'a, S> {
         ensures fits { TextsFit (S.files store.new) self.new }
         ensures same { SameTexts self.old self.new }
         ensures content { ForText self.old (S.files store.old)
-            (λ code collection. Puts O.written out.old out.new result (document collection number)) }
-        ensures pages { ForText self.old (S.files store.old) (ReadsShown S.reads store.old store.new mode.Text number None) }
-        ensures sound { ForText self.old (S.files store.old) (λ code collection. ShowIsNotBad result) }
+            (λ code collection. Puts O.written out.old out.new result
+            (document collection number)) }
+        ensures pages { ForText self.old (S.files store.old)
+            (ReadsShown S.reads store.old store.new mode.Text number None) }
+        ensures sound { ForText self.old (S.files store.old)
+            (λ code collection. ShowIsNotBad result) }
         ensures looked { Between S.files S.reads S.faults store.old store.new (ShownIn mode.Text) }
-        ensures cause { HasShowCause result (S.faults store.old) (S.faults store.new) (O.faults out.old) (O.faults out.new) }
+        ensures cause { HasShowCause result (S.faults store.old) (S.faults store.new)
+            (O.faults out.old) (O.faults out.new) }
         ensures lack { HasShowLack (O.lacks out.old) (O.lacks out.new) result }
     {
         let mut reader = match TextReader::load(self.alloc, store, self.base, &self.head) {

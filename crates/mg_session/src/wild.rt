@@ -30,7 +30,8 @@ pub fn serve_wild<S: Store, I: Source, O: Sink>(
     out: &mut O,
 ) -> Result<(), Fault>
     // What a run does that asks a session of patterns, whatever its error output is.
-    ensures matched { Runs S.Store I.Source O.Sink store.old store.new input.old input.new out.old out.new result (Matched base.now) }
+    ensures matched { Runs S.Store I.Source O.Sink store.old store.new input.old input.new out.old
+        out.new result (Matched base.now) }
     ensures later { S.faults store.old ≤ S.faults store.new }
 {
     let head = match load_head(store, base) {

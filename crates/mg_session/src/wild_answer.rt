@@ -35,7 +35,8 @@ fn mark_list<S: Store>(
 ) -> Result<(), PartErr>
     requires room { marked.old.all ≡ all }
     ensures room { marked.new.all ≡ all }
-    ensures answer { ForTerm base.now (S.files store.old) info.now all (λ collection t. MarksLists (t ∷ []) marked.old marked.new result collection) }
+    ensures answer { ForTerm base.now (S.files store.old) info.now all
+        (λ collection t. MarksLists (t ∷ []) marked.old marked.new result collection) }
     ensures pages { ForTerm base.now (S.files store.old) info.now all
         (λ collection t. PostWithin S.reads store.old store.new (list_pages collection t)) }
     ensures reads { ReadsLists (S.reads store.old) (S.reads store.new) }
@@ -74,9 +75,11 @@ fn mark_all<S: Store>(
     requires terms { All (λ n. n < length terms.now.terms) numbers.now }
     requires room { marked.old.all ≡ all }
     ensures room { marked.new.all ≡ all }
-    ensures answer { ForEach (WildSources base.now (S.files store.old) terms.now all) (MarksTerms numbers.now marked.old marked.new result) }
+    ensures answer { ForEach (WildSources base.now (S.files store.old) terms.now all)
+        (MarksTerms numbers.now marked.old marked.new result) }
     ensures pages { ForEach (WildSources base.now (S.files store.old) terms.now all)
-        (λ collection. PostWithin S.reads store.old store.new (ranked_bound collection (terms_at collection numbers.now))) }
+        (λ collection. PostWithin S.reads store.old store.new
+        (ranked_bound collection (terms_at collection numbers.now))) }
     ensures reads { ReadsLists (S.reads store.old) (S.reads store.new) }
     ensures files { S.files store.new ≡ S.files store.old }
     ensures cause { HasPartCause (S.faults store.old) (S.faults store.new) result }
@@ -98,7 +101,8 @@ fn pass_term<O: Sink>(
     term: &[u8],
     docs: u32,
 ) -> Result<(), PutErr>
-    ensures content { Passes O.written out.old out.new pending.old pending.new result (term_row term.now docs) }
+    ensures content { Passes O.written out.old out.new pending.old pending.new result
+        (term_row term.now docs) }
     ensures cause { HasPutCause (O.faults out.old) (O.faults out.new) result }
     ensures lack { HasLack (O.lacks out.old) (O.lacks out.new) result }
 {
@@ -126,7 +130,8 @@ fn pass_terms<O: Sink>(
     requires each { length terms.now.infos ≡ length terms.now.terms }
     requires terms { All (λ n. n < length terms.now.terms) numbers.now }
     ensures content { ForLexTerms terms.now
-        (λ collection. Passes O.written out.old out.new pending.old pending.new result (rows_at numbers.now collection)) }
+        (λ collection. Passes O.written out.old out.new pending.old pending.new result
+        (rows_at numbers.now collection)) }
     ensures cause { HasPutCause (O.faults out.old) (O.faults out.new) result }
     ensures lack { HasLack (O.lacks out.old) (O.lacks out.new) result }
 {
@@ -146,7 +151,8 @@ fn pass_marked<O: Sink>(
     out: &mut O,
     marked: &DocumentSet,
 ) -> Result<(), PutErr>
-    ensures content { Passes O.written out.old out.new pending.old pending.new result (numbers_text (marked_to marked.now marked.now.all)) }
+    ensures content { Passes O.written out.old out.new pending.old pending.new result
+        (numbers_text (marked_to marked.now marked.now.all)) }
     ensures cause { HasPutCause (O.faults out.old) (O.faults out.new) result }
     ensures lack { HasLack (O.lacks out.old) (O.lacks out.new) result }
 {
@@ -182,9 +188,11 @@ pub(crate) fn answer_pattern<S: Store, O: Sink>(
     ensures answer { ForEach (WildSources base.now (S.files store.old) terms.now all)
         (AnswersPattern O.written out.old out.new result (sides_of pattern.now)) }
     ensures pages { ForEach (WildSources base.now (S.files store.old) terms.now all)
-        (λ collection. PostWithin S.reads store.old store.new (pattern_pages collection (sides_of pattern.now))) }
+        (λ collection. PostWithin S.reads store.old store.new
+        (pattern_pages collection (sides_of pattern.now))) }
     ensures step { Between S.files S.reads S.faults store.old store.new ReadsNoOther }
-    ensures cause { HasShowCause result (S.faults store.old) (S.faults store.new) (O.faults out.old) (O.faults out.new) }
+    ensures cause { HasShowCause result (S.faults store.old) (S.faults store.new) (O.faults out.old)
+        (O.faults out.new) }
     ensures lack { HasShowLack (O.lacks out.old) (O.lacks out.new) result }
 {
     // For the proof: something is told of each term.

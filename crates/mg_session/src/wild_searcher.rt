@@ -85,7 +85,12 @@ impl<'a, S: Store> WildSearcher<'a, S> {
         all: u32,
         marked: DocumentSet,
     ) -> Self
-        ensures { result ≡ record { base = base.entry.now; terms = terms; all = all; room = marked.all } }
+        ensures { result ≡ record {
+          base = base.entry.now;
+          terms = terms;
+          all = all;
+          room = marked.all;
+        } }
     {
         WildSearcher {
             alloc,
@@ -136,11 +141,14 @@ impl<'a, S: Store> WildSearcher<'a, S> {
         requires short { length line.now ≤ 1024 }
         requires fits { HasRoom self.old }
         ensures same { self.new ≡ self.old }
-        ensures replied { ForEach (PartsAreOf (S.files store.old) self.old) (RepliesToPattern O.written out.old out.new result line.now) }
+        ensures replied { ForEach (PartsAreOf (S.files store.old) self.old)
+            (RepliesToPattern O.written out.old out.new result line.now) }
         ensures pages { ForEach (PartsAreOf (S.files store.old) self.old)
-            (λ collection. PostWithin S.reads store.old store.new (wild_pages collection line.now)) }
+            (λ collection. PostWithin S.reads store.old store.new
+            (wild_pages collection line.now)) }
         ensures step { Between S.files S.reads S.faults store.old store.new ReadsNoOther }
-        ensures cause { HasShowCause result (S.faults store.old) (S.faults store.new) (O.faults out.old) (O.faults out.new) }
+        ensures cause { HasShowCause result (S.faults store.old) (S.faults store.new)
+            (O.faults out.old) (O.faults out.new) }
         ensures lack { HasShowLack (O.lacks out.old) (O.lacks out.new) result }
     {
         let pattern = match read_pattern(self.alloc, line) {

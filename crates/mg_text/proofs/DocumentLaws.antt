@@ -46,12 +46,14 @@ kind_after : Stream → ℕ → Stream
 kind_after kind zero = kind
 kind_after kind (suc n) = kind_after (other_kind kind) n
 
-one_more : (code : TextCode) (kind : Stream) (before : List (List ℕ)) (piece : List ℕ) → pieces_bits code kind (before ++ piece ∷ []) ≡ pieces_bits code kind before ++ piece_bits code (kind_after kind (length before)) piece
+one_more : (code : TextCode) (kind : Stream) (before : List (List ℕ)) (piece : List ℕ) → pieces_bits code kind (before ++ piece ∷ [])
+    ≡ pieces_bits code kind before ++ piece_bits code (kind_after kind (length before)) piece
 unfolding kind_after
 one_more code kind [] piece = append-nil (piece_bits code kind piece)
 one_more code kind (p ∷ before) piece =
     let first : Bits = piece_bits code kind p in
-    ap (λ l. first ++ l) (one_more code (other_kind kind) before piece) ∙ sym (append_assoc first (pieces_bits code (other_kind kind) before) (piece_bits code (kind_after (other_kind kind) (length before)) piece))
+    ap (λ l. first ++ l) (one_more code (other_kind kind) before piece)
+    ∙ sym (append_assoc first (pieces_bits code (other_kind kind) before) (piece_bits code (kind_after (other_kind kind) (length before)) piece))
 
 turn_of : (left : ℕ) (half : ℕ) → left % 2 ≡ half → turn left ≡ (if half == 0 then Words else Others)
 turn_of left half is = ap (λ (r : ℕ). if r == 0 then Words else Others) is
@@ -68,7 +70,8 @@ kinds zero = refl
 kinds (suc zero) = refl
 kinds (suc (suc n)) = kinds n ∙ sym (turn_next n)
 
-pub next_piece : (code : TextCode) (before : List (List ℕ)) (piece : List ℕ) → pieces_bits code Words (before ++ piece ∷ []) ≡ pieces_bits code Words before ++ piece_bits code (turn (length before)) piece
+pub next_piece : (code : TextCode) (before : List (List ℕ)) (piece : List ℕ) → pieces_bits code Words (before ++ piece ∷ []) ≡ pieces_bits code Words before
+    ++ piece_bits code (turn (length before)) piece
 next_piece code before piece = one_more code Words before piece ∙ ap (λ k. pieces_bits code Words before ++ piece_bits code k piece) (kinds (length before))
 
 -- ---- the parts
@@ -96,5 +99,7 @@ text_holds base files code collection stands =
       places = stands.places ∙ places_are code collection;
     }
 
-pub text_within : (base : List ℕ) (files : Option Files) (code : TextCode) (collection : List ℕ) → IsTextCode collection code → DocumentsStand base files (coded_docs code collection) → length (bytes_at files (full_name base Text)) ≤ text_bits collection / 8 + length (documents collection)
+pub text_within : (base : List ℕ) (files : Option Files) (code : TextCode) (collection : List ℕ) → IsTextCode collection code →
+    DocumentsStand base files (coded_docs code collection) → length (bytes_at files (full_name base Text))
+    ≤ text_bits collection / 8 + length (documents collection)
 text_within base files code collection is stands = omega (arith, (text_holds base files code collection stands).size, text-within code collection is)

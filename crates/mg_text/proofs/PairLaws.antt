@@ -28,7 +28,8 @@ use Rattle.mg_text.proofs.Steps.{decoded_more, stopped_more, stopped_wider}
 pub piece_number : (code : StreamCode) (piece : List ℕ) → IsIn code piece → number_of code.pieces piece < length code.pieces
 piece_number code piece is = slice_get_within code.pieces (number_of code.pieces piece) piece is
 
-pub piece_refused : (T : Type 0) (refusal : PartErr) (whole : T → Type 0) (all : Type 0) (f0 f1 : Feeding) (d0 d1 : Seen) (from to : ℕ) (w0 w1 : Option (List ℕ)) (held bytes piece : List ℕ) → Shown w0 w1 held bytes →
+pub piece_refused : (T : Type 0) (refusal : PartErr) (whole : T → Type 0) (all : Type 0) (f0 f1 : Feeding) (d0 d1 : Seen) (from to : ℕ)
+    (w0 w1 : Option (List ℕ)) (held bytes piece : List ℕ) → Shown w0 w1 held bytes →
     Takes {T = T} (Err refusal) whole (ReadsWithin f0 f1 d0 d1 from to) → Ends (Err (show.Part refusal)) all (Stopped f0 f1 d0 d1 from to w0 w1 (bytes ++ piece))
 piece_refused T part.Device whole all f0 f1 d0 d1 from to w0 w1 held bytes piece shown pages = record { pages = pages; grew = grew_first w0 w1 bytes piece (shown_prefix w0 w1 held bytes shown) }
 piece_refused T part.Memory whole all f0 f1 d0 d1 from to w0 w1 held bytes piece shown pages = pages
@@ -41,21 +42,25 @@ put_refused put.Memory all p h = h
 
 -- ---- one step behind another
 
-pub shows_next : (old new : Feeding) (before now : Seen) (place next : ℕ) (x y : Bits) → Calm old new before now → next ≡ place + length x → Shows (old.source before.files) place (x ++ y) → Shows (new.source now.files) next y
+pub shows_next : (old new : Feeding) (before now : Seen) (place next : ℕ) (x y : Bits) → Calm old new before now → next ≡ place + length x →
+    Shows (old.source before.files) place (x ++ y) → Shows (new.source now.files) next y
 shows_next old new before now place next x y calm at shows = subst (λ t. Shows t next y) (sym (same_told old new before now calm)) (shows_right (old.source before.files) place next x y at shows)
 
 pub both_decoded : (f0 f1 f2 : Feeding) (d0 d1 d2 : Seen) (a p q : ℕ) (x y : Bits) (w0 w1 w2 : Option (List ℕ)) (held1 held2 bytes one two : List ℕ) → 0 < f0.page →
-    Decoded f0 f1 d0 d1 a (a + length x) p w0 w1 held1 (bytes ++ one) → Decoded f1 f2 d1 d2 p (p + length y) q w0 w2 held2 (bytes ++ one ++ two) → Decoded f0 f2 d0 d2 a (a + length (x ++ y)) q w0 w2 held2 (bytes ++ (one ++ two))
+    Decoded f0 f1 d0 d1 a (a + length x) p w0 w1 held1 (bytes ++ one) → Decoded f1 f2 d1 d2 p (p + length y) q w0 w2 held2 (bytes ++ one ++ two) →
+    Decoded f0 f2 d0 d2 a (a + length (x ++ y)) q w0 w2 held2 (bytes ++ (one ++ two))
 both_decoded f0 f1 f2 d0 d1 d2 a p q x y w0 w1 w2 held1 held2 bytes one two some first second =
     let at : p + length y ≡ a + length (x ++ y) = omega (arith, first.at_end, length-append x y) in
     let moved : Decoded f1 f2 d1 d2 (a + length x) (a + length (x ++ y)) q w0 w2 held2 (bytes ++ (one ++ two)) =
     subst (λ b. Decoded f1 f2 d1 d2 (a + length x) (a + length (x ++ y)) q w0 w2 held2 b) (append_assoc bytes one two)
     (subst (λ n. Decoded f1 f2 d1 d2 n (a + length (x ++ y)) q w0 w2 held2 (bytes ++ one ++ two)) first.at_end
     (subst (λ n. Decoded f1 f2 d1 d2 p n q w0 w2 held2 (bytes ++ one ++ two)) at second)) in
-    decoded_more f0 f1 f2 d0 d1 d2 a (a + length x) (a + length (x ++ y)) p q w0 w1 w2 held1 held2 (bytes ++ one) (bytes ++ (one ++ two)) some (omega arith) (omega (arith, length-append x y)) first moved
+    decoded_more f0 f1 f2 d0 d1 d2 a (a + length x) (a + length (x ++ y)) p q w0 w1 w2 held1 held2 (bytes ++ one) (bytes ++ (one ++ two)) some (omega arith)
+    (omega (arith, length-append x y)) first moved
 
 pub second_stopped : (f0 f1 f2 : Feeding) (d0 d1 d2 : Seen) (a p : ℕ) (x y : Bits) (w0 w1 w2 : Option (List ℕ)) (held1 bytes one two : List ℕ) → 0 < f0.page →
-    Decoded f0 f1 d0 d1 a (a + length x) p w0 w1 held1 (bytes ++ one) → Stopped f1 f2 d1 d2 p (p + length y) w0 w2 (bytes ++ one ++ two) → Stopped f0 f2 d0 d2 a (a + length (x ++ y)) w0 w2 (bytes ++ (one ++ two))
+    Decoded f0 f1 d0 d1 a (a + length x) p w0 w1 held1 (bytes ++ one) → Stopped f1 f2 d1 d2 p (p + length y) w0 w2 (bytes ++ one ++ two) →
+    Stopped f0 f2 d0 d2 a (a + length (x ++ y)) w0 w2 (bytes ++ (one ++ two))
 second_stopped f0 f1 f2 d0 d1 d2 a p x y w0 w1 w2 held1 bytes one two some first second =
     let at : p + length y ≡ a + length (x ++ y) = omega (arith, first.at_end, length-append x y) in
     let moved : Stopped f1 f2 d1 d2 (a + length x) (a + length (x ++ y)) w0 w2 (bytes ++ (one ++ two)) =
@@ -98,7 +103,8 @@ calm_same f0 f1 g1 d0 d1 feed calm = subst (λ f. Calm f0 f d0 d1) (sym feed) ca
 
 text_append : (ps qs : List Pair) → text (ps ++ qs) ≡ text ps ++ text qs
 text_append [] qs = refl
-text_append (p ∷ ps) qs = ap (λ t. p.word ++ (p.other ++ t)) (text_append ps qs) ∙ ap (λ t. p.word ++ t) (sym (append_assoc p.other (text ps) (text qs))) ∙ sym (append_assoc p.word (p.other ++ text ps) (text qs))
+text_append (p ∷ ps) qs = ap (λ t. p.word ++ (p.other ++ t)) (text_append ps qs) ∙ ap (λ t. p.word ++ t) (sym (append_assoc p.other (text ps) (text qs)))
+    ∙ sym (append_assoc p.word (p.other ++ text ps) (text qs))
 
 -- the pair that stands next
 pub record NextPair (code : TextCode) (ps : List Pair) (i : ℕ) : Type 0 where
@@ -125,11 +131,13 @@ next_pair code ps i all lt = record {
   more = take_more ps i no_pair lt;
 }
 
-pub bits_whole : (code : TextCode) (ps : List Pair) (i : ℕ) → (next : NextPair code ps i) → coded_pairs code ps ≡ coded_pairs code (take i ps) ++ (coded_pair code next.pair ++ coded_pairs code next.rest)
+pub bits_whole : (code : TextCode) (ps : List Pair) (i : ℕ) → (next : NextPair code ps i) →
+    coded_pairs code ps ≡ coded_pairs code (take i ps) ++ (coded_pair code next.pair ++ coded_pairs code next.rest)
 bits_whole code ps i next = ap (coded_pairs code) next.whole ∙ flat_map-append (coded_pair code) (take i ps) (next.pair ∷ next.rest)
 
 pub bits_more : (code : TextCode) (ps : List Pair) (i : ℕ) → (next : NextPair code ps i) → coded_pairs code (take (i + 1) ps) ≡ coded_pairs code (take i ps) ++ coded_pair code next.pair
-bits_more code ps i next = ap (coded_pairs code) next.more ∙ flat_map-append (coded_pair code) (take i ps) (next.pair ∷ []) ∙ ap (λ b. coded_pairs code (take i ps) ++ b) (append-nil (coded_pair code next.pair))
+bits_more code ps i next = ap (coded_pairs code) next.more ∙ flat_map-append (coded_pair code) (take i ps) (next.pair ∷ [])
+    ∙ ap (λ b. coded_pairs code (take i ps) ++ b) (append-nil (coded_pair code next.pair))
 
 pub text_whole : (code : TextCode) (ps : List Pair) (i : ℕ) → (next : NextPair code ps i) → text ps ≡ text (take i ps) ++ ((next.pair.word ++ next.pair.other) ++ text next.rest)
 text_whole code ps i next = ap text next.whole ∙ text_append (take i ps) (next.pair ∷ next.rest) ∙ ap (λ t. text (take i ps) ++ t) (sym (append_assoc next.pair.word next.pair.other (text next.rest)))
@@ -138,31 +146,37 @@ pub text_more : (code : TextCode) (ps : List Pair) (i : ℕ) → (next : NextPai
 text_more code ps i next = ap text next.more ∙ text_append (take i ps) (next.pair ∷ []) ∙ ap (λ t. text (take i ps) ++ (next.pair.word ++ t)) (append-nil next.pair.other)
 
 -- the next pair's bits stand at the reader's place, within those of all pairs
-pub pair_shows : (f0 f1 : Feeding) (d0 d1 : Seen) (a place : ℕ) (code : TextCode) (ps : List Pair) (i : ℕ) → (next : NextPair code ps i) → Calm f0 f1 d0 d1 → place ≡ a + length (coded_pairs code (take i ps)) →
+pub pair_shows : (f0 f1 : Feeding) (d0 d1 : Seen) (a place : ℕ) (code : TextCode) (ps : List Pair) (i : ℕ) → (next : NextPair code ps i) → Calm f0 f1 d0 d1 →
+    place ≡ a + length (coded_pairs code (take i ps)) →
     Shows (f0.source d0.files) a (coded_pairs code ps) → Shows (f1.source d1.files) place (coded_pair code next.pair)
 pair_shows f0 f1 d0 d1 a place code ps i next calm at shows =
     shows_left (f1.source d1.files) place (coded_pair code next.pair) (coded_pairs code next.rest)
     (shows_next f0 f1 d0 d1 a place (coded_pairs code (take i ps)) (coded_pair code next.pair ++ coded_pairs code next.rest) calm at
     (subst (Shows (f0.source d0.files) a) (bits_whole code ps i next) shows))
 
-pub pair_small : (a place : ℕ) (code : TextCode) (ps : List Pair) (i : ℕ) → (next : NextPair code ps i) → place ≡ a + length (coded_pairs code (take i ps)) → a + length (coded_pairs code ps) ≤ 2 ^ 63 → place + length (coded_pair code next.pair) ≤ 2 ^ 63
+pub pair_small : (a place : ℕ) (code : TextCode) (ps : List Pair) (i : ℕ) → (next : NextPair code ps i) → place ≡ a + length (coded_pairs code (take i ps)) →
+    a + length (coded_pairs code ps) ≤ 2 ^ 63 → place + length (coded_pair code next.pair) ≤ 2 ^ 63
 pair_small a place code ps i next at small =
     let long : length (coded_pairs code ps) ≡ length (coded_pairs code (take i ps)) + (length (coded_pair code next.pair) + length (coded_pairs code next.rest)) =
-    ap length (bits_whole code ps i next) ∙ length-append (coded_pairs code (take i ps)) (coded_pair code next.pair ++ coded_pairs code next.rest) ∙ ap (λ n. length (coded_pairs code (take i ps)) + n) (length-append (coded_pair code next.pair) (coded_pairs code next.rest)) in
+    ap length (bits_whole code ps i next) ∙ length-append (coded_pairs code (take i ps)) (coded_pair code next.pair ++ coded_pairs code next.rest)
+    ∙ ap (λ n. length (coded_pairs code (take i ps)) + n) (length-append (coded_pair code next.pair) (coded_pairs code next.rest)) in
     omega (arith, long, at, small)
 
 -- one pair more was decoded
-pub pairs_more : (f0 f1 f2 : Feeding) (d0 d1 d2 : Seen) (a p q : ℕ) (code : TextCode) (ps : List Pair) (i : ℕ) (w0 w1 w2 : Option (List ℕ)) (held1 held2 bytes : List ℕ) → 0 < f0.page → (next : NextPair code ps i) →
+pub pairs_more : (f0 f1 f2 : Feeding) (d0 d1 d2 : Seen) (a p q : ℕ) (code : TextCode) (ps : List Pair) (i : ℕ) (w0 w1 w2 : Option (List ℕ))
+    (held1 held2 bytes : List ℕ) → 0 < f0.page → (next : NextPair code ps i) →
     Decoded f0 f1 d0 d1 a (a + length (coded_pairs code (take i ps))) p w0 w1 held1 (bytes ++ text (take i ps)) →
     Decoded f1 f2 d1 d2 p (p + length (coded_pair code next.pair)) q w0 w2 held2 (bytes ++ text (take i ps) ++ (next.pair.word ++ next.pair.other)) →
     Decoded f0 f2 d0 d2 a (a + length (coded_pairs code (take (i + 1) ps))) q w0 w2 held2 (bytes ++ text (take (i + 1) ps))
 pairs_more f0 f1 f2 d0 d1 d2 a p q code ps i w0 w1 w2 held1 held2 bytes some next first second =
-    let both = both_decoded f0 f1 f2 d0 d1 d2 a p q (coded_pairs code (take i ps)) (coded_pair code next.pair) w0 w1 w2 held1 held2 bytes (text (take i ps)) (next.pair.word ++ next.pair.other) some first second in
+    let both = both_decoded f0 f1 f2 d0 d1 d2 a p q (coded_pairs code (take i ps)) (coded_pair code next.pair) w0 w1 w2 held1 held2 bytes (text (take i ps))
+    (next.pair.word ++ next.pair.other) some first second in
     subst (λ t. Decoded f0 f2 d0 d2 a (a + length (coded_pairs code (take (i + 1) ps))) q w0 w2 held2 (bytes ++ t)) (sym (text_more code ps i next))
     (subst (λ b. Decoded f0 f2 d0 d2 a (a + length b) q w0 w2 held2 (bytes ++ (text (take i ps) ++ (next.pair.word ++ next.pair.other)))) (sym (bits_more code ps i next)) both)
 
 -- a pair was refused
-pub pairs_stopped : (f0 f1 f2 : Feeding) (d0 d1 d2 : Seen) (a p : ℕ) (code : TextCode) (ps : List Pair) (i : ℕ) (w0 w1 w2 : Option (List ℕ)) (held1 bytes : List ℕ) → 0 < f0.page → (next : NextPair code ps i) →
+pub pairs_stopped : (f0 f1 f2 : Feeding) (d0 d1 d2 : Seen) (a p : ℕ) (code : TextCode) (ps : List Pair) (i : ℕ) (w0 w1 w2 : Option (List ℕ))
+    (held1 bytes : List ℕ) → 0 < f0.page → (next : NextPair code ps i) →
     Decoded f0 f1 d0 d1 a (a + length (coded_pairs code (take i ps))) p w0 w1 held1 (bytes ++ text (take i ps)) →
     Stopped f1 f2 d1 d2 p (p + length (coded_pair code next.pair)) w0 w2 (bytes ++ text (take i ps) ++ (next.pair.word ++ next.pair.other)) →
     Stopped f0 f2 d0 d2 a (a + length (coded_pairs code ps)) w0 w2 (bytes ++ text ps)
@@ -174,7 +188,8 @@ pairs_stopped f0 f1 f2 d0 d1 d2 a p code ps i w0 w1 w2 held1 bytes some next fir
     let wide : Stopped f0 f2 d0 d2 a (a + length ((coded_pairs code (take i ps) ++ coded_pair code next.pair) ++ coded_pairs code next.rest)) w0 w2 (bytes ++ ((one ++ two) ++ text next.rest)) =
     first_stopped f0 f2 d0 d2 a (coded_pairs code (take i ps) ++ coded_pair code next.pair) (coded_pairs code next.rest) w0 w2 bytes (one ++ two) (text next.rest) some both in
     subst (λ t. Stopped f0 f2 d0 d2 a (a + length (coded_pairs code ps)) w0 w2 (bytes ++ t)) (append_assoc one two (text next.rest) ∙ sym (text_whole code ps i next))
-    (subst (λ b. Stopped f0 f2 d0 d2 a (a + length b) w0 w2 (bytes ++ ((one ++ two) ++ text next.rest))) (append_assoc (coded_pairs code (take i ps)) (coded_pair code next.pair) (coded_pairs code next.rest) ∙ sym (bits_whole code ps i next)) wide)
+    (subst (λ b. Stopped f0 f2 d0 d2 a (a + length b) w0 w2 (bytes ++ ((one ++ two) ++ text next.rest)))
+    (append_assoc (coded_pairs code (take i ps)) (coded_pair code next.pair) (coded_pairs code next.rest) ∙ sym (bits_whole code ps i next)) wide)
 
 pub no_pairs : (f : Feeding) (d : Seen) (a : ℕ) (w0 w1 : Option (List ℕ)) (held bytes : List ℕ) → Shown w0 w1 held bytes → Decoded f f d d a (a + 0) a w0 w1 held (bytes ++ [])
 no_pairs f d a w0 w1 held bytes shown = record {
@@ -189,8 +204,10 @@ pub parse_text : (doc : List ℕ) → text (parse doc) ≡ doc
 parse_text doc = (parse-is doc).whole
 
 -- its head was read and its pairs decoded
-pub doc_decoded : (f0 f1 f2 : Feeding) (d0 d1 d2 : Seen) (a p q : ℕ) (code : TextCode) (doc : List ℕ) (w0 w1 w2 : Option (List ℕ)) (held1 held2 bytes : List ℕ) → 0 < f0.page → p ≡ a + length (gamma (length (parse doc) + 1)) →
-    Shown w0 w1 held1 bytes → Read f0 f1 d0 d1 a (a + length (gamma (length (parse doc) + 1))) → Decoded f1 f2 d1 d2 p (p + length (coded_pairs code (parse doc))) q w0 w2 held2 (bytes ++ text (parse doc)) →
+pub doc_decoded : (f0 f1 f2 : Feeding) (d0 d1 d2 : Seen) (a p q : ℕ) (code : TextCode) (doc : List ℕ) (w0 w1 w2 : Option (List ℕ))
+    (held1 held2 bytes : List ℕ) → 0 < f0.page → p ≡ a + length (gamma (length (parse doc) + 1)) →
+    Shown w0 w1 held1 bytes → Read f0 f1 d0 d1 a (a + length (gamma (length (parse doc) + 1))) →
+    Decoded f1 f2 d1 d2 p (p + length (coded_pairs code (parse doc))) q w0 w2 held2 (bytes ++ text (parse doc)) →
     Decoded f0 f2 d0 d2 a (a + length (coded_doc code doc)) q w0 w2 held2 (bytes ++ doc)
 doc_decoded f0 f1 f2 d0 d1 d2 a p q code doc w0 w1 w2 held1 held2 bytes some at shown head pairs =
     let first : Decoded f0 f1 d0 d1 a (a + length (gamma (length (parse doc) + 1))) p w0 w1 held1 bytes = record { at_end = at; read = head; shown = shown } in
@@ -198,7 +215,8 @@ doc_decoded f0 f1 f2 d0 d1 d2 a p q code doc w0 w1 w2 held1 held2 bytes some at 
     (both_decoded f0 f1 f2 d0 d1 d2 a p q (gamma (length (parse doc) + 1)) (coded_pairs code (parse doc)) w0 w1 w2 held1 held2 [] bytes (text (parse doc)) some first pairs)
 
 -- its head was read, and its pairs were refused
-pub doc_stopped : (f0 f1 f2 : Feeding) (d0 d1 d2 : Seen) (a p : ℕ) (code : TextCode) (doc : List ℕ) (w0 w1 w2 : Option (List ℕ)) (held1 bytes : List ℕ) → 0 < f0.page → p ≡ a + length (gamma (length (parse doc) + 1)) →
+pub doc_stopped : (f0 f1 f2 : Feeding) (d0 d1 d2 : Seen) (a p : ℕ) (code : TextCode) (doc : List ℕ) (w0 w1 w2 : Option (List ℕ)) (held1 bytes : List ℕ) →
+    0 < f0.page → p ≡ a + length (gamma (length (parse doc) + 1)) →
     Shown w0 w1 held1 bytes → Read f0 f1 d0 d1 a (a + length (gamma (length (parse doc) + 1))) → Stopped f1 f2 d1 d2 p (p + length (coded_pairs code (parse doc))) w0 w2 (bytes ++ text (parse doc)) →
     Stopped f0 f2 d0 d2 a (a + length (coded_doc code doc)) w0 w2 (bytes ++ doc)
 doc_stopped f0 f1 f2 d0 d1 d2 a p code doc w0 w1 w2 held1 bytes some at shown head pairs =

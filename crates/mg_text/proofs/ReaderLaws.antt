@@ -71,7 +71,8 @@ same_length : (a b : List ℕ) → bits_of a ≡ bits_of b → length a ≡ leng
 same_length a b same = omega (arith, ap length same, length_bits_of a, length_bits_of b)
 
 -- no size differs where the parts stand
-pub sizes_stand : (base : List ℕ) (files : Option Files) (head : Head) (code : TextCode) (collection : List ℕ) (refusal : PartErr) → IsText base files head code collection → AnswersTextSizes (stored_at files base head) (Err refusal) → IsNotBad refusal
+pub sizes_stand : (base : List ℕ) (files : Option Files) (head : Head) (code : TextCode) (collection : List ℕ) (refusal : PartErr) →
+    IsText base files head code collection → AnswersTextSizes (stored_at files base head) (Err refusal) → IsNotBad refusal
 sizes_stand base files head code collection Device it answers = tt
 sizes_stand base files head code collection Memory it answers = tt
 sizes_stand base files head code collection (Bad bad) it (inl text) = text.0 (same_length (bytes_at files (full_name base part.Text)) (text_part code collection) it.text_is ∙ sym it.size_is)
@@ -87,34 +88,42 @@ pages_wider : (from to more : ℕ) → to ≤ more → pages from to ≤ pages f
 pages_wider from to more le = grind (arith, common_steps)
 
 -- reads within a range of bits are at most its pages
-pub text_reads : (f0 f1 : Feeding) (d0 d1 : Seen) (from to more : ℕ) → f0.page ≡ 4096 → f0.part ≡ Some part.Text → to ≤ more → ReadsWithin f0 f1 d0 d1 from to → d1.reads part.Text ≤ d0.reads part.Text + pages from more
+pub text_reads : (f0 f1 : Feeding) (d0 d1 : Seen) (from to more : ℕ) → f0.page ≡ 4096 → f0.part ≡ Some part.Text → to ≤ more → ReadsWithin f0 f1 d0 d1 from to →
+    d1.reads part.Text ≤ d0.reads part.Text + pages from more
 text_reads f0 f1 d0 d1 from to more page own le within =
-    let some : d1.reads part.Text ≤ d0.reads part.Text + to_read 4096 f0.held from to = subst (λ n. d1.reads part.Text ≤ d0.reads part.Text + to_read n f0.held from to) page (within.device part.Text own) in
+    let some : d1.reads part.Text ≤ d0.reads part.Text + to_read 4096 f0.held from to = subst
+    (λ n. d1.reads part.Text ≤ d0.reads part.Text + to_read n f0.held from to) page (within.device part.Text own) in
     omega (arith, some, to_read_most f0.held from to, pages_wider from to more le)
 
-pub doc_answered : (result : Result (Unit {0}) ShowErr) (f0 f1 : Feeding) (d0 d1 : Seen) (from to more before : ℕ) (w0 w1 : Option (List ℕ)) (doc : List ℕ) → f0.page ≡ 4096 → f0.part ≡ Some part.Text → to ≤ more → d0.reads part.Text ≡ before →
+pub doc_answered : (result : Result (Unit {0}) ShowErr) (f0 f1 : Feeding) (d0 d1 : Seen) (from to more before : ℕ) (w0 w1 : Option (List ℕ)) (doc : List ℕ) →
+    f0.page ≡ 4096 → f0.part ≡ Some part.Text → to ≤ more → d0.reads part.Text ≡ before →
     Ends result (WholeDoc f0 f1 d0 d1 from to w0 w1 doc) (Stopped f0 f1 d0 d1 from to w0 w1 doc) → AnswersDoc result w0 w1 doc before (d1.reads part.Text) (pages from more)
 doc_answered result f0 f1 d0 d1 from to more before w0 w1 doc page own le e ends =
     ends_map result _ _ _ _ (λ (h : WholeDoc f0 f1 d0 d1 from to w0 w1 doc). (h.grew, rw (← e) (text_reads f0 f1 d0 d1 from to more page own le h.pages)))
     (λ (h : Stopped f0 f1 d0 d1 from to w0 w1 doc). (h.grew, rw (← e) (text_reads f0 f1 d0 d1 from to more page own le h.pages))) ends
 
-gather_answered : (result : Result (Unit {0}) ShowErr) (f0 f1 : Feeding) (d0 d1 : Seen) (from to place more before : ℕ) (w0 w1 : Option (List ℕ)) (held bytes : List ℕ) → f0.page ≡ 4096 → f0.part ≡ Some part.Text → to ≤ more → d0.reads part.Text ≡ before →
+gather_answered : (result : Result (Unit {0}) ShowErr) (f0 f1 : Feeding) (d0 d1 : Seen) (from to place more before : ℕ) (w0 w1 : Option (List ℕ))
+    (held bytes : List ℕ) → f0.page ≡ 4096 → f0.part ≡ Some part.Text → to ≤ more → d0.reads part.Text ≡ before →
     Ends result (Decoded f0 f1 d0 d1 from to place w0 w1 held bytes) (Stopped f0 f1 d0 d1 from to w0 w1 bytes) → AnswersGathered result w0 w1 held bytes before (d1.reads part.Text) (pages from more)
 gather_answered result f0 f1 d0 d1 from to place more before w0 w1 held bytes page own le e ends =
     ends_map result _ _ _ _ (λ (h : Decoded f0 f1 d0 d1 from to place w0 w1 held bytes). (h.shown, rw (← e) (text_reads f0 f1 d0 d1 from to more page own le h.read.pages)))
     (λ (h : Stopped f0 f1 d0 d1 from to w0 w1 bytes). (h.grew, rw (← e) (text_reads f0 f1 d0 d1 from to more page own le h.pages))) ends
 
 -- the place was refused
-pub place_refused : (T : Type 0) (refusal : PartErr) (whole : T → Type 0) (w : Option (List ℕ)) (doc : List ℕ) (before now most : ℕ) → now ≡ before → Takes {T = T} (Err refusal) whole (Unit {0}) → AnswersDoc (Err (show.Part refusal)) w w doc before now most
+pub place_refused : (T : Type 0) (refusal : PartErr) (whole : T → Type 0) (w : Option (List ℕ)) (doc : List ℕ) (before now most : ℕ) → now ≡ before →
+    Takes {T = T} (Err refusal) whole (Unit {0}) → AnswersDoc (Err (show.Part refusal)) w w doc before now most
 place_refused T refusal whole w doc before now most same takes = ends_read refusal whole (Unit {0}) _ _ (λ u. (grew_nothing w doc, omega (arith, same))) takes
 
-pub gather_refused : (T : Type 0) (refusal : PartErr) (whole : T → Type 0) (w0 w1 : Option (List ℕ)) (held bytes doc : List ℕ) (before now most : ℕ) → now ≡ before → Shown w0 w1 held bytes → Takes {T = T} (Err refusal) whole (Unit {0}) →
+pub gather_refused : (T : Type 0) (refusal : PartErr) (whole : T → Type 0) (w0 w1 : Option (List ℕ)) (held bytes doc : List ℕ) (before now most : ℕ) →
+    now ≡ before → Shown w0 w1 held bytes → Takes {T = T} (Err refusal) whole (Unit {0}) →
     AnswersGathered (Err (show.Part refusal)) w0 w1 held (bytes ++ doc) before now most
-gather_refused T refusal whole w0 w1 held bytes doc before now most same shown takes = ends_read refusal whole (Unit {0}) _ _ (λ u. (grew_first w0 w1 bytes doc (shown_prefix w0 w1 held bytes shown), omega (arith, same))) takes
+gather_refused T refusal whole w0 w1 held bytes doc before now most same shown takes = ends_read refusal whole (Unit {0}) _ _
+    (λ u. (grew_first w0 w1 bytes doc (shown_prefix w0 w1 held bytes shown), omega (arith, same))) takes
 
 -- where the place of a document stands
 pub place_wanted : (r : TextReading) (files : Option Files) (collection : List ℕ) (number : ℕ) → TextStands r files collection → 1 ≤ number → number ≤ r.documents →
-    IsPlaceAt r.version (number - 1) (place_after r.code collection (number - 1)) (bytes_at files r.places.name) × (place_after r.code collection (number - 1) ≤ r.size) × (place_after r.code collection (number - 1) ≤ 2 ^ 60)
+    IsPlaceAt r.version (number - 1) (place_after r.code collection (number - 1)) (bytes_at files r.places.name)
+    × (place_after r.code collection (number - 1) ≤ r.size) × (place_after r.code collection (number - 1) ≤ 2 ^ 60)
 place_wanted r files collection number stands some within = (
   place_stands r files collection (number - 1) stands (omega (arith, stands.documents, some, within)),
   omega (arith, place_within r.code collection (number - 1), stands.size),
@@ -130,7 +139,8 @@ record DocAt (code : TextCode) (source : Option (List ℕ)) (place end : ℕ) (d
   ends : place + length (coded_doc code doc) ≤ end
 
 doc_at : (r : TextReading) (files mid : Option Files) (collection : List ℕ) (number from place : ℕ) (feed : Paging) → TextStands r files collection → 1 ≤ number → number ≤ r.documents → mid ≡ files →
-    from ≡ place_after r.code collection (number - 1) → place ≡ 8 * from → feed ≡ r.text → DocAt r.code (told_at mid feed.name) place (8 * place_after r.code collection number) (get_or (documents collection) (number - 1) [])
+    from ≡ place_after r.code collection (number - 1) → place ≡ 8 * from → feed ≡ r.text →
+    DocAt r.code (told_at mid feed.name) place (8 * place_after r.code collection number) (get_or (documents collection) (number - 1) [])
 doc_at r files mid collection number from place feed stands some within same at place_is fed =
     let i = number - 1 in
     let doc = get_or (documents collection) i [] in
@@ -150,47 +160,67 @@ doc_at r files mid collection number from place feed stands some within same at 
     }
 
 -- what is shown from the place of a document
-pub doc_told : (result : Result (Unit {0}) ShowErr) (r : TextReading) (files mid : Option Files) (collection : List ℕ) (number from place : ℕ) (feed : Paging) (f1 : Feeding) (d0 d1 : Seen) (before : ℕ) (w0 w1 : Option (List ℕ)) →
-    TextStands r files collection → 1 ≤ number → number ≤ r.documents → mid ≡ files → from ≡ place_after r.code collection (number - 1) → place ≡ 8 * from → feed ≡ r.text → r.text.part ≡ part.Text → d0.reads part.Text ≡ before →
+pub doc_told : (result : Result (Unit {0}) ShowErr) (r : TextReading) (files mid : Option Files) (collection : List ℕ) (number from place : ℕ) (feed : Paging)
+    (f1 : Feeding) (d0 d1 : Seen) (before : ℕ) (w0 w1 : Option (List ℕ)) →
+    TextStands r files collection → 1 ≤ number → number ≤ r.documents → mid ≡ files → from ≡ place_after r.code collection (number - 1) → place ≡ 8 * from →
+    feed ≡ r.text → r.text.part ≡ part.Text → d0.reads part.Text ≡ before →
     ((doc : List ℕ) → PairsIn r.code (parse doc) → length (parse doc) < 2 ^ 32 → place + length (coded_doc r.code doc) ≤ 2 ^ 63 → Shows (told_at mid feed.name) place (coded_doc r.code doc) →
-    Ends result (WholeDoc (feeding_of 4096 feed) f1 d0 d1 place (place + length (coded_doc r.code doc)) w0 w1 doc) (Stopped (feeding_of 4096 feed) f1 d0 d1 place (place + length (coded_doc r.code doc)) w0 w1 doc)) →
+    Ends result (WholeDoc (feeding_of 4096 feed) f1 d0 d1 place (place + length (coded_doc r.code doc)) w0 w1 doc)
+    (Stopped (feeding_of 4096 feed) f1 d0 d1 place (place + length (coded_doc r.code doc)) w0 w1 doc)) →
     AnswersDoc result w0 w1 (get_or (documents collection) (number - 1) []) before (d1.reads part.Text) (pages (doc_range r.code collection number).from (doc_range r.code collection number).to)
 doc_told result r files mid collection number from place feed f1 d0 d1 before w0 w1 stands some within same at place_is fed own e told =
     let doc = get_or (documents collection) (number - 1) [] in
     let stood = doc_at r files mid collection number from place feed stands some within same at place_is fed in
     let here : place ≡ 8 * place_after r.code collection (number - 1) = omega (arith, at, place_is) in
     subst (λ n. AnswersDoc result w0 w1 doc before (d1.reads part.Text) (pages n (8 * place_after r.code collection number))) here
-    (doc_answered result (feeding_of 4096 feed) f1 d0 d1 place (place + length (coded_doc r.code doc)) (8 * place_after r.code collection number) before w0 w1 doc refl (ap (λ (f : Paging). Some f.part) fed ∙ ap Some own) stood.ends e
+    (doc_answered result (feeding_of 4096 feed) f1 d0 d1 place (place + length (coded_doc r.code doc)) (8 * place_after r.code collection number) before w0 w1
+    doc refl (ap (λ (f : Paging). Some f.part) fed ∙ ap Some own) stood.ends e
     (told doc stood.pairs stood.few stood.small stood.shows))
 
 -- what is gathered from the place of a document
-pub gather_told : (result : Result (Unit {0}) ShowErr) (r : TextReading) (files mid : Option Files) (collection : List ℕ) (number from place next : ℕ) (feed : Paging) (f1 : Feeding) (d0 d1 : Seen) (before : ℕ) (w0 w1 w2 : Option (List ℕ)) (held0 held bytes : List ℕ) →
-    TextStands r files collection → 1 ≤ number → number ≤ r.documents → mid ≡ files → from ≡ place_after r.code collection (number - 1) → place ≡ 8 * from → feed ≡ r.text → r.text.part ≡ part.Text → d0.reads part.Text ≡ before → Shown w0 w1 held0 bytes →
-    ((w : Option (List ℕ)) (bytes doc : List ℕ) → PairsIn r.code (parse doc) → length (parse doc) < 2 ^ 32 → place + length (coded_doc r.code doc) ≤ 2 ^ 63 → Shows (told_at mid feed.name) place (coded_doc r.code doc) → Shown w w1 held0 bytes →
-    Ends result (Decoded (feeding_of 4096 feed) f1 d0 d1 place (place + length (coded_doc r.code doc)) next w w2 held (bytes ++ doc)) (Stopped (feeding_of 4096 feed) f1 d0 d1 place (place + length (coded_doc r.code doc)) w w2 (bytes ++ doc))) →
-    AnswersGathered result w0 w2 held (bytes ++ get_or (documents collection) (number - 1) []) before (d1.reads part.Text) (pages (doc_range r.code collection number).from (doc_range r.code collection number).to)
+pub gather_told : (result : Result (Unit {0}) ShowErr) (r : TextReading) (files mid : Option Files) (collection : List ℕ) (number from place next : ℕ)
+    (feed : Paging) (f1 : Feeding) (d0 d1 : Seen) (before : ℕ) (w0 w1 w2 : Option (List ℕ)) (held0 held bytes : List ℕ) →
+    TextStands r files collection → 1 ≤ number → number ≤ r.documents → mid ≡ files → from ≡ place_after r.code collection (number - 1) → place ≡ 8 * from →
+    feed ≡ r.text → r.text.part ≡ part.Text → d0.reads part.Text ≡ before → Shown w0 w1 held0 bytes →
+    ((w : Option (List ℕ)) (bytes doc : List ℕ) → PairsIn r.code (parse doc) → length (parse doc) < 2 ^ 32 → place + length (coded_doc r.code doc) ≤ 2 ^ 63 →
+    Shows (told_at mid feed.name) place (coded_doc r.code doc) → Shown w w1 held0 bytes →
+    Ends result (Decoded (feeding_of 4096 feed) f1 d0 d1 place (place + length (coded_doc r.code doc)) next w w2 held (bytes ++ doc))
+    (Stopped (feeding_of 4096 feed) f1 d0 d1 place (place + length (coded_doc r.code doc)) w w2 (bytes ++ doc))) →
+    AnswersGathered result w0 w2 held (bytes ++ get_or (documents collection) (number - 1) []) before (d1.reads part.Text)
+    (pages (doc_range r.code collection number).from (doc_range r.code collection number).to)
 gather_told result r files mid collection number from place next feed f1 d0 d1 before w0 w1 w2 held0 held bytes stands some within same at place_is fed own e shown told =
     let doc = get_or (documents collection) (number - 1) [] in
     let stood = doc_at r files mid collection number from place feed stands some within same at place_is fed in
     let here : place ≡ 8 * place_after r.code collection (number - 1) = omega (arith, at, place_is) in
     subst (λ n. AnswersGathered result w0 w2 held (bytes ++ doc) before (d1.reads part.Text) (pages n (8 * place_after r.code collection number))) here
-    (gather_answered result (feeding_of 4096 feed) f1 d0 d1 place (place + length (coded_doc r.code doc)) next (8 * place_after r.code collection number) before w0 w2 held (bytes ++ doc) refl (ap (λ (f : Paging). Some f.part) fed ∙ ap Some own) stood.ends e
+    (gather_answered result (feeding_of 4096 feed) f1 d0 d1 place (place + length (coded_doc r.code doc)) next (8 * place_after r.code collection number) before
+    w0 w2 held (bytes ++ doc) refl (ap (λ (f : Paging). Some f.part) fed ∙ ap Some own) stood.ends e
     (told w0 bytes doc stood.pairs stood.few stood.small stood.shows shown))
 
 -- the models were refused once the sizes were found to be right
 pub models_refused : (base : List ℕ) (files mid : Option Files) (head : Head) (refusal : PartErr) → mid ≡ files → AnswersTextSizes (stored_at files base head) (Ok tt) →
-    (IsSome mid → AnswersLoad head.words head.others (bytes_at mid (full_name base part.Words)) (bytes_at mid (full_name base part.Nonwords)) (Err refusal)) → IsSome files → AnswersReader (stored_at files base head) (Err refusal)
+    (IsSome mid → AnswersLoad head.words head.others (bytes_at mid (full_name base part.Words)) (bytes_at mid (full_name base part.Nonwords)) (Err refusal)) →
+    IsSome files → AnswersReader (stored_at files base head) (Err refusal)
 models_refused base files mid head Device same sizes answers told = tt
-models_refused base files mid head Memory same sizes answers told =
-    (sizes, subst (λ f. AnswersLoad head.words head.others (bytes_at f (full_name base part.Words)) (bytes_at f (full_name base part.Nonwords)) (Err Memory)) same (answers (subst IsSome (sym same) told)))
+models_refused base files mid head Memory same sizes answers told = (
+  sizes,
+  subst (λ f. AnswersLoad head.words head.others (bytes_at f (full_name base part.Words)) (bytes_at f (full_name base part.Nonwords)) (Err Memory))
+      same (answers (subst IsSome (sym same) told)),
+)
 models_refused base files mid head (Bad bad) same sizes answers told =
-    inr (sizes, subst (λ f. AnswersLoad head.words head.others (bytes_at f (full_name base part.Words)) (bytes_at f (full_name base part.Nonwords)) (Err (Bad bad))) same (answers (subst IsSome (sym same) told)))
+    inr (
+      sizes,
+      subst (λ f. AnswersLoad head.words head.others (bytes_at f (full_name base part.Words)) (bytes_at f (full_name base part.Nonwords))
+          (Err (Bad bad))) same (answers (subst IsSome (sym same) told)),
+    )
 
 -- no memory was left for the reader once the models were loaded
 pub reader_refused : (base : List ℕ) (files mid : Option Files) (head : Head) (code : TextCode) → mid ≡ files → AnswersTextSizes (stored_at files base head) (Ok tt) →
-    (IsSome mid → AnswersLoad head.words head.others (bytes_at mid (full_name base part.Words)) (bytes_at mid (full_name base part.Nonwords)) (Ok code)) → IsSome files → AnswersReader (stored_at files base head) (Err Memory)
+    (IsSome mid → AnswersLoad head.words head.others (bytes_at mid (full_name base part.Words)) (bytes_at mid (full_name base part.Nonwords)) (Ok code)) →
+    IsSome files → AnswersReader (stored_at files base head) (Err Memory)
 reader_refused base files mid head code same sizes answers told =
-    let loaded = subst (λ f. AnswersLoad head.words head.others (bytes_at f (full_name base part.Words)) (bytes_at f (full_name base part.Nonwords)) (Ok code)) same (answers (subst IsSome (sym same) told)) in
+    let loaded = subst (λ f. AnswersLoad head.words head.others (bytes_at f (full_name base part.Words)) (bytes_at f (full_name base part.Nonwords)) (Ok code))
+    same (answers (subst IsSome (sym same) told)) in
     (sizes, loaded.0.room)
 
 -- a reader stands as long as its parts stay as they are
@@ -201,7 +231,8 @@ text_stays r now files files_now collection same told text places stands = recor
   model = subst IsModel (sym same.code) stands.model;
   code = subst (IsTextCode collection) (sym same.code) stands.code;
   text = ap (λ n. bits_of (bytes_at files_now n)) same.text ∙ ap (λ bytes. bits_of (unwrap_or bytes [])) text ∙ stands.text ∙ ap (λ c. bits_of (text_part c collection)) (sym same.code);
-  places = ap (bytes_at files_now) same.places ∙ ap (λ bytes. unwrap_or bytes []) places ∙ stands.places ∙ ap (λ c. places_part r.version c collection) (sym same.code) ∙ ap (λ v. places_part v now.code collection) (sym same.version);
+  places = ap (bytes_at files_now) same.places ∙ ap (λ bytes. unwrap_or bytes []) places ∙ stands.places
+      ∙ ap (λ c. places_part r.version c collection) (sym same.code) ∙ ap (λ v. places_part v now.code collection) (sym same.version);
   size = same.size ∙ stands.size ∙ ap (λ c. length (text_part c collection)) (sym same.code);
   documents = same.documents ∙ stands.documents;
   few = stands.few;
@@ -216,8 +247,10 @@ text_fits r files files_now told text places fits = record {
 }
 
 -- the parts that a writer wrote for a collection, and a head of its numbers
-pub text_written : (base : List ℕ) (files : Option Files) (head : Head) (code : TextCode) (collection : List ℕ) → TextHolds base files code collection → PartsStand files base code head.words head.others → IsTextCode collection code →
-    head.version ≢ 1 → head.text_bytes ≡ length (text_part code collection) → head.documents ≡ length (documents collection) → IsWithinLimits head.version collection → IsText base files head code collection
+pub text_written : (base : List ℕ) (files : Option Files) (head : Head) (code : TextCode) (collection : List ℕ) → TextHolds base files code collection →
+    PartsStand files base code head.words head.others → IsTextCode collection code →
+    head.version ≢ 1 → head.text_bytes ≡ length (text_part code collection) → head.documents ≡ length (documents collection) →
+    IsWithinLimits head.version collection → IsText base files head code collection
 text_written base files head code collection holds models coded version size count limits = record {
   models = models;
   code_is = coded;

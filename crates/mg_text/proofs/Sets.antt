@@ -35,7 +35,9 @@ set_is_text base files head code collection is =
       small = rw size (text_small head.version code collection are.code_is are.limits);
     }
 
-pub writer_stays : (w : TextWriting) (f g : Option Files) (docs : List Bits) (bits : Bits) → is_some g ≡ is_some f → file_at g (full_name w.base Text) ≡ file_at f (full_name w.base Text) → file_at g (full_name w.base Places) ≡ file_at f (full_name w.base Places) → IsOnText w f docs bits → IsOnText w g docs bits
+pub writer_stays : (w : TextWriting) (f g : Option Files) (docs : List Bits) (bits : Bits) → is_some g ≡ is_some f →
+    file_at g (full_name w.base Text) ≡ file_at f (full_name w.base Text) → file_at g (full_name w.base Places) ≡ file_at f (full_name w.base Places) →
+    IsOnText w f docs bits → IsOnText w g docs bits
 writer_stays w f g docs bits told text places is =
     let here : file_at g w.text.name ≡ file_at f w.text.name = ap (λ n. file_at g n) is.text_name ∙ text ∙ ap (λ n. file_at f n) (sym is.text_name) in
     let there : file_at g w.places.name ≡ file_at f w.places.name = ap (λ n. file_at g n) is.places_name ∙ places ∙ ap (λ n. file_at f n) (sym is.places_name) in

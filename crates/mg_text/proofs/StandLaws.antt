@@ -69,13 +69,15 @@ place_within code collection i =
     let all : length (text_part code collection) ≡ sum_by (coded_size code) (documents collection) = text-long code collection ∙ ap (sum_by (coded_size code)) (take-length (documents collection)) in
     omega (arith, most, all)
 
-pub place_next : (code : TextCode) (collection : List ℕ) (i : ℕ) → i < length (documents collection) → place_after code collection (i + 1) ≡ place_after code collection i + coded_size code (get_or (documents collection) i [])
+pub place_next : (code : TextCode) (collection : List ℕ) (i : ℕ) → i < length (documents collection) →
+    place_after code collection (i + 1) ≡ place_after code collection i + coded_size code (get_or (documents collection) i [])
 place_next code collection i lt = sum_by_more (coded_size code) (documents collection) i [] lt
 
 pub small_place : (r : TextReading) (files : Option Files) (collection : List ℕ) (i : ℕ) → TextStands r files collection → place_after r.code collection i ≤ 2 ^ 60
 small_place r files collection i stands = most_place (r.version == 1) (place_after r.code collection i) (omega (arith, place_within r.code collection i, stands.size, stands.small))
 
-pub place_stands : (r : TextReading) (files : Option Files) (collection : List ℕ) (i : ℕ) → TextStands r files collection → i < length (documents collection) → IsPlaceAt r.version i (place_after r.code collection i) (bytes_at files r.places.name)
+pub place_stands : (r : TextReading) (files : Option Files) (collection : List ℕ) (i : ℕ) → TextStands r files collection → i < length (documents collection) →
+    IsPlaceAt r.version i (place_after r.code collection i) (bytes_at files r.places.name)
 place_stands r files collection i stands lt = record {
   fits = most_limit (r.version == 1) (place_after r.code collection i) (omega (arith, place_within r.code collection i, stands.size, stands.small));
   bytes_are =
@@ -108,7 +110,8 @@ doc_shown r files collection i stands lt =
     (bits_here (coded_doc r.code doc) (text_part r.code collection) (place_after r.code collection i) (coded_size r.code doc) (text-at r.code collection i lt)))
 
 -- the bits of a document end before the next place
-pub doc_ends : (r : TextReading) (collection : List ℕ) (i : ℕ) → i < length (documents collection) → 8 * place_after r.code collection i + length (coded_doc r.code (get_or (documents collection) i [])) ≤ 8 * place_after r.code collection (i + 1)
+pub doc_ends : (r : TextReading) (collection : List ℕ) (i : ℕ) → i < length (documents collection) →
+    8 * place_after r.code collection i + length (coded_doc r.code (get_or (documents collection) i [])) ≤ 8 * place_after r.code collection (i + 1)
 doc_ends r collection i lt = omega (arith, place_next r.code collection i lt, length-as_bytes (coded_doc r.code (get_or (documents collection) i [])))
 
 -- ---- pieces
@@ -149,7 +152,8 @@ pairs_in code words others (p ∷ ps) w o one two = (
     word = piece_in code.words words p.word w (one p.word (or_left (bytes_eq p.word p.word) (has (map (piece_of_pair Words) ps) p.word) (same-refl p.word)));
     other = piece_in code.others others p.other o (two p.other (or_left (bytes_eq p.other p.other) (has (map (piece_of_pair Others) ps) p.other) (same-refl p.other)));
   },
-  pairs_in code words others ps w o (λ s h. one s (or_right (bytes_eq s p.word) (has (map (piece_of_pair Words) ps) s) h)) (λ s h. two s (or_right (bytes_eq s p.other) (has (map (piece_of_pair Others) ps) s) h)),
+  pairs_in code words others ps w o (λ s h. one s (or_right (bytes_eq s p.word) (has (map (piece_of_pair Words) ps) s) h))
+      (λ s h. two s (or_right (bytes_eq s p.other) (has (map (piece_of_pair Others) ps) s) h)),
 )
 
 pub doc_pieces : (code : TextCode) (collection : List ℕ) (i : ℕ) → IsTextCode collection code → i < length (documents collection) → PairsIn code (parse (get_or (documents collection) i []))

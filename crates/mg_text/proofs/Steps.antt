@@ -27,7 +27,8 @@ stopped_more f0 f1 f2 d0 d1 d2 a p q at_p w0 w1 w2 held1 bytes more some le le2 
   grew = two.grew;
 }
 
-pub stopped_wider : (f0 f1 : Feeding) (d0 d1 : Seen) (a p q : ℕ) (w0 w1 : Option (List ℕ)) (bytes more : List ℕ) → 0 < f0.page → a ≤ p → p ≤ q → Stopped f0 f1 d0 d1 a p w0 w1 bytes → Stopped f0 f1 d0 d1 a q w0 w1 (bytes ++ more)
+pub stopped_wider : (f0 f1 : Feeding) (d0 d1 : Seen) (a p q : ℕ) (w0 w1 : Option (List ℕ)) (bytes more : List ℕ) → 0 < f0.page → a ≤ p → p ≤ q →
+    Stopped f0 f1 d0 d1 a p w0 w1 bytes → Stopped f0 f1 d0 d1 a q w0 w1 (bytes ++ more)
 stopped_wider f0 f1 d0 d1 a p q w0 w1 bytes more some le le2 stopped = record {
   pages = within_wider f0 f1 d0 d1 a p q some le le2 stopped.pages;
   grew = grew_first w0 w1 bytes more stopped.grew;

@@ -105,7 +105,8 @@ codeword_short code symbol is below =
 
 -- ---- the calls
 
-pub took_none : (w : TextWriting) (f g h : Option Files) (r s t : Reads) → w.docs ≡ 0 → w.pairs ≡ 0 → w.is_open ≡ false → w.left ≡ 0 → w.text.place ≡ 0 → w.text.name ≡ full_name w.base Text → w.places.name ≡ full_name w.base Places →
+pub took_none : (w : TextWriting) (f g h : Option Files) (r s t : Reads) → w.docs ≡ 0 → w.pairs ≡ 0 → w.is_open ≡ false → w.left ≡ 0 → w.text.place ≡ 0 →
+    w.text.name ≡ full_name w.base Text → w.places.name ≡ full_name w.base Places →
     (IsSome f → bits_put w.text g ≡ []) → is_some g ≡ is_some f → Holds w.text g → (IsSome g → put_to w.places h ≡ []) → WroteTo w.places.name g h s t → IsOnText w h [] []
 unfolding bits_of
 took_none w f g h r s t docs pairs closed left place text_name places_name empty told_too holds none to =
@@ -228,7 +229,8 @@ text_finished w p o q f g h k r s t u docs told closed placed placed_to file to 
     let told_h : IsSome h = to.told ∙ told_g in
     let apart_p : w.text.name ≢ p.name = λ same. apart (same ∙ placed.name) in
     let text : bits_of (bytes_at k (full_name w.base Text)) ≡ bits_of (text_bytes docs) =
-    ap (λ n. bits_of (bytes_at k n)) (sym took.text_name) ∙ ap (λ x. bits_of (unwrap_or x [])) (last_to.others w.text.name apart_p) ∙ file told_g ∙ ap (λ l. bits_put w.text g ++ l) (whole_text w f docs took) ∙ append-nil (bits_put w.text g)
+    ap (λ n. bits_of (bytes_at k n)) (sym took.text_name) ∙ ap (λ x. bits_of (unwrap_or x [])) (last_to.others w.text.name apart_p) ∙ file told_g
+    ∙ ap (λ l. bits_put w.text g ++ l) (whole_text w f docs took) ∙ append-nil (bits_put w.text g)
     ∙ put_stays w.text w.places.name f g r s placed_to apart ∙ took.text told ∙ append-nil (bits_of (text_bytes docs)) in
     let still : Holds q k = holds_stays q p.name h k t u last_to (λ same. apart_p (sym name ∙ same)) holds in
     let fit : AreBytes (bytes_at k (full_name w.base Text)) = subst (λ n. AreBytes (bytes_at k n)) (name ∙ took.text_name) (still.bytes (last_to.told ∙ told_h)) in
@@ -236,7 +238,8 @@ text_finished w p o q f g h k r s t u docs told closed placed placed_to file to 
       text = text;
       bytes = written_bytes (bytes_at k (full_name w.base Text)) docs fit text;
       places =
-          ap (bytes_at k) (sym (last.name ∙ placed.name ∙ took.places_name)) ∙ sym (append-nil (bytes_at k o.name)) ∙ ap (λ l. bytes_at k o.name ++ l) (sym empty) ∙ last.bytes told_h ∙ append-nil (put_to p h)
+          ap (bytes_at k) (sym (last.name ∙ placed.name ∙ took.places_name)) ∙ sym (append-nil (bytes_at k o.name))
+          ∙ ap (λ l. bytes_at k o.name ++ l) (sym empty) ∙ last.bytes told_h ∙ append-nil (put_to p h)
           ∙ bytes_stay p w.text.name g h s t to (λ same. apart_p (sym same)) ∙ placed.bytes told
           ∙ ap (λ l. l ++ eight (w.text.place / 8)) (took.places told ∙ ap (λ b. flat_map eight (begun b (sizes docs))) closed)
           ∙ all_places docs (w.text.place / 8) (text_size w f docs took);

@@ -48,7 +48,8 @@ ForShown now held fact = (before : Option (List ℕ)) (bytes : List ℕ) → Sho
 
 -- at `Ok` the bytes were shown or are held, else a prefix of them was shown
 abbrev pub Gathers : {T E : Type 0} → Result T E → Option (List ℕ) → Option (List ℕ) → List ℕ → List ℕ → Type 0
-Gathers result before now held bytes = MatchResult result (λ _. Shown before now held bytes) (λ _. GrewByPrefix before now bytes)
+Gathers result before now held bytes = MatchResult result (λ _. Shown before now held bytes)
+    (λ _. GrewByPrefix before now bytes)
 
 -- a sink's counts did not fall, and some bytes were added to what it tells
 pub record Added (before now : Option (List ℕ)) (faults_before faults_now lacks_before lacks_now : ℕ) : Type 0 where
@@ -60,20 +61,23 @@ pub record Added (before now : Option (List ℕ)) (faults_before faults_now lack
 -- ---- steps
 
 -- a range of bits was read and the reader stands at its end; the bytes that the bits code went to the sink or are held
-pub record Decoded (f0 f1 : Feeding) (d0 d1 : Seen) (from to place : ℕ) (w0 w1 : Option (List ℕ)) (held bytes : List ℕ) : Type 0 where
+pub record Decoded (f0 f1 : Feeding) (d0 d1 : Seen) (from to place : ℕ) (w0 w1 : Option (List ℕ))
+    (held bytes : List ℕ) : Type 0 where
   pub at_end : place ≡ to
   pub read : Read f0 f1 d0 d1 from to
   pub shown : Shown w0 w1 held bytes
 
 -- only pages of a range of bits were read, and a prefix of the bytes that the bits code went to the sink
-pub record Stopped (f0 f1 : Feeding) (d0 d1 : Seen) (from to : ℕ) (w0 w1 : Option (List ℕ)) (bytes : List ℕ) : Type 0 where
-  pub pages : ReadsWithin f0 f1 d0 d1 from to
-  pub grew : GrewByPrefix w0 w1 bytes
+pub record Stopped (f0 f1 : Feeding) (d0 d1 : Seen) (from to : ℕ) (w0 w1 : Option (List ℕ)) (bytes : List ℕ) : Type 0
+  where
+    pub pages : ReadsWithin f0 f1 d0 d1 from to
+    pub grew : GrewByPrefix w0 w1 bytes
 
 -- only pages of a range of bits were read, and all bytes that the bits code went to the sink
-pub record WholeDoc (f0 f1 : Feeding) (d0 d1 : Seen) (from to : ℕ) (w0 w1 : Option (List ℕ)) (bytes : List ℕ) : Type 0 where
-  pub pages : ReadsWithin f0 f1 d0 d1 from to
-  pub grew : w1 ≡ appended w0 bytes
+pub record WholeDoc (f0 f1 : Feeding) (d0 d1 : Seen) (from to : ℕ) (w0 w1 : Option (List ℕ)) (bytes : List ℕ) : Type 0
+  where
+    pub pages : ReadsWithin f0 f1 d0 d1 from to
+    pub grew : w1 ≡ appended w0 bytes
 
 -- what stands there is read, or the device failed within it
 abbrev pub Takes : {T : Type 0} → Result T PartErr → (T → Type 0) → Type 0 → Type 0
@@ -92,60 +96,88 @@ Ends (Err show.Write) whole part = part
 Ends (Err show.Memory) whole part = part
 
 -- where a value's code stands at a reader's place: the value is read, and the reader stands behind the code
-abbrev pub ReadsCode : {Fed Dev T : Type 0} → (Fed → Feeding) → (Dev → Seen) → Reading Fed → Reading Fed → Dev → Dev → Bits → T → Result T PartErr → Type 0
+abbrev pub ReadsCode : {Fed Dev T : Type 0} → (Fed → Feeding) → (Dev → Seen) → Reading Fed → Reading Fed → Dev → Dev →
+    Bits → T → Result T PartErr → Type 0
 ReadsCode feeding device r r_now d d_now bits value result =
     r.place + length bits ≤ 2 ^ 63 → Shows ((feeding r.feed).source (device d).files) r.place bits →
     Takes result
-    (λ found. (found ≡ value) × (r_now.place ≡ r.place + length bits) × Read (feeding r.feed) (feeding r_now.feed) (device d) (device d_now) r.place (r.place + length bits))
+    (λ found. (found ≡ value) × (r_now.place ≡ r.place + length bits)
+    × Read (feeding r.feed) (feeding r_now.feed) (device d) (device d_now) r.place (r.place + length bits))
     (ReadsWithin (feeding r.feed) (feeding r_now.feed) (device d) (device d_now) r.place (r.place + length bits))
 
 -- the same where the reader holds the bits: whatever device it agrees with, none is asked
-abbrev pub ReadsHeld : {Fed T : Type 0} → (Fed → Feeding) → (Option Files → Type 0) → Reading Fed → Reading Fed → Bits → T → T → Type 0
-ReadsHeld feeding fits r r_now bits value found = (d : Seen) → fits d.files → ReadsCode feeding (λ (seen : Seen). seen) r r_now d d bits value (Ok found)
+abbrev pub ReadsHeld : {Fed T : Type 0} → (Fed → Feeding) → (Option Files → Type 0) → Reading Fed → Reading Fed → Bits →
+    T → T → Type 0
+ReadsHeld feeding fits r r_now bits value found = (d : Seen) → fits d.files →
+    ReadsCode feeding (λ (seen : Seen). seen) r r_now d d bits value (Ok found)
 
 -- where bits stand at a reader's place and bytes were shown or are held: then those of the bits are so too and the reader stands behind them, or it stopped within them
-abbrev pub Decodes : {Fed Dev : Type 0} → (Fed → Feeding) → (Dev → Seen) → Reading Fed → Reading Fed → Dev → Dev → Bits → Option (List ℕ) → Option (List ℕ) → Option (List ℕ) → List ℕ → List ℕ → List ℕ → List ℕ → Result (Unit {0}) ShowErr → Type 0
+abbrev pub Decodes : {Fed Dev : Type 0} → (Fed → Feeding) → (Dev → Seen) → Reading Fed → Reading Fed → Dev → Dev →
+    Bits → Option (List ℕ) → Option (List ℕ) → Option (List ℕ) → List ℕ → List ℕ → List ℕ → List ℕ →
+    Result (Unit {0}) ShowErr → Type 0
 Decodes feeding device r r_now d d_now bits before sent sent_now held held_now bytes bytes_now result =
-    r.place + length bits ≤ 2 ^ 63 → Shows ((feeding r.feed).source (device d).files) r.place bits → Shown before sent held bytes →
+    r.place + length bits ≤ 2 ^ 63 → Shows ((feeding r.feed).source (device d).files) r.place bits →
+    Shown before sent held bytes →
     Ends result
-    (Decoded (feeding r.feed) (feeding r_now.feed) (device d) (device d_now) r.place (r.place + length bits) r_now.place before sent_now held_now bytes_now)
-    (Stopped (feeding r.feed) (feeding r_now.feed) (device d) (device d_now) r.place (r.place + length bits) before sent_now bytes_now)
+    (Decoded (feeding r.feed) (feeding r_now.feed) (device d) (device d_now) r.place (r.place + length bits) r_now.place
+    before sent_now held_now bytes_now)
+    (Stopped (feeding r.feed) (feeding r_now.feed) (device d) (device d_now) r.place (r.place + length bits) before
+    sent_now bytes_now)
 
 -- ---- pieces, pairs and documents, behind whatever bytes were shown or are held
 
 -- the piece of a code whose codeword stands at the reader's place
-abbrev pub ShowsPiece : {Fed Dev Out : Type 0} → (Fed → Feeding) → (Dev → Seen) → (Out → Option (List ℕ)) → Reading Fed → Reading Fed → Dev → Dev → Out → Out → List ℕ → List ℕ → StreamCode → Result (Unit {0}) ShowErr → Type 0
-ShowsPiece feeding device written r r_now d d_now out out_now held held_now code result = (before : Option (List ℕ)) (bytes piece : List ℕ) → IsIn code piece →
-    Decodes feeding device r r_now d d_now (codeword_of code piece) before (written out) (written out_now) held held_now bytes (bytes ++ piece) result
+abbrev pub ShowsPiece : {Fed Dev Out : Type 0} → (Fed → Feeding) → (Dev → Seen) → (Out → Option (List ℕ)) →
+    Reading Fed → Reading Fed → Dev → Dev → Out → Out → List ℕ → List ℕ → StreamCode → Result (Unit {0}) ShowErr →
+    Type 0
+ShowsPiece feeding device written r r_now d d_now out out_now held held_now code result =
+    (before : Option (List ℕ)) (bytes piece : List ℕ) → IsIn code piece →
+    Decodes feeding device r r_now d d_now (codeword_of code piece) before (written out) (written out_now) held held_now
+    bytes (bytes ++ piece) result
 
 -- the pair whose codewords stand there
-abbrev pub ShowsPair : {Fed Dev Out : Type 0} → (Fed → Feeding) → (Dev → Seen) → (Out → Option (List ℕ)) → Reading Fed → Reading Fed → Dev → Dev → Out → Out → List ℕ → List ℕ → TextCode → Result (Unit {0}) ShowErr → Type 0
-ShowsPair feeding device written r r_now d d_now out out_now held held_now code result = (before : Option (List ℕ)) (bytes : List ℕ) (p : Pair) → PairIn code p →
-    Decodes feeding device r r_now d d_now (coded_pair code p) before (written out) (written out_now) held held_now bytes (bytes ++ (p.word ++ p.other)) result
+abbrev pub ShowsPair : {Fed Dev Out : Type 0} → (Fed → Feeding) → (Dev → Seen) → (Out → Option (List ℕ)) → Reading Fed →
+    Reading Fed → Dev → Dev → Out → Out → List ℕ → List ℕ → TextCode → Result (Unit {0}) ShowErr → Type 0
+ShowsPair feeding device written r r_now d d_now out out_now held held_now code result =
+    (before : Option (List ℕ)) (bytes : List ℕ) (p : Pair) → PairIn code p →
+    Decodes feeding device r r_now d d_now (coded_pair code p) before (written out) (written out_now) held held_now
+    bytes (bytes ++ (p.word ++ p.other)) result
 
 -- the same where the reader holds the bits: whatever device it agrees with and whatever sink there is, none is asked
-abbrev pub ShowsHeld : {Fed : Type 0} → (Fed → Feeding) → (Option Files → Type 0) → Reading Fed → Reading Fed → List ℕ → List ℕ → TextCode → Type 0
+abbrev pub ShowsHeld : {Fed : Type 0} → (Fed → Feeding) → (Option Files → Type 0) → Reading Fed → Reading Fed → List ℕ →
+    List ℕ → TextCode → Type 0
 ShowsHeld feeding fits r r_now held held_now code = (d : Seen) (sink : Option (List ℕ)) → fits d.files →
-    ShowsPair feeding (λ (seen : Seen). seen) (λ (told : Option (List ℕ)). told) r r_now d d sink sink held held_now code (Ok tt)
+    ShowsPair feeding (λ (seen : Seen). seen) (λ (told : Option (List ℕ)). told) r r_now d d sink sink held held_now
+    code (Ok tt)
 
 -- the pairs, so many, whose codewords stand there
-abbrev pub ShowsPairs : {Fed Dev Out : Type 0} → (Fed → Feeding) → (Dev → Seen) → (Out → Option (List ℕ)) → Reading Fed → Reading Fed → Dev → Dev → Out → Out → List ℕ → List ℕ → TextCode → ℕ → Result (Unit {0}) ShowErr → Type 0
+abbrev pub ShowsPairs : {Fed Dev Out : Type 0} → (Fed → Feeding) → (Dev → Seen) → (Out → Option (List ℕ)) →
+    Reading Fed → Reading Fed → Dev → Dev → Out → Out → List ℕ → List ℕ → TextCode → ℕ → Result (Unit {0}) ShowErr →
+    Type 0
 ShowsPairs feeding device written r r_now d d_now out out_now held held_now code count result =
     (before : Option (List ℕ)) (bytes : List ℕ) (ps : List Pair) → PairsIn code ps → count ≡ length ps →
-    Decodes feeding device r r_now d d_now (coded_pairs code ps) before (written out) (written out_now) held held_now bytes (bytes ++ text ps) result
+    Decodes feeding device r r_now d d_now (coded_pairs code ps) before (written out) (written out_now) held held_now
+    bytes (bytes ++ text ps) result
 
 -- the document whose bits stand there
-abbrev pub ShowsDoc : {Fed Dev Out : Type 0} → (Fed → Feeding) → (Dev → Seen) → (Out → Option (List ℕ)) → Reading Fed → Reading Fed → Dev → Dev → Out → Out → List ℕ → List ℕ → TextCode → Result (Unit {0}) ShowErr → Type 0
+abbrev pub ShowsDoc : {Fed Dev Out : Type 0} → (Fed → Feeding) → (Dev → Seen) → (Out → Option (List ℕ)) → Reading Fed →
+    Reading Fed → Dev → Dev → Out → Out → List ℕ → List ℕ → TextCode → Result (Unit {0}) ShowErr → Type 0
 ShowsDoc feeding device written r r_now d d_now out out_now held held_now code result =
     (before : Option (List ℕ)) (bytes doc : List ℕ) → PairsIn code (parse doc) → length (parse doc) < 2 ^ 32 →
-    Decodes feeding device r r_now d d_now (coded_doc code doc) before (written out) (written out_now) held held_now bytes (bytes ++ doc) result
+    Decodes feeding device r r_now d d_now (coded_doc code doc) before (written out) (written out_now) held held_now
+    bytes (bytes ++ doc) result
 
 -- that document, whole and nothing else, or the first of its bytes
-abbrev pub ShowsWhole : {Fed Dev Out : Type 0} → (Fed → Feeding) → (Dev → Seen) → (Out → Option (List ℕ)) → Reading Fed → Reading Fed → Dev → Dev → Out → Out → TextCode → Result (Unit {0}) ShowErr → Type 0
-ShowsWhole feeding device written r r_now d d_now out out_now code result = (doc : List ℕ) → PairsIn code (parse doc) → length (parse doc) < 2 ^ 32 →
-    r.place + length (coded_doc code doc) ≤ 2 ^ 63 → Shows ((feeding r.feed).source (device d).files) r.place (coded_doc code doc) → Ends result
-    (WholeDoc (feeding r.feed) (feeding r_now.feed) (device d) (device d_now) r.place (r.place + length (coded_doc code doc)) (written out) (written out_now) doc)
-    (Stopped (feeding r.feed) (feeding r_now.feed) (device d) (device d_now) r.place (r.place + length (coded_doc code doc)) (written out) (written out_now) doc)
+abbrev pub ShowsWhole : {Fed Dev Out : Type 0} → (Fed → Feeding) → (Dev → Seen) → (Out → Option (List ℕ)) →
+    Reading Fed → Reading Fed → Dev → Dev → Out → Out → TextCode → Result (Unit {0}) ShowErr → Type 0
+ShowsWhole feeding device written r r_now d d_now out out_now code result = (doc : List ℕ) → PairsIn code (parse doc) →
+    length (parse doc) < 2 ^ 32 →
+    r.place + length (coded_doc code doc) ≤ 2 ^ 63 →
+    Shows ((feeding r.feed).source (device d).files) r.place (coded_doc code doc) → Ends result
+    (WholeDoc (feeding r.feed) (feeding r_now.feed) (device d) (device d_now) r.place
+    (r.place + length (coded_doc code doc)) (written out) (written out_now) doc)
+    (Stopped (feeding r.feed) (feeding r_now.feed) (device d) (device d_now) r.place
+    (r.place + length (coded_doc code doc)) (written out) (written out_now) doc)
 
 -- ---- causes
 
@@ -160,7 +192,8 @@ IsShowCaused (Err show.Memory) s t f g l m = Rose l m
 
 -- the same by the functions that tell a sink's faults and lacks
 abbrev pub ShowCaused : {Out : Type 0} → (Out → ℕ) → (Out → ℕ) → Out → Out → ℕ → ℕ → Result (Unit {0}) ShowErr → Type 0
-ShowCaused faults lacks out out_now before now result = IsShowCaused result before now (faults out) (faults out_now) (lacks out) (lacks out_now)
+ShowCaused faults lacks out out_now before now result = IsShowCaused result before now (faults out) (faults out_now)
+    (lacks out) (lacks out_now)
 
 -- the store's failure has a cause, and no memory is wanted
 abbrev pub IsReadCaused : {T : Type 0} → Result T PartErr → ℕ → ℕ → Type 0

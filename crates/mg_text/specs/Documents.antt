@@ -23,11 +23,13 @@ pieces_bits code kind (piece ∷ rest) = piece_bits code kind piece ++ pieces_bi
 
 -- the bits of a piece stand behind those of the pieces before it
 abbrev pub AddsPiece : TextCode → List (List ℕ) → List ℕ → Type 0
-AddsPiece code before piece = pieces_bits code Words (before ++ piece ∷ []) ≡ pieces_bits code Words before ++ piece_bits code (turn (length before)) piece
+AddsPiece code before piece = pieces_bits code Words (before ++ piece ∷ []) ≡ pieces_bits code Words before
+    ++ piece_bits code (turn (length before)) piece
 
 -- a fact on a base, the files, a code and a collection
 abbrev pub ForCoded : (List ℕ → Option Files → TextCode → List ℕ → Type 0) → Type 0
-ForCoded fact = (base : List ℕ) (files : Option Files) (code : TextCode) (collection : List ℕ) → fact base files code collection
+ForCoded fact = (base : List ℕ) (files : Option Files) (code : TextCode) (collection : List ℕ) →
+    fact base files code collection
 
 -- a fact on a base, the files and a collection whose documents were written there by its codes
 abbrev pub ForWrittenDocuments : (List ℕ → Option Files → List ℕ → Type 0) → Type 0

@@ -21,13 +21,15 @@ pub record IsPlaceAt (version index place : ℕ) (bytes : List ℕ) : Type 0 whe
   pub bytes_are : take (place_width version) (drop (place_width version * index) bytes) ≡ place_bytes version place
 
 -- where the files are told: the number of so many bytes at an index of a feed's file is answered, where it is below a limit
-abbrev pub AnswersNumber : {E : Type 0} → Paging → Option Files → ℕ → ℕ → (ℕ → List ℕ) → ℕ → Result (Option ℕ) E → Type 0
+abbrev pub AnswersNumber : {E : Type 0} → Paging → Option Files → ℕ → ℕ → (ℕ → List ℕ) → ℕ → Result (Option ℕ) E →
+    Type 0
 AnswersNumber feed files width index coded limit result = IsSome files → (p : ℕ) → p < limit →
     take width (drop (width * index) (bytes_at files feed.name)) ≡ coded p → IfOk result (λ place. place ≡ Some p)
 
 -- a fact on the place of an index in a feed's file, where the files are told
 abbrev pub ForPlace : Paging → Option Files → ℕ → ℕ → (ℕ → Type 0) → Type 0
-ForPlace feed files version index fact = IsSome files → (p : ℕ) → IsPlaceAt version index p (bytes_at files feed.name) → fact p
+ForPlace feed files version index fact = IsSome files → (p : ℕ) → IsPlaceAt version index p (bytes_at files feed.name) →
+    fact p
 
 -- the most bytes of a text whose places fit
 abbrev pub most_text : ℕ → ℕ

@@ -76,15 +76,16 @@ pub record IsTextReader (r : TextReading) (base : List ℕ) (head : Head) : Type
 -- ---- where the parts stand
 
 -- the parts of a base are the words, others, text and places of this collection under these codes, and the head's numbers are theirs
-pub record IsText (base : List ℕ) (files : Option Files) (head : Head) (code : TextCode) (collection : List ℕ) : Type 0 where
-  pub models : PartsStand files base code head.words head.others
-  pub code_is : IsTextCode collection code
-  pub text_is : bits_of (bytes_at files (full_name base part.Text)) ≡ bits_of (text_part code collection)
-  pub places_are : bytes_at files (full_name base part.Places) ≡ places_part head.version code collection
-  pub size_is : head.text_bytes ≡ length (text_part code collection)
-  pub documents_are : head.documents ≡ length (documents collection)
-  pub few : length collection < 2 ^ 32
-  pub small : head.text_bytes ≤ most_text head.version
+pub record IsText (base : List ℕ) (files : Option Files) (head : Head) (code : TextCode) (collection : List ℕ) : Type 0
+  where
+    pub models : PartsStand files base code head.words head.others
+    pub code_is : IsTextCode collection code
+    pub text_is : bits_of (bytes_at files (full_name base part.Text)) ≡ bits_of (text_part code collection)
+    pub places_are : bytes_at files (full_name base part.Places) ≡ places_part head.version code collection
+    pub size_is : head.text_bytes ≡ length (text_part code collection)
+    pub documents_are : head.documents ≡ length (documents collection)
+    pub few : length collection < 2 ^ 32
+    pub small : head.text_bytes ≤ most_text head.version
 
 -- the parts of a reader are the text and places of this collection
 pub record TextStands (r : TextReading) (files : Option Files) (collection : List ℕ) : Type 0 where
@@ -104,16 +105,20 @@ TextStays r now f g collection = TextStands r f collection → TextStands now g 
 
 -- a fact on the code and the collection whose parts those of a base are, by a head
 abbrev pub WhereIsText : List ℕ → Option Files → Head → (TextCode → List ℕ → Type 0) → Type 0
-WhereIsText base files head fact = (code : TextCode) (collection : List ℕ) → IsText base files head code collection → fact code collection
+WhereIsText base files head fact = (code : TextCode) (collection : List ℕ) → IsText base files head code collection →
+    fact code collection
 
 -- a fact on a base, the files, a head, a code and a collection
 abbrev pub ForHeads : (List ℕ → Option Files → Head → TextCode → List ℕ → Type 0) → Type 0
-ForHeads fact = (base : List ℕ) (files : Option Files) (head : Head) (code : TextCode) (collection : List ℕ) → fact base files head code collection
+ForHeads fact = (base : List ℕ) (files : Option Files) (head : Head) (code : TextCode) (collection : List ℕ) →
+    fact base files head code collection
 
 -- a fact where the parts were written for a collection within the limits, and a head of any version but 1 has its numbers
 abbrev pub WhereWritten : List ℕ → Option Files → Head → TextCode → List ℕ → Type 0 → Type 0
-WhereWritten base files head code collection fact = TextHolds base files code collection → PartsStand files base code head.words head.others →
-    IsTextCode collection code → head.version ≢ 1 → head.text_bytes ≡ length (text_part code collection) → head.documents ≡ length (documents collection) →
+WhereWritten base files head code collection fact = TextHolds base files code collection →
+    PartsStand files base code head.words head.others →
+    IsTextCode collection code → head.version ≢ 1 → head.text_bytes ≡ length (text_part code collection) →
+    head.documents ≡ length (documents collection) →
     IsWithinLimits head.version collection → fact
 
 -- a fact where the files are told, the parts of a base stand for a collection, and a head and a code are what they tell
@@ -123,7 +128,8 @@ WhereTold base files head code collection fact =
 
 -- a fact on a version, codes and a collection within its limits that has these codes
 abbrev pub ForCodedWithin : (ℕ → TextCode → List ℕ → Type 0) → Type 0
-ForCodedWithin fact = (version : ℕ) (code : TextCode) (collection : List ℕ) → IsTextCode collection code → IsWithinLimits version collection → fact version code collection
+ForCodedWithin fact = (version : ℕ) (code : TextCode) (collection : List ℕ) → IsTextCode collection code →
+    IsWithinLimits version collection → fact version code collection
 
 -- ---- loading
 
@@ -134,7 +140,8 @@ AnswersSizes text_size places_size text places (Err Device) = Unit {0}
 AnswersSizes text_size places_size text places (Err Memory) = ⊥
 AnswersSizes text_size places_size text places (Err (Bad bad)) =
     ((length text ≢ text_size) × TellsSize bad part.Text text_size (length text))
-    ⊎ ((length text ≡ text_size) × (length places ≢ places_size) × TellsSize bad part.Places places_size (length places))
+    ⊎ ((length text ≡ text_size) × (length places ≢ places_size) × TellsSize bad part.Places places_size
+    (length places))
 
 -- a head and the bytes of the parts that are looked at
 pub record Stored : Type 0 where
@@ -160,7 +167,8 @@ abbrev pub AnswersReader : Stored → Result TextReading PartErr → Type 0
 AnswersReader s (Ok r) = HasSizes s × AnswersLoad s.head.words s.head.others s.words s.others (Ok r.code)
 AnswersReader s (Err Device) = Unit {0}
 AnswersReader s (Err Memory) = HasSizes s × AnswersLoad s.head.words s.head.others s.words s.others (Err Memory)
-AnswersReader s (Err (Bad bad)) = AnswersTextSizes s (Err (Bad bad)) ⊎ (HasSizes s × AnswersLoad s.head.words s.head.others s.words s.others (Err (Bad bad)))
+AnswersReader s (Err (Bad bad)) = AnswersTextSizes s (Err (Bad bad))
+    ⊎ (HasSizes s × AnswersLoad s.head.words s.head.others s.words s.others (Err (Bad bad)))
 
 -- what the parts of a base hold
 abbrev pub stored_at : Option Files → List ℕ → Head → Stored
@@ -181,12 +189,15 @@ DiffersInSize files base head = ¬ HasSizes (stored_at files base head)
 -- the document was written, or a prefix of it; and so many reads of the text at most were added
 abbrev pub AnswersDoc : Result (Unit {0}) ShowErr → Option (List ℕ) → Option (List ℕ) → List ℕ → ℕ → ℕ → ℕ → Type 0
 AnswersDoc result before now doc reads_before reads_now most =
-    Ends result ((now ≡ appended before doc) × (reads_now ≤ reads_before + most)) (GrewByPrefix before now doc × (reads_now ≤ reads_before + most))
+    Ends result ((now ≡ appended before doc) × (reads_now ≤ reads_before + most))
+    (GrewByPrefix before now doc × (reads_now ≤ reads_before + most))
 
 -- the document was shown or is held behind what was so before, or a prefix was shown; and so many reads of the text at most were added
-abbrev pub AnswersGathered : Result (Unit {0}) ShowErr → Option (List ℕ) → Option (List ℕ) → List ℕ → List ℕ → ℕ → ℕ → ℕ → Type 0
+abbrev pub AnswersGathered : Result (Unit {0}) ShowErr → Option (List ℕ) → Option (List ℕ) → List ℕ → List ℕ → ℕ → ℕ →
+    ℕ → Type 0
 AnswersGathered result before now held bytes reads_before reads_now most =
-    Ends result (Shown before now held bytes × (reads_now ≤ reads_before + most)) (GrewByPrefix before now bytes × (reads_now ≤ reads_before + most))
+    Ends result (Shown before now held bytes × (reads_now ≤ reads_before + most))
+    (GrewByPrefix before now bytes × (reads_now ≤ reads_before + most))
 
 -- a fact on the collection whose text and places the parts of a reader are
 abbrev pub WhereTextStands : TextReading → Option Files → (List ℕ → Type 0) → Type 0
@@ -194,7 +205,8 @@ WhereTextStands r files fact = (collection : List ℕ) → TextStands r files co
 
 -- the number of pages on which the bits of a document lie
 abbrev pub document_pages : TextCode → List ℕ → ℕ → ℕ
-document_pages code collection number = pages (doc_range code collection number).from (doc_range code collection number).to
+document_pages code collection number = pages (doc_range code collection number).from
+    (doc_range code collection number).to
 
 -- at `Ok` the document of this number was written, else a prefix of it
 abbrev pub WritesDocument : Option (List ℕ) → Option (List ℕ) → ℕ → Result (Unit {0}) ShowErr → List ℕ → Type 0
@@ -202,23 +214,32 @@ WritesDocument sent sent_now number result collection = AfterPut sent sent_now (
 
 -- no more pages of the text are read than a document's bits lie on
 abbrev pub PagesOfDocument : TextReading → ℕ → Reads → Reads → List ℕ → Type 0
-PagesOfDocument r number reads reads_now collection = reads_now part.Text ≤ reads part.Text + document_pages r.code collection number
+PagesOfDocument r number reads reads_now collection = reads_now part.Text
+    ≤ reads part.Text + document_pages r.code collection number
 
 -- where the parts stand: a document is shown or is held behind what was so before, or a prefix is shown
-abbrev pub GathersDoc : TextReading → Option Files → Option (List ℕ) → Option (List ℕ) → List ℕ → List ℕ → ℕ → Result (Unit {0}) ShowErr → Type 0
-GathersDoc r files sent sent_now held held_now number result = (collection : List ℕ) (before : Option (List ℕ)) (bytes : List ℕ) →
-    TextStands r files collection → Shown before sent held bytes → Gathers result before sent_now held_now (bytes ++ document collection number)
+abbrev pub GathersDoc : TextReading → Option Files → Option (List ℕ) → Option (List ℕ) → List ℕ → List ℕ → ℕ →
+    Result (Unit {0}) ShowErr → Type 0
+GathersDoc r files sent sent_now held held_now number result = (collection : List ℕ) (before : Option (List ℕ))
+    (bytes : List ℕ) →
+    TextStands r files collection → Shown before sent held bytes →
+    Gathers result before sent_now held_now (bytes ++ document collection number)
 
 -- that, and no more pages of the text are read than its bits lie on
-abbrev pub GathersWithin : {X Y : Type 0} → (X → Option Files) → (X → Reads) → (Y → Option (List ℕ)) → TextReading → X → X → Y → Y → List ℕ → List ℕ → ℕ → Result (Unit {0}) ShowErr → Type 0
-GathersWithin files reads written r store store_now out out_now held held_now number result = (collection : List ℕ) (before : Option (List ℕ)) (bytes : List ℕ) →
+abbrev pub GathersWithin : {X Y : Type 0} → (X → Option Files) → (X → Reads) → (Y → Option (List ℕ)) → TextReading → X →
+    X → Y → Y → List ℕ → List ℕ → ℕ → Result (Unit {0}) ShowErr → Type 0
+GathersWithin files reads written r store store_now out out_now held held_now number result =
+    (collection : List ℕ) (before : Option (List ℕ)) (bytes : List ℕ) →
     TextStands r (files store) collection → Shown before (written out) held bytes →
-    AnswersGathered result before (written out_now) held_now (bytes ++ document collection number) (reads store part.Text) (reads store_now part.Text) (document_pages r.code collection number)
+    AnswersGathered result before (written out_now) held_now (bytes ++ document collection number)
+    (reads store part.Text) (reads store_now part.Text) (document_pages r.code collection number)
 
 -- where the parts stand: a document is written, or a prefix of it, and no more pages of the text are read than its bits lie on
-abbrev pub ShowsWithin : {X Y : Type 0} → (X → Option Files) → (X → Reads) → (Y → Option (List ℕ)) → TextReading → X → X → Y → Y → ℕ → Result (Unit {0}) ShowErr → Type 0
+abbrev pub ShowsWithin : {X Y : Type 0} → (X → Option Files) → (X → Reads) → (Y → Option (List ℕ)) → TextReading → X →
+    X → Y → Y → ℕ → Result (Unit {0}) ShowErr → Type 0
 ShowsWithin files reads written r store store_now out out_now number result = WhereTextStands r (files store)
-    (λ collection. AnswersDoc result (written out) (written out_now) (document collection number) (reads store part.Text) (reads store_now part.Text) (document_pages r.code collection number))
+    (λ collection. AnswersDoc result (written out) (written out_now) (document collection number)
+    (reads store part.Text) (reads store_now part.Text) (document_pages r.code collection number))
 
 -- no part is bad
 abbrev pub ShowIsNotBad : Result (Unit {0}) ShowErr → Type 0

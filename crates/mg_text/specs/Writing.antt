@@ -86,11 +86,13 @@ TookFirst old new before now bits = (docs : List Bits) → IsOnText old before d
 
 -- whatever bits of the open document the writer took, it took these too
 abbrev pub TookBits : TextWriting → TextWriting → Option Files → Option Files → Bits → Type 0
-TookBits old new before now more = (docs : List Bits) (bits : Bits) → IsOnText old before docs bits → IsOnText new now docs (bits ++ more)
+TookBits old new before now more = (docs : List Bits) (bits : Bits) → IsOnText old before docs bits →
+    IsOnText new now docs (bits ++ more)
 
 -- whatever bits of the open document the writer took, they are a document now
 abbrev pub TookDoc : TextWriting → TextWriting → Option Files → Option Files → Type 0
-TookDoc old new before now = (docs : List Bits) (bits : Bits) → IsOnText old before docs bits → IsOnText new now (docs ++ bits ∷ []) []
+TookDoc old new before now = (docs : List Bits) (bits : Bits) → IsOnText old before docs bits →
+    IsOnText new now (docs ++ bits ∷ []) []
 
 -- a fact on the documents that a writer took, where the files are told and none is open
 abbrev pub WhereClosed : TextWriting → Option Files → (List Bits → Type 0) → Type 0

@@ -25,10 +25,14 @@ fn show_piece<F: Feed, O: Sink>(
 ) -> Result<(), ShowErr>
     requires fits { F.fits r.old.feed (F.device dev.old).files }
     ensures fits { F.fits r.new.feed (F.device dev.new).files }
-    ensures calm { Calm (F.feeding r.old.feed) (F.feeding r.new.feed) (F.device dev.old) (F.device dev.new) }
-    ensures told { ShowsPiece F.feeding F.device O.written r.old r.new dev.old dev.new out.old out.new buffer.old buffer.new (code_of stream model.now) result }
-    ensures added { Added (O.written out.old) (O.written out.new) (O.faults out.old) (O.faults out.new) (O.lacks out.old) (O.lacks out.new) }
-    ensures cause { ShowCaused O.faults O.lacks out.old out.new (F.device dev.old).faults (F.device dev.new).faults result }
+    ensures calm { Calm (F.feeding r.old.feed) (F.feeding r.new.feed) (F.device dev.old)
+        (F.device dev.new) }
+    ensures told { ShowsPiece F.feeding F.device O.written r.old r.new dev.old dev.new out.old
+        out.new buffer.old buffer.new (code_of stream model.now) result }
+    ensures added { Added (O.written out.old) (O.written out.new) (O.faults out.old)
+        (O.faults out.new) (O.lacks out.old) (O.lacks out.new) }
+    ensures cause { ShowCaused O.faults O.lacks out.old out.new (F.device dev.old).faults
+        (F.device dev.new).faults result }
 {
     match get_symbol(model.canon(stream), r, dev) {
         Ok(symbol) => match model.short_piece(stream, symbol) {
@@ -57,10 +61,14 @@ fn show_pair<F: Feed, O: Sink>(
 ) -> Result<(), ShowErr>
     requires fits { F.fits r.old.feed (F.device dev.old).files }
     ensures fits { F.fits r.new.feed (F.device dev.new).files }
-    ensures calm { Calm (F.feeding r.old.feed) (F.feeding r.new.feed) (F.device dev.old) (F.device dev.new) }
-    ensures told { ShowsPair F.feeding F.device O.written r.old r.new dev.old dev.new out.old out.new buffer.old buffer.new model.now result }
-    ensures added { Added (O.written out.old) (O.written out.new) (O.faults out.old) (O.faults out.new) (O.lacks out.old) (O.lacks out.new) }
-    ensures cause { ShowCaused O.faults O.lacks out.old out.new (F.device dev.old).faults (F.device dev.new).faults result }
+    ensures calm { Calm (F.feeding r.old.feed) (F.feeding r.new.feed) (F.device dev.old)
+        (F.device dev.new) }
+    ensures told { ShowsPair F.feeding F.device O.written r.old r.new dev.old dev.new out.old
+        out.new buffer.old buffer.new model.now result }
+    ensures added { Added (O.written out.old) (O.written out.new) (O.faults out.old)
+        (O.faults out.new) (O.lacks out.old) (O.lacks out.new) }
+    ensures cause { ShowCaused O.faults O.lacks out.old out.new (F.device dev.old).faults
+        (F.device dev.new).faults result }
 {
     match show_piece(model, Stream::Words, r, dev, buffer, out) {
         Ok(()) => {}
@@ -82,8 +90,10 @@ fn held_entry<'a, F: Feed>(
 ) -> Option<&'a [u8; 16]>
     ensures feed { r.new.feed ≡ r.old.feed }
     ensures short { IfSome result (λ entry. slice_index entry.now 0 ≤ 15) }
-    ensures told { IfSome result (λ entry. (piece : List ℕ) → IsIn (code_of stream model.now) piece →
-        ReadsHeld F.feeding (F.fits r.old.feed) r.old r.new (codeword_of (code_of stream model.now) piece) piece (short_piece entry.now)) }
+    ensures told { IfSome result (λ entry. (piece : List ℕ) →
+        IsIn (code_of stream model.now) piece →
+        ReadsHeld F.feeding (F.fits r.old.feed) r.old r.new
+        (codeword_of (code_of stream model.now) piece) piece (short_piece entry.now)) }
 {
     let symbol = match held_symbol(model.canon(stream), r) {
         Some(symbol) => symbol,
@@ -101,7 +111,8 @@ fn held_entry<'a, F: Feed>(
 #[inline]
 fn hold_next<F: Feed>(model: &TextModel, r: &mut BitReader<F>, buffer: &mut ShowBuffer) -> bool
     ensures feed { r.new.feed ≡ r.old.feed }
-    ensures told { OnTrue result (ShowsHeld F.feeding (F.fits r.old.feed) r.old r.new buffer.old buffer.new model.now) }
+    ensures told { OnTrue result (ShowsHeld F.feeding (F.fits r.old.feed) r.old r.new buffer.old
+        buffer.new model.now) }
     ensures kept { OnFalse result (buffer.new ≡ buffer.old) }
 {
     let word = match held_entry(model, Stream::Words, r) {
@@ -121,7 +132,8 @@ fn hold_next<F: Feed>(model: &TextModel, r: &mut BitReader<F>, buffer: &mut Show
 #[inline]
 fn show_held<F: Feed>(model: &TextModel, r: &mut BitReader<F>, buffer: &mut ShowBuffer) -> bool
     ensures feed { r.new.feed ≡ r.old.feed }
-    ensures told { OnTrue result (ShowsHeld F.feeding (F.fits r.old.feed) r.old r.new buffer.old buffer.new model.now) }
+    ensures told { OnTrue result (ShowsHeld F.feeding (F.fits r.old.feed) r.old r.new buffer.old
+        buffer.new model.now) }
     ensures place { OnFalse result (r.new.place ≡ r.old.place) }
     ensures kept { OnFalse result (buffer.new ≡ buffer.old) }
 {
@@ -144,10 +156,14 @@ fn show_pairs<F: Feed, O: Sink>(
 ) -> Result<(), ShowErr>
     requires fits { F.fits r.old.feed (F.device dev.old).files }
     ensures fits { F.fits r.new.feed (F.device dev.new).files }
-    ensures calm { Calm (F.feeding r.old.feed) (F.feeding r.new.feed) (F.device dev.old) (F.device dev.new) }
-    ensures told { ShowsPairs F.feeding F.device O.written r.old r.new dev.old dev.new out.old out.new buffer.old buffer.new model.now count result }
-    ensures added { Added (O.written out.old) (O.written out.new) (O.faults out.old) (O.faults out.new) (O.lacks out.old) (O.lacks out.new) }
-    ensures cause { ShowCaused O.faults O.lacks out.old out.new (F.device dev.old).faults (F.device dev.new).faults result }
+    ensures calm { Calm (F.feeding r.old.feed) (F.feeding r.new.feed) (F.device dev.old)
+        (F.device dev.new) }
+    ensures told { ShowsPairs F.feeding F.device O.written r.old r.new dev.old dev.new out.old
+        out.new buffer.old buffer.new model.now count result }
+    ensures added { Added (O.written out.old) (O.written out.new) (O.faults out.old)
+        (O.faults out.new) (O.lacks out.old) (O.lacks out.new) }
+    ensures cause { ShowCaused O.faults O.lacks out.old out.new (F.device dev.old).faults
+        (F.device dev.new).faults result }
 {
     for _i in 0..count {
         if show_held(model, r, buffer) {
@@ -171,10 +187,14 @@ pub fn gather_doc<F: Feed, O: Sink>(
 ) -> Result<(), ShowErr>
     requires fits { F.fits r.old.feed (F.device dev.old).files }
     ensures fits { F.fits r.new.feed (F.device dev.new).files }
-    ensures calm { Calm (F.feeding r.old.feed) (F.feeding r.new.feed) (F.device dev.old) (F.device dev.new) }
-    ensures told { ShowsDoc F.feeding F.device O.written r.old r.new dev.old dev.new out.old out.new buffer.old buffer.new model.now result }
-    ensures added { Added (O.written out.old) (O.written out.new) (O.faults out.old) (O.faults out.new) (O.lacks out.old) (O.lacks out.new) }
-    ensures cause { ShowCaused O.faults O.lacks out.old out.new (F.device dev.old).faults (F.device dev.new).faults result }
+    ensures calm { Calm (F.feeding r.old.feed) (F.feeding r.new.feed) (F.device dev.old)
+        (F.device dev.new) }
+    ensures told { ShowsDoc F.feeding F.device O.written r.old r.new dev.old dev.new out.old out.new
+        buffer.old buffer.new model.now result }
+    ensures added { Added (O.written out.old) (O.written out.new) (O.faults out.old)
+        (O.faults out.new) (O.lacks out.old) (O.lacks out.new) }
+    ensures cause { ShowCaused O.faults O.lacks out.old out.new (F.device dev.old).faults
+        (F.device dev.new).faults result }
 {
     let count = match get_count(r, dev) {
         Ok(count) => count,
@@ -198,10 +218,14 @@ pub fn show_doc<F: Feed, O: Sink>(
     requires fits { F.fits r.old.feed (F.device dev.old).files }
     requires empty { buffer.old ≡ [] }
     ensures fits { F.fits r.new.feed (F.device dev.new).files }
-    ensures calm { Calm (F.feeding r.old.feed) (F.feeding r.new.feed) (F.device dev.old) (F.device dev.new) }
-    ensures told { ShowsWhole F.feeding F.device O.written r.old r.new dev.old dev.new out.old out.new model.now result }
-    ensures added { Added (O.written out.old) (O.written out.new) (O.faults out.old) (O.faults out.new) (O.lacks out.old) (O.lacks out.new) }
-    ensures cause { ShowCaused O.faults O.lacks out.old out.new (F.device dev.old).faults (F.device dev.new).faults result }
+    ensures calm { Calm (F.feeding r.old.feed) (F.feeding r.new.feed) (F.device dev.old)
+        (F.device dev.new) }
+    ensures told { ShowsWhole F.feeding F.device O.written r.old r.new dev.old dev.new out.old
+        out.new model.now result }
+    ensures added { Added (O.written out.old) (O.written out.new) (O.faults out.old)
+        (O.faults out.new) (O.lacks out.old) (O.lacks out.new) }
+    ensures cause { ShowCaused O.faults O.lacks out.old out.new (F.device dev.old).faults
+        (F.device dev.new).faults result }
 {
     match gather_doc(model, r, dev, buffer, out) {
         Ok(()) => {}

@@ -15,7 +15,8 @@ ghost use Rattle.mg_text.specs.Writing.{DocumentsStand, IsOnText, TextWriting, t
 /// The pieces of a document, put in turn behind the number of its pairs, are its bits. The stream
 /// of a piece is told by the number of those before it as well as by that of those to come.
 pub fn pieces_make_documents()
-    ensures document { (code : TextCode) (doc : List ℕ) → gamma (length (parse doc) + 1) ++ pieces_bits code Words (pieces doc) ≡ coded_doc code doc }
+    ensures document { (code : TextCode) (doc : List ℕ) →
+        gamma (length (parse doc) + 1) ++ pieces_bits code Words (pieces doc) ≡ coded_doc code doc }
     ensures next { (code : TextCode) (before : List (List ℕ)) (piece : List ℕ) →
         AddsPiece code before piece }
     ensures turn { (left put pairs : ℕ) → left + put ≡ 2 * pairs → turn left ≡ turn put }
@@ -26,10 +27,15 @@ pub fn pieces_make_documents()
 /// text takes at most one byte a document more than its bits. Where documents were written, Text has
 /// their bytes and no others.
 pub fn text_has_its_documents()
-    ensures text { (code : TextCode) (collection : List ℕ) → text_bytes (coded_docs code collection) ≡ text_part code collection }
-    ensures holds { ForCoded (λ base files code collection. DocumentsStand base files (coded_docs code collection) → TextHolds base files code collection) }
-    ensures size { ForWrittenDocuments (λ base files collection. length (text_at base files) ≤ most_text_bytes collection) }
-    ensures bytes { (base : List ℕ) (files : Option Files) (docs : List Bits) → DocumentsStand base files docs →
+    ensures text { (code : TextCode) (collection : List ℕ) →
+        text_bytes (coded_docs code collection) ≡ text_part code collection }
+    ensures holds { ForCoded (λ base files code collection.
+        DocumentsStand base files (coded_docs code collection) →
+        TextHolds base files code collection) }
+    ensures size { ForWrittenDocuments (λ base files collection.
+        length (text_at base files) ≤ most_text_bytes collection) }
+    ensures bytes { (base : List ℕ) (files : Option Files) (docs : List Bits) →
+        DocumentsStand base files docs →
         text_at base files ≡ text_bytes docs }
 {}
 

@@ -76,7 +76,8 @@ fn read_place<S: Store>(
     ensures fits { Fits places.new (S.files store.new) }
     ensures file { SameFile places.old places.new }
     ensures looked { Between S.files S.reads S.faults store.old store.new (Looked places.old.part) }
-    ensures told { ForPlace places.old (S.files store.old) version index (λ p. IfOk result (λ place. place ≡ Some p)) }
+    ensures told { ForPlace places.old (S.files store.old) version index
+        (λ p. IfOk result (λ place. place ≡ Some p)) }
     ensures page { S.reads store.new places.old.part ≤ S.reads store.old places.old.part + 1 }
     ensures cause { HasCause (S.faults store.old) (S.faults store.new) result }
 {
@@ -99,7 +100,8 @@ pub fn first_byte<S: Store>(
     ensures file { SameFile places.old places.new }
     ensures looked { Between S.files S.reads S.faults store.old store.new (Looked places.old.part) }
     ensures small { IfOk result (λ from. from ≤ 2 ^ 60) }
-    ensures told { ForPlace places.old (S.files store.old) version index (λ p. p ≤ size → p ≤ 2 ^ 60 → Takes result (λ from. from ≡ p) (Unit {0})) }
+    ensures told { ForPlace places.old (S.files store.old) version index
+        (λ p. p ≤ size → p ≤ 2 ^ 60 → Takes result (λ from. from ≡ p) (Unit {0})) }
     ensures page { S.reads store.new places.old.part ≤ S.reads store.old places.old.part + 1 }
     ensures cause { IsReadCaused result (S.faults store.old) (S.faults store.new) }
 {

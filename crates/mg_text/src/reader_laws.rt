@@ -13,10 +13,15 @@ ghost use Rattle.mg_text.specs.Places.{FitsVersion};
 /// may change.
 pub fn texts_stand()
     ensures small { ForCodedWithin FitsVersion }
-    ensures written { ForHeads (λ base files head code collection. WhereWritten base files head code collection (IsText base files head code collection)) }
-    ensures set { ForHeads (λ base files head code collection. StandsBy head code files base collection → IsText base files head code collection) }
-    ensures told { ForHeads (λ base files head code collection. WhereTold base files head code collection (IsText base files head code collection)) }
-    ensures stays { (r now : TextReading) (f g : Option Files) (collection : List ℕ) → SameText r now →
+    ensures written { ForHeads (λ base files head code collection.
+        WhereWritten base files head code collection (IsText base files head code collection)) }
+    ensures set { ForHeads (λ base files head code collection.
+        StandsBy head code files base collection → IsText base files head code collection) }
+    ensures told { ForHeads (λ base files head code collection.
+        WhereTold base files head code collection (IsText base files head code collection)) }
+    ensures stays { (r now : TextReading) (f g : Option Files) (collection : List ℕ) →
+        SameText r now →
         WhereSameTexts r f g (TextStays r now f g collection) }
-    ensures fits { (r : TextReading) (f g : Option Files) → WhereSameTexts r f g (TextFits r f → TextFits r g) }
+    ensures fits { (r : TextReading) (f g : Option Files) →
+        WhereSameTexts r f g (TextFits r f → TextFits r g) }
 {}

@@ -67,8 +67,11 @@ impl ShowBuffer {
     #[inline(never)]
     pub fn put<O: Sink>(&mut self, out: &mut O, piece: &[u8]) -> Result<(), PutErr>
         requires short { length piece.now ≤ 255 }
-        ensures shown { ForShown (O.written out.old) self.old (λ before bytes. Gathers result before (O.written out.new) self.new (bytes ++ piece.now)) }
-        ensures added { Added (O.written out.old) (O.written out.new) (O.faults out.old) (O.faults out.new) (O.lacks out.old) (O.lacks out.new) }
+        ensures shown { ForShown (O.written out.old) self.old
+            (λ before bytes. Gathers result before (O.written out.new) self.new
+            (bytes ++ piece.now)) }
+        ensures added { Added (O.written out.old) (O.written out.new) (O.faults out.old)
+            (O.faults out.new) (O.lacks out.old) (O.lacks out.new) }
         ensures cause { HasPutCause (O.faults out.old) (O.faults out.new) result }
         ensures lack { HasLack (O.lacks out.old) (O.lacks out.new) result }
     {
@@ -96,8 +99,10 @@ impl ShowBuffer {
     pub fn put_short<O: Sink>(&mut self, out: &mut O, entry: &[u8; 16]) -> Result<(), PutErr>
         requires short { slice_index entry.now 0 ≤ 15 }
         ensures shown { ForShown (O.written out.old) self.old
-            (λ before bytes. Gathers result before (O.written out.new) self.new (bytes ++ short_piece entry.now)) }
-        ensures added { Added (O.written out.old) (O.written out.new) (O.faults out.old) (O.faults out.new) (O.lacks out.old) (O.lacks out.new) }
+            (λ before bytes. Gathers result before (O.written out.new) self.new
+            (bytes ++ short_piece entry.now)) }
+        ensures added { Added (O.written out.old) (O.written out.new) (O.faults out.old)
+            (O.faults out.new) (O.lacks out.old) (O.lacks out.new) }
         ensures cause { HasPutCause (O.faults out.old) (O.faults out.new) result }
         ensures lack { HasLack (O.lacks out.old) (O.lacks out.new) result }
     {
@@ -117,7 +122,8 @@ impl ShowBuffer {
     pub(crate) fn hold_pair(&mut self, first: &[u8; 16], second: &[u8; 16]) -> bool
         requires first { slice_index first.now 0 ≤ 15 }
         requires second { slice_index second.now 0 ≤ 15 }
-        ensures held { OnTrue result (self.new ≡ self.old ++ (short_piece first.now ++ short_piece second.now)) }
+        ensures held { OnTrue result (self.new ≡ self.old
+            ++ (short_piece first.now ++ short_piece second.now)) }
         ensures kept { OnFalse result (self.new ≡ self.old) }
     {
         if 2 * MOST > SIZE - self.used {
@@ -158,9 +164,11 @@ impl ShowBuffer {
     /// The sink's: `Failed` where it failed, `Memory` where it lacked memory.
     pub fn flush<O: Sink>(&mut self, out: &mut O) -> Result<(), PutErr>
         ensures content { AfterPut (O.written out.old) (O.written out.new) self.old result }
-        ensures shown { ForShown (O.written out.old) self.old (λ before bytes. AfterPut before (O.written out.new) bytes result) }
+        ensures shown { ForShown (O.written out.old) self.old
+            (λ before bytes. AfterPut before (O.written out.new) bytes result) }
         ensures empty { OnOk result (self.new ≡ []) }
-        ensures added { Added (O.written out.old) (O.written out.new) (O.faults out.old) (O.faults out.new) (O.lacks out.old) (O.lacks out.new) }
+        ensures added { Added (O.written out.old) (O.written out.new) (O.faults out.old)
+            (O.faults out.new) (O.lacks out.old) (O.lacks out.new) }
         ensures cause { HasPutCause (O.faults out.old) (O.faults out.new) result }
         ensures lack { HasLack (O.lacks out.old) (O.lacks out.new) result }
     {

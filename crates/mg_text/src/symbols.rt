@@ -50,7 +50,8 @@ pub fn get_symbol<F: Feed>(
 ) -> Result<u32, PartErr>
     requires fits { F.fits r.old.feed (F.device dev.old).files }
     ensures fits { F.fits r.new.feed (F.device dev.new).files }
-    ensures calm { Calm (F.feeding r.old.feed) (F.feeding r.new.feed) (F.device dev.old) (F.device dev.new) }
+    ensures calm { Calm (F.feeding r.old.feed) (F.feeding r.new.feed) (F.device dev.old)
+        (F.device dev.new) }
     ensures symbol { IfOk result (λ s. s < length canon.now) }
     ensures told { (s : ℕ) → s < length canon.now →
         ReadsCode F.feeding F.device r.old r.new dev.old dev.new (codeword canon.now s) s result }
@@ -88,8 +89,10 @@ pub fn held_symbol<F: Feed>(canon: &Canon, r: &mut BitReader<F>) -> Option<u32>
 pub fn get_count<F: Feed>(r: &mut BitReader<F>, dev: &mut F::Dev) -> Result<u32, PartErr>
     requires fits { F.fits r.old.feed (F.device dev.old).files }
     ensures fits { F.fits r.new.feed (F.device dev.new).files }
-    ensures calm { Calm (F.feeding r.old.feed) (F.feeding r.new.feed) (F.device dev.old) (F.device dev.new) }
-    ensures told { (n : ℕ) → n < 2 ^ 32 → ReadsCode F.feeding F.device r.old r.new dev.old dev.new (gamma (n + 1)) n result }
+    ensures calm { Calm (F.feeding r.old.feed) (F.feeding r.new.feed) (F.device dev.old)
+        (F.device dev.new) }
+    ensures told { (n : ℕ) → n < 2 ^ 32 →
+        ReadsCode F.feeding F.device r.old r.new dev.old dev.new (gamma (n + 1)) n result }
     ensures cause { IsReadCaused result (F.device dev.old).faults (F.device dev.new).faults }
 {
     let at = r.place();

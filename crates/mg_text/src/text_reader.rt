@@ -51,7 +51,8 @@ impl<'a, S: Store> Model for TextReader<'a, S> {
 
 // Compares the sizes of Text and Places with those of the head, in this order.
 fn expect_sizes<S: Store>(store: &mut S, base: &str, head: &Head) -> Result<(), PartErr>
-    ensures answer { IsSome (S.files store.old) → AnswersTextSizes (stored_at (S.files store.old) base.now head.now) result }
+    ensures answer { IsSome (S.files store.old) →
+        AnswersTextSizes (stored_at (S.files store.old) base.now head.now) result }
     ensures memory { result ≢ Err PartErr.Memory }
     ensures files { S.files store.new ≡ S.files store.old }
     ensures reads { SameReads (S.reads store.old) (S.reads store.new) }
@@ -92,14 +93,19 @@ impl<'a, S: Store> TextReader<'a, S> {
         requires others { head.now.others ≤ 2 ^ 22 }
         ensures fits { IfOk result (λ r. TextFits r (S.files store.new)) }
         ensures reader { IfOk result (λ r. IsTextReader r base.entry.now head.now) }
-        ensures answer { IsSome (S.files store.old) → AnswersReader (stored_at (S.files store.old) base.entry.now head.now) result }
-        ensures unread { IsSome (S.files store.old) → DiffersInSize (S.files store.old) base.entry.now head.now →
+        ensures answer { IsSome (S.files store.old) →
+            AnswersReader (stored_at (S.files store.old) base.entry.now head.now) result }
+        ensures unread { IsSome (S.files store.old) →
+            DiffersInSize (S.files store.old) base.entry.now head.now →
             SameReads (S.reads store.old) (S.reads store.new) }
         ensures stands { WhereIsText base.entry.now (S.files store.old) head.now
             (λ code collection. IfOk result (λ r. TextStands r (S.files store.new) collection)) }
-        ensures code { WhereIsText base.entry.now (S.files store.old) head.now (λ code collection. IfOk result (λ r. r.code ≡ code)) }
-        ensures never_bad { WhereIsText base.entry.now (S.files store.old) head.now (λ code collection. IfErr result (λ refusal. IsNotBad refusal)) }
-        ensures looked { Between S.files S.reads S.faults store.old store.new (LookedAt part.Words part.Nonwords) }
+        ensures code { WhereIsText base.entry.now (S.files store.old) head.now
+            (λ code collection. IfOk result (λ r. r.code ≡ code)) }
+        ensures never_bad { WhereIsText base.entry.now (S.files store.old) head.now
+            (λ code collection. IfErr result (λ refusal. IsNotBad refusal)) }
+        ensures looked { Between S.files S.reads S.faults store.old store.new
+            (LookedAt part.Words part.Nonwords) }
         ensures cause { HasPartCause (S.faults store.old) (S.faults store.new) result }
     {
         match expect_sizes(store, base, head) {
@@ -170,13 +176,19 @@ impl<'a, S: Store> TextReader<'a, S> {
         requires within { number ≤ self.old.documents }
         ensures fits { TextFits self.new (S.files store.new) }
         ensures same { SameText self.old self.new }
-        ensures looked { Between S.files S.reads S.faults store.old store.new (LookedAt part.Text part.Places) }
-        ensures content { WhereTextStands self.old (S.files store.old) (WritesDocument (O.written out.old) (O.written out.new) number result) }
-        ensures never_bad { WhereTextStands self.old (S.files store.old) (λ _. ShowIsNotBad result) }
-        ensures pages { WhereTextStands self.old (S.files store.old) (PagesOfDocument self.old number (S.reads store.old) (S.reads store.new)) }
+        ensures looked { Between S.files S.reads S.faults store.old store.new
+            (LookedAt part.Text part.Places) }
+        ensures content { WhereTextStands self.old (S.files store.old)
+            (WritesDocument (O.written out.old) (O.written out.new) number result) }
+        ensures never_bad { WhereTextStands self.old (S.files store.old)
+            (λ _. ShowIsNotBad result) }
+        ensures pages { WhereTextStands self.old (S.files store.old)
+            (PagesOfDocument self.old number (S.reads store.old) (S.reads store.new)) }
         ensures places { S.reads store.new part.Places ≤ S.reads store.old part.Places + 1 }
-        ensures added { Added (O.written out.old) (O.written out.new) (O.faults out.old) (O.faults out.new) (O.lacks out.old) (O.lacks out.new) }
-        ensures cause { IsShowCaused result (S.faults store.old) (S.faults store.new) (O.faults out.old) (O.faults out.new)
+        ensures added { Added (O.written out.old) (O.written out.new) (O.faults out.old)
+            (O.faults out.new) (O.lacks out.old) (O.lacks out.new) }
+        ensures cause { IsShowCaused result (S.faults store.old) (S.faults store.new)
+            (O.faults out.old) (O.faults out.new)
             (O.lacks out.old) (O.lacks out.new) }
     {
         self.show(store, number, out)
@@ -203,13 +215,19 @@ impl<'a, S: Store> TextReader<'a, S> {
         requires within { number ≤ self.old.documents }
         ensures fits { TextFits self.new (S.files store.new) }
         ensures same { SameText self.old self.new }
-        ensures looked { Between S.files S.reads S.faults store.old store.new (LookedAt part.Text part.Places) }
-        ensures content { GathersDoc self.old (S.files store.old) (O.written out.old) (O.written out.new) buffer.old buffer.new number result }
-        ensures never_bad { WhereTextStands self.old (S.files store.old) (λ _. ShowIsNotBad result) }
-        ensures pages { WhereTextStands self.old (S.files store.old) (PagesOfDocument self.old number (S.reads store.old) (S.reads store.new)) }
+        ensures looked { Between S.files S.reads S.faults store.old store.new
+            (LookedAt part.Text part.Places) }
+        ensures content { GathersDoc self.old (S.files store.old) (O.written out.old)
+            (O.written out.new) buffer.old buffer.new number result }
+        ensures never_bad { WhereTextStands self.old (S.files store.old)
+            (λ _. ShowIsNotBad result) }
+        ensures pages { WhereTextStands self.old (S.files store.old)
+            (PagesOfDocument self.old number (S.reads store.old) (S.reads store.new)) }
         ensures places { S.reads store.new part.Places ≤ S.reads store.old part.Places + 1 }
-        ensures added { Added (O.written out.old) (O.written out.new) (O.faults out.old) (O.faults out.new) (O.lacks out.old) (O.lacks out.new) }
-        ensures cause { IsShowCaused result (S.faults store.old) (S.faults store.new) (O.faults out.old) (O.faults out.new)
+        ensures added { Added (O.written out.old) (O.written out.new) (O.faults out.old)
+            (O.faults out.new) (O.lacks out.old) (O.lacks out.new) }
+        ensures cause { IsShowCaused result (S.faults store.old) (S.faults store.new)
+            (O.faults out.old) (O.faults out.new)
             (O.lacks out.old) (O.lacks out.new) }
     {
         self.gather_behind(store, number, buffer, out)
@@ -235,11 +253,15 @@ impl<'a, S: Store> TextReader<'a, S> {
         requires within { number ≤ self.old.documents }
         ensures fits { TextFits self.new (S.files store.new) }
         ensures same { SameText self.old self.new }
-        ensures looked { Between S.files S.reads S.faults store.old store.new (LookedAt part.Text part.Places) }
-        ensures answer { GathersWithin S.files S.reads O.written self.old store.old store.new out.old out.new buffer.old buffer.new number result }
+        ensures looked { Between S.files S.reads S.faults store.old store.new
+            (LookedAt part.Text part.Places) }
+        ensures answer { GathersWithin S.files S.reads O.written self.old store.old store.new
+            out.old out.new buffer.old buffer.new number result }
         ensures places { S.reads store.new part.Places ≤ S.reads store.old part.Places + 1 }
-        ensures added { Added (O.written out.old) (O.written out.new) (O.faults out.old) (O.faults out.new) (O.lacks out.old) (O.lacks out.new) }
-        ensures cause { IsShowCaused result (S.faults store.old) (S.faults store.new) (O.faults out.old) (O.faults out.new)
+        ensures added { Added (O.written out.old) (O.written out.new) (O.faults out.old)
+            (O.faults out.new) (O.lacks out.old) (O.lacks out.new) }
+        ensures cause { IsShowCaused result (S.faults store.old) (S.faults store.new)
+            (O.faults out.old) (O.faults out.new)
             (O.lacks out.old) (O.lacks out.new) }
     {
         let (version, size) = (self.version, self.size);
@@ -260,11 +282,15 @@ impl<'a, S: Store> TextReader<'a, S> {
         requires within { number ≤ self.old.documents }
         ensures fits { TextFits self.new (S.files store.new) }
         ensures same { SameText self.old self.new }
-        ensures looked { Between S.files S.reads S.faults store.old store.new (LookedAt part.Text part.Places) }
-        ensures answer { ShowsWithin S.files S.reads O.written self.old store.old store.new out.old out.new number result }
+        ensures looked { Between S.files S.reads S.faults store.old store.new
+            (LookedAt part.Text part.Places) }
+        ensures answer { ShowsWithin S.files S.reads O.written self.old store.old store.new out.old
+            out.new number result }
         ensures places { S.reads store.new part.Places ≤ S.reads store.old part.Places + 1 }
-        ensures added { Added (O.written out.old) (O.written out.new) (O.faults out.old) (O.faults out.new) (O.lacks out.old) (O.lacks out.new) }
-        ensures cause { IsShowCaused result (S.faults store.old) (S.faults store.new) (O.faults out.old) (O.faults out.new)
+        ensures added { Added (O.written out.old) (O.written out.new) (O.faults out.old)
+            (O.faults out.new) (O.lacks out.old) (O.lacks out.new) }
+        ensures cause { IsShowCaused result (S.faults store.old) (S.faults store.new)
+            (O.faults out.old) (O.faults out.new)
             (O.lacks out.old) (O.lacks out.new) }
     {
         let version = self.version;

@@ -51,8 +51,10 @@ impl<'a> Model for TextWriter<'a> {
 
 /// Writes a place: a number of 8 bytes.
 fn put_place<S: Store>(places: &mut PageWriter<'_>, store: &mut S, place: u64) -> Result<(), PutErr>
-    ensures bytes { OnOk result (Wrote places.old places.new (S.files store.old) (S.files store.new) (eight place)) }
-    ensures wrote { WroteTo places.old.name (S.files store.old) (S.files store.new) (S.reads store.old) (S.reads store.new) }
+    ensures bytes { OnOk result (Wrote places.old places.new (S.files store.old) (S.files store.new)
+        (eight place)) }
+    ensures wrote { WroteTo places.old.name (S.files store.old) (S.files store.new)
+        (S.reads store.old) (S.reads store.new) }
     ensures cause { HasPutCause (S.faults store.old) (S.faults store.new) result }
 {
     places.put_all(store, &eight_bytes(place))
@@ -67,12 +69,14 @@ impl<'a> TextWriter<'a> {
     /// `Failed` where the store failed; `Memory` where the store or a page that is held back wants it.
     pub fn start<S: Store>(alloc: Global, store: &mut S, base: &'a str) -> Result<Self, PutErr>
         ensures took { IfOk result (λ writer. IsOnText writer (S.files store.new) [] []) }
-        ensures empty { OnOk result (S.files store.new ≡ with_empty_text (S.files store.old) base.entry.now) }
+        ensures empty { OnOk result (S.files store.new ≡
+            with_empty_text (S.files store.old) base.entry.now) }
         ensures base { IfOk result (λ writer. writer.base ≡ base.entry.now) }
         ensures docs { IfOk result (λ writer. writer.docs ≡ 0) }
         ensures pairs { IfOk result (λ writer. writer.pairs ≡ 0) }
         ensures closed { IfOk result (λ writer. writer.is_open ≡ false) }
-        ensures others { KeepsOthers (full_name base.entry.now part.Text) (full_name base.entry.now part.Places) (S.files store.old) (S.files store.new) }
+        ensures others { KeepsOthers (full_name base.entry.now part.Text)
+            (full_name base.entry.now part.Places) (S.files store.old) (S.files store.new) }
         ensures told { is_some (S.files store.new) ≡ is_some (S.files store.old) }
         ensures reads { SameReads (S.reads store.old) (S.reads store.new) }
         ensures cause { HasPutCause (S.faults store.old) (S.faults store.new) result }
@@ -115,10 +119,12 @@ impl<'a> TextWriter<'a> {
         requires closed { self.old.is_open ≡ false }
         requires docs { self.old.docs < 2 ^ 24 }
         requires pairs { self.old.pairs + pairs ≤ 2 ^ 32 - 1 }
-        ensures took { OnOk result (TookFirst self.old self.new (S.files store.old) (S.files store.new) (gamma (pairs + 1))) }
+        ensures took { OnOk result (TookFirst self.old self.new (S.files store.old)
+            (S.files store.new) (gamma (pairs + 1))) }
         ensures began { OnOk result (Began self.old self.new pairs) }
         ensures base { self.new.base ≡ self.old.base }
-        ensures others { KeepsOthers (full_name self.old.base part.Text) (full_name self.old.base part.Places) (S.files store.old) (S.files store.new) }
+        ensures others { KeepsOthers (full_name self.old.base part.Text)
+            (full_name self.old.base part.Places) (S.files store.old) (S.files store.new) }
         ensures told { is_some (S.files store.new) ≡ is_some (S.files store.old) }
         ensures reads { SameReads (S.reads store.old) (S.reads store.new) }
         ensures cause { HasPutCause (S.faults store.old) (S.faults store.new) result }
@@ -148,14 +154,17 @@ impl<'a> TextWriter<'a> {
         stream: Stream,
         symbol: u32,
     ) -> Result<(), PutErr>
-        requires took { (docs : List Bits) × (bits : Bits) × IsOnText self.old (S.files store.old) docs bits }
+        requires took { (docs : List Bits) × (bits : Bits)
+            × IsOnText self.old (S.files store.old) docs bits }
         requires more { 0 < self.old.left }
         requires turn { stream ≡ turn self.old.left }
         requires symbol { symbol < length (code_of stream model.now).pieces }
-        ensures took { OnOk result (TookBits self.old self.new (S.files store.old) (S.files store.new) (codeword (code_of stream model.now).lengths symbol)) }
+        ensures took { OnOk result (TookBits self.old self.new (S.files store.old)
+            (S.files store.new) (codeword (code_of stream model.now).lengths symbol)) }
         ensures put { OnOk result (PutOne self.old self.new) }
         ensures base { self.new.base ≡ self.old.base }
-        ensures others { (n : List ℕ) → n ≢ full_name self.old.base part.Text → file_at (S.files store.new) n ≡ file_at (S.files store.old) n }
+        ensures others { (n : List ℕ) → n ≢ full_name self.old.base part.Text →
+            file_at (S.files store.new) n ≡ file_at (S.files store.old) n }
         ensures told { is_some (S.files store.new) ≡ is_some (S.files store.old) }
         ensures reads { SameReads (S.reads store.old) (S.reads store.new) }
         ensures cause { HasPutCause (S.faults store.old) (S.faults store.new) result }
@@ -171,13 +180,16 @@ impl<'a> TextWriter<'a> {
     ///
     /// The store's: `Failed` where it failed, `Memory` where it wants memory.
     pub fn end_doc<S: Store>(&mut self, store: &mut S) -> Result<(), PutErr>
-        requires took { (docs : List Bits) × (bits : Bits) × IsOnText self.old (S.files store.old) docs bits }
+        requires took { (docs : List Bits) × (bits : Bits)
+            × IsOnText self.old (S.files store.old) docs bits }
         requires begun { self.old.is_open ≡ true }
         requires whole { self.old.left ≡ 0 }
-        ensures took { OnOk result (TookDoc self.old self.new (S.files store.old) (S.files store.new)) }
+        ensures took { OnOk result (TookDoc self.old self.new (S.files store.old)
+            (S.files store.new)) }
         ensures ended { OnOk result (Ended self.old self.new) }
         ensures base { self.new.base ≡ self.old.base }
-        ensures others { (n : List ℕ) → n ≢ full_name self.old.base part.Text → file_at (S.files store.new) n ≡ file_at (S.files store.old) n }
+        ensures others { (n : List ℕ) → n ≢ full_name self.old.base part.Text →
+            file_at (S.files store.new) n ≡ file_at (S.files store.old) n }
         ensures told { is_some (S.files store.new) ≡ is_some (S.files store.old) }
         ensures reads { SameReads (S.reads store.old) (S.reads store.new) }
         ensures cause { HasPutCause (S.faults store.old) (S.faults store.new) result }
@@ -196,11 +208,16 @@ impl<'a> TextWriter<'a> {
     pub fn finish<S: Store>(&mut self, store: &mut S) -> Result<u64, PutErr>
         requires took { (docs : List Bits) × IsOnText self.old (S.files store.old) docs [] }
         requires closed { self.old.is_open ≡ false }
-        ensures finished { OnOk result (WhereClosed self.old (S.files store.old) (λ docs. DocumentsStand self.old.base (S.files store.new) docs)) }
-        ensures bytes { OnOk result (WhereClosed self.old (S.files store.old) (λ docs. text_at self.old.base (S.files store.new) ≡ text_bytes docs)) }
-        ensures answer { IfOk result (λ size. (docs : List Bits) → IsOnText self.old (S.files store.old) docs [] → size ≡ length (text_bytes docs)) }
+        ensures finished { OnOk result
+            (WhereClosed self.old (S.files store.old) (λ docs.
+            DocumentsStand self.old.base (S.files store.new) docs)) }
+        ensures bytes { OnOk result (WhereClosed self.old (S.files store.old)
+            (λ docs. text_at self.old.base (S.files store.new) ≡ text_bytes docs)) }
+        ensures answer { IfOk result (λ size. (docs : List Bits) →
+            IsOnText self.old (S.files store.old) docs [] → size ≡ length (text_bytes docs)) }
         ensures base { self.new.base ≡ self.old.base }
-        ensures others { KeepsOthers (full_name self.old.base part.Text) (full_name self.old.base part.Places) (S.files store.old) (S.files store.new) }
+        ensures others { KeepsOthers (full_name self.old.base part.Text)
+            (full_name self.old.base part.Places) (S.files store.old) (S.files store.new) }
         ensures told { is_some (S.files store.new) ≡ is_some (S.files store.old) }
         ensures reads { SameReads (S.reads store.old) (S.reads store.new) }
         ensures cause { HasPutCause (S.faults store.old) (S.faults store.new) result }

@@ -119,7 +119,8 @@ module _ (run : Run) (stops : Stops run Memory) (store : run.store_now ≡ run.s
 
   phrased : (n : List ℕ) → Phrased n run
   phrased n = record {
-    served = served phrase_session ReadsPhrases NeverRead serves.CountsNone n (λ code c given. record { post = rw (same_reads part.Post) (omega arith); text = rw (same_reads part.Text) (omega arith) });
+    served = served phrase_session ReadsPhrases NeverRead serves.CountsNone n (λ code c given.
+        record { post = rw (same_reads part.Post) (omega arith); text = rw (same_reads part.Text) (omega arith) });
     complete = λ c given stands some short no_store no_input no_output. inr stops;
   }
 

@@ -54,9 +54,11 @@ grown_once bytes = file_at-written (Some no_files) text_name (bytes_at (Some no_
 -- the first bytes of a file are all that it has
 pub there_by : (old new : Option Files) (bytes : List ℕ) → old ≡ Some no_files → new ≡ grown old (full_name text_name part.Plain) bytes → file_at new text_name ≡ Some bytes
 there_by old new bytes none is =
-    ap (λ (f : Option Files). file_at f text_name) (is ∙ ap (λ (f : Option Files). grown f (full_name text_name part.Plain) bytes) none ∙ ap (λ (n : List ℕ). grown (Some no_files) n bytes) once_name) ∙ grown_once bytes
+    ap (λ (f : Option Files). file_at f text_name) (is ∙ ap (λ (f : Option Files). grown f (full_name text_name part.Plain) bytes) none
+    ∙ ap (λ (n : List ℕ). grown (Some no_files) n bytes) once_name) ∙ grown_once bytes
 
-pub stands_by : (before now : Option Files) (collection : List ℕ) (version cap : ℕ) → (version ≡ 1) ⊎ (version ≡ 2) → StandsIn version cap now set_name (bytes_at before text_name) → file_at before text_name ≡ Some collection → Stands now set_name collection
+pub stands_by : (before now : Option Files) (collection : List ℕ) (version cap : ℕ) → (version ≡ 1) ⊎ (version ≡ 2) →
+    StandsIn version cap now set_name (bytes_at before text_name) → file_at before text_name ≡ Some collection → Stands now set_name collection
 stands_by before now collection version cap known stands there = subst (λ (b : List ℕ). Stands now set_name b) (bytes_there before collection there) (record {
   told = stands.told;
   stand = record { version = version; cap = cap; code = stands.code; are = stands.are };
@@ -149,7 +151,8 @@ lacking_ends s t docs collection input f wider lacks = by_case (lacks_one_of s f
 
 -- ---- too many bytes
 
-pub large_ends : (s : Type 0) (docs : ℕ) (collection input : List ℕ) (size most : ℕ) → size ≡ length collection → most ≡ held_bytes → held_bytes < size → WorkEnds s docs collection input (Err (TooLarge size most))
+pub large_ends : (s : Type 0) (docs : ℕ) (collection input : List ℕ) (size most : ℕ) → size ≡ length collection → most ≡ held_bytes → held_bytes < size →
+    WorkEnds s docs collection input (Err (TooLarge size most))
 large_ends s docs collection input size most is at more = record {
   done = tt;
   cause = (at, omega (arith, at, more), sym is);
@@ -185,7 +188,8 @@ stops_wider s t o p collection InputTooLong store output cause = cause
 stops_wider s t o p collection SameName store output cause = cause
 stops_wider s t o p collection (TooManyRotations count) store output cause = cause
 
-module _ (budget : ℕ) (store store_now : StoreAt) (collection : List ℕ) (there : file_at store.files text_name ≡ Some collection) (told : IsSome store.files) (few : length collection ≤ held_bytes) where
+module _ (budget : ℕ) (store store_now : StoreAt) (collection : List ℕ) (there : file_at store.files text_name ≡ Some collection) (told : IsSome store.files)
+    (few : length collection ≤ held_bytes) where
   bytes_are : bytes_at store.files text_name ≡ collection
   bytes_are = bytes_there store.files collection there
 
@@ -219,7 +223,8 @@ module _ (budget : ℕ) (store store_now : StoreAt) (collection : List ℕ) (the
   fits : length collection ≤ most_bytes
   fits = omega (arith, few)
 
-  pub refused_ends : (wider : Type 0) (docs : ℕ) (input : List ℕ) (f : Fault) → (StoreRose store store_now → wider) → Made text_name set_name budget store store_now (Stopped f) → WorkEnds wider docs collection input (Err f)
+  pub refused_ends : (wider : Type 0) (docs : ℕ) (input : List ℕ) (f : Fault) → (StoreRose store store_now → wider) →
+      Made text_name set_name budget store store_now (Stopped f) → WorkEnds wider docs collection input (Err f)
   refused_ends wider docs input f widen made = record {
     done = tt;
     cause = stops_wider (StoreRose store store_now) wider ⊥ ⊥ collection f widen (λ bad. bad) (build_stops f made.cause);
@@ -229,7 +234,8 @@ module _ (budget : ℕ) (store store_now : StoreAt) (collection : List ℕ) (the
     complete = λ small within never. done_too f (made.complete collection there text_is_apart within (λ rose. never (widen rose)));
   }
 
-  pub done_ends : (wider : Type 0) (docs : ℕ) (input : List ℕ) (found : TrialSummary) → Made text_name set_name budget store store_now Done → found ≡ trial_summary docs collection input → WorkEnds wider docs collection input (Ok found)
+  pub done_ends : (wider : Type 0) (docs : ℕ) (input : List ℕ) (found : TrialSummary) → Made text_name set_name budget store store_now Done →
+      found ≡ trial_summary docs collection input → WorkEnds wider docs collection input (Ok found)
   done_ends wider docs input found made is = record {
     done = is;
     cause = tt;

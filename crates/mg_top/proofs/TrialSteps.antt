@@ -114,7 +114,8 @@ module _ (s i o : Type 0) (files : Option Files) (collection given : List ℕ) (
   scan_lacks ReadFault cause = no_input cause
   scan_lacks WriteFault cause = no_output cause
   scan_lacks NoCollection cause = absurd (let none : None ≡ Some collection = sym (cause are_told) ∙ built.text in cc)
-  scan_lacks (TooLarge size most) cause = absurd (let long : length collection ≡ size = ap length (sym bytes_are) ∙ size_is files text_name size (cause.2 are_told) in omega (arith, built.few, long, cause.0, cause.1))
+  scan_lacks (TooLarge size most) cause = absurd (let long : length collection ≡ size = ap length (sym bytes_are)
+      ∙ size_is files text_name size (cause.2 are_told) in omega (arith, built.few, long, cause.0, cause.1))
   scan_lacks (Changed what first second) cause = cause.2 are_told
   scan_lacks Memory cause = tt
   scan_lacks InputTooLong cause = too_much given short (cause given is)

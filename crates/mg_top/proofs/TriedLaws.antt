@@ -84,14 +84,16 @@ module _ (seed docs : ℕ) (run : Run) (r : Result (Unit {0}) Fault) (is : run.s
     (cause : IfErr r (TrialStops ⊥ (OutputFailed run) (made_collection seed docs)))
     (large : held_bytes < length (made_collection seed docs) → RefusedFor r (TooLarge (length (made_collection seed docs)) held_bytes))
     (documents : length (made_collection seed docs) ≤ held_bytes → PassesFirst version_2 (made_collection seed docs) start → RefusedFor r TooManyDocuments)
-    (pieces : (stream : Stream) (word : List ℕ) → length (made_collection seed docs) ≤ held_bytes → PassesFirst version_2 (made_collection seed docs) (piece stream word) → RefusedFor r (TooManyPieces stream))
+    (pieces : (stream : Stream) (word : List ℕ) → length (made_collection seed docs) ≤ held_bytes →
+    PassesFirst version_2 (made_collection seed docs) (piece stream word) → RefusedFor r (TooManyPieces stream))
     (complete : length (made_collection seed docs) ≤ held_bytes → IsWithinLimits 2 (made_collection seed docs) → ¬ OutputFailed run → IsDone r) where
   stops_or : (g : Fault) → RefusedFor r g → Stops run g ⊎ Stops run Memory
   stops_or g (inl e) = inl (is ∙ ap status_of e)
   stops_or g (inr (inl e)) = absurd (no_store_fault r (OutputFailed run) (made_collection seed docs) cause e)
   stops_or g (inr (inr e)) = inr (is ∙ ap status_of e)
 
-  put_when_done : (q : Result (Unit {0}) Fault) → status_of q ≡ Done → AfterPut run.out.written run.out_now.written (trial_text seed docs) q → run.out_now.written ≡ appended run.out.written (trial_text seed docs)
+  put_when_done : (q : Result (Unit {0}) Fault) → status_of q ≡ Done → AfterPut run.out.written run.out_now.written (trial_text seed docs) q →
+      run.out_now.written ≡ appended run.out.written (trial_text seed docs)
   put_when_done (Ok u) end put = put
   put_when_done (Err f) end put = cc
 

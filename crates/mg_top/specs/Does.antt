@@ -43,7 +43,8 @@ pub record Ran (words : List Word) (run : Run) : Type 0 where
   pub usage : Stops run Usage → IsRefused words
   pub does : Does (task_of words) run
   -- the fault's line goes to the error output, or a prefix of it where that failed or lacked memory
-  pub told : ToldWhy run.status run.err.written run.err_now.written run.err.faults run.err_now.faults run.err.lacks run.err_now.lacks
+  pub told : ToldWhy run.status run.err.written run.err_now.written run.err.faults run.err_now.faults run.err.lacks
+      run.err_now.lacks
 
 -- the same by the words of a command line
 abbrev pub RanFor : {A : Type 0} → List (String A) → Run → Type 0

@@ -17,11 +17,13 @@ bytes_line name number = concat (name ∷ codes " " ∷ decimal number ∷ codes
 
 -- that a set stands: how many documents and bytes its collection has
 unfoldable pub stands_line : ℕ → ℕ → List ℕ
-stands_line documents bytes = concat (codes "stands " ∷ decimal documents ∷ codes " documents " ∷ decimal bytes ∷ codes " bytes\n" ∷ [])
+stands_line documents bytes = concat (codes "stands " ∷ decimal documents ∷ codes " documents " ∷ decimal bytes ∷
+    codes " bytes\n" ∷ [])
 
 -- what was compared, a blank, and how it came out
 unfoldable pub compared_line : List ℕ → Bool → List ℕ
-compared_line name same = concat (name ∷ codes " " ∷ (if same then codes "same" else codes "different") ∷ codes "\n" ∷ [])
+compared_line name same = concat (name ∷ codes " " ∷ (if same then codes "same" else codes "different") ∷ codes "\n" ∷
+    [])
 
 abbrev pub line_text : Line → List ℕ
 line_text (Number name number) = number_line name.now number

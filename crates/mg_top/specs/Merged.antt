@@ -13,7 +13,8 @@ pub record Merged (first second new : List ℕ) (run : Run) : Type 0 where
   -- the new set is made of both in one, or the merge is refused, as `Joined` says by the store before it and after it
   pub joined : CallsOnce (Joined first second new run.store run.store_now) run
   -- of the summary of both in one a prefix is printed, all of it at status 0
-  pub prints : (version cap : ℕ) (a b : List ℕ) → StandsIn version cap run.store.files first a → Stands run.store.files second b
+  pub prints : (version cap : ℕ) (a b : List ℕ) → StandsIn version cap run.store.files first a →
+      Stands run.store.files second b
       → Prints (summary_text (join a b) (budget_of cap)) run
   -- the input is not read
   pub input : run.input_now ≡ run.input

@@ -9,34 +9,38 @@ use Rattle.mg_dev.specs.declared.store.Store as stores
 -- a run over a store, an input, an output and an error output
 abbrev pub RunsBy : {X Y Z W : Type 0} → stores.Ghosts X → sources.Ghosts Y → sinks.Ghosts Z → sinks.Ghosts W
     → X → X → Y → Y → Z → Z → W → W → Status → (Run → Type 0) → Type 0
-RunsBy of_store of_input of_out of_err store store_now input input_now out out_now err err_now result holds = holds (record {
-  store = store_at of_store.files of_store.reads of_store.faults store;
-  store_now = store_at of_store.files of_store.reads of_store.faults store_now;
-  input = source_at of_input.left of_input.faults input;
-  input_now = source_at of_input.left of_input.faults input_now;
-  out = sink_at of_out.written of_out.faults of_out.lacks out;
-  out_now = sink_at of_out.written of_out.faults of_out.lacks out_now;
-  err = sink_at of_err.written of_err.faults of_err.lacks err;
-  err_now = sink_at of_err.written of_err.faults of_err.lacks err_now;
-  status = result;
-})
+RunsBy of_store of_input of_out of_err store store_now input input_now out out_now err err_now result holds =
+    holds (record {
+      store = store_at of_store.files of_store.reads of_store.faults store;
+      store_now = store_at of_store.files of_store.reads of_store.faults store_now;
+      input = source_at of_input.left of_input.faults input;
+      input_now = source_at of_input.left of_input.faults input_now;
+      out = sink_at of_out.written of_out.faults of_out.lacks out;
+      out_now = sink_at of_out.written of_out.faults of_out.lacks out_now;
+      err = sink_at of_err.written of_err.faults of_err.lacks err;
+      err_now = sink_at of_err.written of_err.faults of_err.lacks err_now;
+      status = result;
+    })
 
 -- a run over no input: so it is whatever the input is, which is not read
-abbrev pub RunsByStore : {X Z W : Type 0} → stores.Ghosts X → sinks.Ghosts Z → sinks.Ghosts W → X → X → Z → Z → W → W → Status → (Run → Type 0) → Type 0
-RunsByStore of_store of_out of_err store store_now out out_now err err_now result holds = (input : SourceAt) → holds (record {
-  store = store_at of_store.files of_store.reads of_store.faults store;
-  store_now = store_at of_store.files of_store.reads of_store.faults store_now;
-  input = input;
-  input_now = input;
-  out = sink_at of_out.written of_out.faults of_out.lacks out;
-  out_now = sink_at of_out.written of_out.faults of_out.lacks out_now;
-  err = sink_at of_err.written of_err.faults of_err.lacks err;
-  err_now = sink_at of_err.written of_err.faults of_err.lacks err_now;
-  status = result;
-})
+abbrev pub RunsByStore : {X Z W : Type 0} → stores.Ghosts X → sinks.Ghosts Z → sinks.Ghosts W → X → X → Z → Z → W → W →
+    Status → (Run → Type 0) → Type 0
+RunsByStore of_store of_out of_err store store_now out out_now err err_now result holds = (input : SourceAt) →
+    holds (record {
+      store = store_at of_store.files of_store.reads of_store.faults store;
+      store_now = store_at of_store.files of_store.reads of_store.faults store_now;
+      input = input;
+      input_now = input;
+      out = sink_at of_out.written of_out.faults of_out.lacks out;
+      out_now = sink_at of_out.written of_out.faults of_out.lacks out_now;
+      err = sink_at of_err.written of_err.faults of_err.lacks err;
+      err_now = sink_at of_err.written of_err.faults of_err.lacks err_now;
+      status = result;
+    })
 
 -- a run over no store and no input: so it is whatever they are, which are not touched
-abbrev pub RunsAlone : {Z W : Type 0} → sinks.Ghosts Z → sinks.Ghosts W → Z → Z → W → W → Status → (Run → Type 0) → Type 0
+abbrev pub RunsAlone : {Z W : Type 0} → sinks.Ghosts Z → sinks.Ghosts W → Z → Z → W → W → Status → (Run → Type 0) →
+    Type 0
 RunsAlone of_out of_err out out_now err err_now result holds = (store : StoreAt) (input : SourceAt) → holds (record {
   store = store;
   store_now = store;

@@ -58,16 +58,19 @@ Lacks store_rose _ = ⊥
 abbrev pub TrialStops : Type 0 → Type 0 → List ℕ → Fault → Type 0
 TrialStops store_rose output_rose collection StoreFault = store_rose
 TrialStops store_rose output_rose collection WriteFault = output_rose
-TrialStops store_rose output_rose collection (TooLarge size most) = (most ≡ held_bytes) × (most < size) × (length collection ≡ size)
+TrialStops store_rose output_rose collection (TooLarge size most) = (most ≡ held_bytes) × (most < size)
+    × (length collection ≡ size)
 TrialStops store_rose output_rose collection TooManyDocuments = PassesFirst version_2 collection start
-TrialStops store_rose output_rose collection (TooManyPieces stream) = (bytes : List ℕ) × PassesFirst version_2 collection (piece stream bytes)
+TrialStops store_rose output_rose collection (TooManyPieces stream) = (bytes : List ℕ)
+    × PassesFirst version_2 collection (piece stream bytes)
 TrialStops store_rose output_rose collection Memory = Unit {0}
 TrialStops store_rose output_rose collection _ = ⊥
 
 -- why a trial stops, by how often the store and the output failed before it and after it
 abbrev pub TrialStopsBy : {X Z T : Type 0} → (X → ℕ) → (Z → ℕ) → X → X → Z → Z → Result T Fault → List ℕ → Type 0
 TrialStopsBy store_faults output_faults store store_now out out_now result collection =
-    IfErr result (TrialStops (Rose (store_faults store) (store_faults store_now)) (Rose (output_faults out) (output_faults out_now)) collection)
+    IfErr result (TrialStops (Rose (store_faults store) (store_faults store_now))
+    (Rose (output_faults out) (output_faults out_now)) collection)
 
 -- what is answered is a sink that holds these bytes
 abbrev pub HoldsText : {Z : Type 0} → (Z → Option (List ℕ)) → Result Z Fault → List ℕ → Type 0
@@ -96,10 +99,13 @@ abbrev pub WhereAllowed : ℕ → ℕ → Type 0 → Type 0
 WhereAllowed seed docs fact = IsHeld seed docs → IsAllowed seed docs → fact
 
 -- How the work before the first line ends, by whether the store failed, and by what was made.
-pub record WorkEnds (store_rose : Type 0) (docs : ℕ) (collection input : List ℕ) (result : Result TrialSummary Fault) : Type 0 where
+pub record WorkEnds (store_rose : Type 0) (docs : ℕ) (collection input : List ℕ) (result : Result TrialSummary Fault) :
+    Type 0 where
   pub done : IfOk result (λ summary. summary ≡ trial_summary docs collection input)
   pub cause : IfErr result (TrialStops store_rose ⊥ collection)
   pub large : held_bytes < length collection → RefusedFor result (TooLarge (length collection) held_bytes)
-  pub documents : length collection ≤ held_bytes → PassesFirst version_2 collection start → RefusedFor result TooManyDocuments
-  pub pieces : (stream : Stream) (bytes : List ℕ) → length collection ≤ held_bytes → PassesFirst version_2 collection (piece stream bytes) → RefusedFor result (TooManyPieces stream)
+  pub documents : length collection ≤ held_bytes → PassesFirst version_2 collection start →
+      RefusedFor result TooManyDocuments
+  pub pieces : (stream : Stream) (bytes : List ℕ) → length collection ≤ held_bytes →
+      PassesFirst version_2 collection (piece stream bytes) → RefusedFor result (TooManyPieces stream)
   pub complete : length collection ≤ held_bytes → IsWithinLimits 2 collection → (store_rose → ⊥) → IsDone result

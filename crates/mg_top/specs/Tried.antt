@@ -23,12 +23,16 @@ pub record Tried (seed docs : ℕ) (run : Run) : Type 0 where
   -- the cause of every other status, which is 4, 8, 9, 10 or 12
   pub cause : IfStopped run.status (TrialStops ⊥ (OutputFailed run) (made_collection seed docs))
   -- 8, 9 and 10 come exactly where they have it, in this order, unless memory is wanting
-  pub large : held_bytes < length (made_collection seed docs) → Stops run (TooLarge (length (made_collection seed docs)) held_bytes) ⊎ Stops run Memory
-  pub documents : length (made_collection seed docs) ≤ held_bytes → PassesFirst version_2 (made_collection seed docs) start → Stops run TooManyDocuments ⊎ Stops run Memory
+  pub large : held_bytes < length (made_collection seed docs) →
+      Stops run (TooLarge (length (made_collection seed docs)) held_bytes) ⊎ Stops run Memory
+  pub documents : length (made_collection seed docs) ≤ held_bytes →
+      PassesFirst version_2 (made_collection seed docs) start → Stops run TooManyDocuments ⊎ Stops run Memory
   pub pieces : (stream : Stream) (word : List ℕ) → length (made_collection seed docs) ≤ held_bytes
-      → PassesFirst version_2 (made_collection seed docs) (piece stream word) → Stops run (TooManyPieces stream) ⊎ Stops run Memory
+      → PassesFirst version_2 (made_collection seed docs) (piece stream word) →
+      Stops run (TooManyPieces stream) ⊎ Stops run Memory
   -- where the collection is within the limits and the output does not fail, it is done, or memory is wanting
-  pub complete : length (made_collection seed docs) ≤ held_bytes → IsWithinLimits 2 (made_collection seed docs) → ¬ OutputFailed run → (run.status ≡ Done) ⊎ Stops run Memory
+  pub complete : length (made_collection seed docs) ≤ held_bytes → IsWithinLimits 2 (made_collection seed docs) →
+      ¬ OutputFailed run → (run.status ≡ Done) ⊎ Stops run Memory
   -- neither the store nor the input is touched
   pub store : run.store_now ≡ run.store
   pub input : run.input_now ≡ run.input

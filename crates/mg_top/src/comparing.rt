@@ -38,8 +38,10 @@ pub(crate) fn is_decoded<S: Store>(alloc: Global, store: &mut S, text: &[u8]) ->
 fn served<S: Store>(alloc: Global, store: &mut S, questions: &[u8]) -> Result<SureSink, Fault>
     requires short { length questions.now ≤ 1670 }
     ensures replies { ForEach (IsBuilt (S.files store.old))
-        (λ collection. HoldsText ⟦<SureSink as Sink>⟧.written result (session collection questions.now)) }
-    ensures cause { ForEach (IsBuilt (S.files store.old)) (λ collection. IfErr result (Lacks (Rose (S.faults store.old) (S.faults store.new)))) }
+        (λ collection. HoldsText ⟦<SureSink as Sink>⟧.written result
+        (session collection questions.now)) }
+    ensures cause { ForEach (IsBuilt (S.files store.old))
+        (λ collection. IfErr result (Lacks (Rose (S.faults store.old) (S.faults store.new)))) }
     ensures files { S.files store.new ≡ S.files store.old }
     ensures later { S.faults store.old ≤ S.faults store.new }
 {
@@ -58,8 +60,10 @@ fn served<S: Store>(alloc: Global, store: &mut S, questions: &[u8]) -> Result<Su
 fn scanned<S: Store>(alloc: Global, store: &mut S, questions: &[u8]) -> Result<SureSink, Fault>
     requires short { length questions.now ≤ 1670 }
     ensures replies { ForEach (IsBuilt (S.files store.old))
-        (λ collection. HoldsText ⟦<SureSink as Sink>⟧.written result (session collection questions.now)) }
-    ensures cause { ForEach (IsBuilt (S.files store.old)) (λ collection. IfErr result (Lacks (Rose (S.faults store.old) (S.faults store.new)))) }
+        (λ collection. HoldsText ⟦<SureSink as Sink>⟧.written result
+        (session collection questions.now)) }
+    ensures cause { ForEach (IsBuilt (S.files store.old))
+        (λ collection. IfErr result (Lacks (Rose (S.faults store.old) (S.faults store.new)))) }
     ensures files { S.files store.new ≡ S.files store.old }
     ensures later { S.faults store.old ≤ S.faults store.new }
 {
@@ -99,8 +103,10 @@ pub(crate) struct Replies {
 /// Asks the questions of a trial of the set and of the collection's text.
 pub(crate) fn ask_both<S: Store>(alloc: Global, store: &mut S, seed: u64) -> Result<Replies, Fault>
     ensures replies { ForEach (IsBuilt (S.files store.old))
-        (λ collection. IfOk result (λ replies. replies ≡ replies_of collection (made_session seed))) }
-    ensures cause { ForEach (IsBuilt (S.files store.old)) (λ collection. IfErr result (Lacks (Rose (S.faults store.old) (S.faults store.new)))) }
+        (λ collection. IfOk result (λ replies. replies ≡
+        replies_of collection (made_session seed))) }
+    ensures cause { ForEach (IsBuilt (S.files store.old))
+        (λ collection. IfErr result (Lacks (Rose (S.faults store.old) (S.faults store.new)))) }
     ensures files { S.files store.new ≡ S.files store.old }
     ensures later { S.faults store.old ≤ S.faults store.new }
 {

@@ -16,7 +16,8 @@ pub fn usage_asks_nothing()
 
 /// A run that lacks memory before it touched a device does what each tool promises.
 pub fn lacking_runs_do_all()
-    ensures { (task : Option Task) (run : Run) → Stops run Memory → run.store_now ≡ run.store → run.input_now ≡ run.input →
+    ensures { (task : Option Task) (run : Run) → Stops run Memory → run.store_now ≡ run.store →
+        run.input_now ≡ run.input →
         run.out_now ≡ run.out → Does task run }
 {}
 
@@ -27,13 +28,17 @@ pub fn runs_end_by_their_call()
     // At status 0 the call was done.
     ensures done { (call : Status) (run : Run) → EndsBy call run → run.status ≡ Done → call ≡ Done }
     // At another status the call stopped for the same fault, or it was done and the output is why.
-    ensures stopped { (call : Status) (run : Run) (fault : Fault) → EndsBy call run → Stops run fault →
+    ensures stopped { (call : Status) (run : Run) (fault : Fault) → EndsBy call run →
+        Stops run fault →
         (call ≡ Stopped fault) ⊎ ((call ≡ Done) × StopsByOutput run fault) }
     // A refusal that the call owes is the run's.
-    ensures refused { (call : Status) (run : Run) (fault : Fault) → EndsBy call run → StoppedFor call fault → StopsUnless run fault }
+    ensures refused { (call : Status) (run : Run) (fault : Fault) → EndsBy call run →
+        StoppedFor call fault → StopsUnless run fault }
     // Where the call is done but for memory, the run is too, unless the output fails.
-    ensures complete { (call : Status) (run : Run) → EndsBy call run → (call ≡ Done) ⊎ (call ≡ Stopped Memory) →
+    ensures complete { (call : Status) (run : Run) → EndsBy call run →
+        (call ≡ Done) ⊎ (call ≡ Stopped Memory) →
         ¬ OutputFailed run → (run.status ≡ Done) ⊎ Stops run Memory }
     // Nothing is printed but at status 0 and 4, and at 12 where the output lacked memory.
-    ensures silent { (call : Status) (run : Run) → EndsBy call run → IfStopped run.status (SilentOnOutput run) }
+    ensures silent { (call : Status) (run : Run) → EndsBy call run →
+        IfStopped run.status (SilentOnOutput run) }
 {}

@@ -28,7 +28,8 @@ pub(crate) enum Line<'a> {
 
 #[tactic(auto, unfolding(crate::specs::Lines::pool_line))]
 fn put_pool<O: Sink>(out: &mut O, peak: u64, budget: u64) -> Result<(), PutErr>
-    ensures content { AfterPut (O.written out.old) (O.written out.new) (pool_line peak budget) result }
+    ensures content { AfterPut (O.written out.old) (O.written out.new) (pool_line peak budget)
+        result }
     ensures cause { HasPutCause (O.faults out.old) (O.faults out.new) result }
     ensures lack { HasLack (O.lacks out.old) (O.lacks out.new) result }
 {
@@ -43,7 +44,8 @@ fn put_pool<O: Sink>(out: &mut O, peak: u64, budget: u64) -> Result<(), PutErr>
 }
 
 fn put_number<O: Sink>(out: &mut O, name: &str, number: u64) -> Result<(), PutErr>
-    ensures content { AfterPut (O.written out.old) (O.written out.new) (number_line name.now number) result }
+    ensures content { AfterPut (O.written out.old) (O.written out.new) (number_line name.now number)
+        result }
     ensures cause { HasPutCause (O.faults out.old) (O.faults out.new) result }
     ensures lack { HasLack (O.lacks out.old) (O.lacks out.new) result }
 {
@@ -58,7 +60,8 @@ fn put_number<O: Sink>(out: &mut O, name: &str, number: u64) -> Result<(), PutEr
 
 #[tactic(auto, unfolding(crate::specs::Lines::bytes_line))]
 fn put_bytes<O: Sink>(out: &mut O, name: &str, number: u64) -> Result<(), PutErr>
-    ensures content { AfterPut (O.written out.old) (O.written out.new) (bytes_line name.now number) result }
+    ensures content { AfterPut (O.written out.old) (O.written out.new) (bytes_line name.now number)
+        result }
     ensures cause { HasPutCause (O.faults out.old) (O.faults out.new) result }
     ensures lack { HasLack (O.lacks out.old) (O.lacks out.new) result }
 {
@@ -73,7 +76,8 @@ fn put_bytes<O: Sink>(out: &mut O, name: &str, number: u64) -> Result<(), PutErr
 
 #[tactic(auto, unfolding(crate::specs::Lines::compared_line))]
 fn put_compared<O: Sink>(out: &mut O, name: &str, same: bool) -> Result<(), PutErr>
-    ensures content { AfterPut (O.written out.old) (O.written out.new) (compared_line name.now same) result }
+    ensures content { AfterPut (O.written out.old) (O.written out.new) (compared_line name.now same)
+        result }
     ensures cause { HasPutCause (O.faults out.old) (O.faults out.new) result }
     ensures lack { HasLack (O.lacks out.old) (O.lacks out.new) result }
 {
@@ -88,7 +92,8 @@ fn put_compared<O: Sink>(out: &mut O, name: &str, same: bool) -> Result<(), PutE
 }
 
 fn put_line<O: Sink>(out: &mut O, line: Line<'_>) -> Result<(), PutErr>
-    ensures content { AfterPut (O.written out.old) (O.written out.new) (line_text line.entry) result }
+    ensures content { AfterPut (O.written out.old) (O.written out.new) (line_text line.entry)
+        result }
     ensures cause { HasPutCause (O.faults out.old) (O.faults out.new) result }
     ensures lack { HasLack (O.lacks out.old) (O.lacks out.new) result }
 {
@@ -102,7 +107,8 @@ fn put_line<O: Sink>(out: &mut O, line: Line<'_>) -> Result<(), PutErr>
 
 #[tactic(auto, using(mg_dev::specs::StreamLaws::stream_laws))]
 fn put_lines<O: Sink>(out: &mut O, lines: &[Line<'_>]) -> Result<(), PutErr>
-    ensures content { AfterPut (O.written out.old) (O.written out.new) (flat_map line_text lines.now) result }
+    ensures content { AfterPut (O.written out.old) (O.written out.new)
+        (flat_map line_text lines.now) result }
     ensures cause { HasPutCause (O.faults out.old) (O.faults out.new) result }
     ensures lack { HasLack (O.lacks out.old) (O.lacks out.new) result }
 {
@@ -118,7 +124,8 @@ fn put_lines<O: Sink>(out: &mut O, lines: &[Line<'_>]) -> Result<(), PutErr>
 /// Writes that a set stands: how many documents and bytes its collection has.
 #[tactic(auto, unfolding(crate::specs::Lines::stands_line))]
 pub(crate) fn put_standing<O: Sink>(out: &mut O, documents: u32, bytes: u64) -> Result<(), PutErr>
-    ensures content { AfterPut (O.written out.old) (O.written out.new) (stands_line documents bytes) result }
+    ensures content { AfterPut (O.written out.old) (O.written out.new) (stands_line documents bytes)
+        result }
     ensures cause { HasPutCause (O.faults out.old) (O.faults out.new) result }
     ensures lack { HasLack (O.lacks out.old) (O.lacks out.new) result }
 {
@@ -134,7 +141,8 @@ pub(crate) fn put_standing<O: Sink>(out: &mut O, documents: u32, bytes: u64) -> 
 
 /// Writes how many documents a set has.
 pub(crate) fn put_documents<O: Sink>(out: &mut O, documents: u32) -> Result<(), PutErr>
-    ensures content { AfterPut (O.written out.old) (O.written out.new) (number_line (codes "documents") documents) result }
+    ensures content { AfterPut (O.written out.old) (O.written out.new)
+        (number_line (codes "documents") documents) result }
     ensures cause { HasPutCause (O.faults out.old) (O.faults out.new) result }
     ensures lack { HasLack (O.lacks out.old) (O.lacks out.new) result }
 {
@@ -144,7 +152,8 @@ pub(crate) fn put_documents<O: Sink>(out: &mut O, documents: u32) -> Result<(), 
 /// Writes the seven lines of a build's summary.
 #[tactic(auto, unfolding(crate::specs::Lines::summary_lines))]
 pub(crate) fn put_summary<O: Sink>(out: &mut O, summary: &Summary) -> Result<(), PutErr>
-    ensures content { AfterPut (O.written out.old) (O.written out.new) (summary_lines summary.now) result }
+    ensures content { AfterPut (O.written out.old) (O.written out.new) (summary_lines summary.now)
+        result }
     ensures cause { HasPutCause (O.faults out.old) (O.faults out.new) result }
     ensures lack { HasLack (O.lacks out.old) (O.lacks out.new) result }
 {
@@ -184,7 +193,8 @@ pub(crate) fn put_summary<O: Sink>(out: &mut O, summary: &Summary) -> Result<(),
 /// Writes the seven lines of a trial's summary.
 #[tactic(auto, unfolding(crate::specs::Lines::trial_summary_lines))]
 pub(crate) fn put_trial_summary<O: Sink>(out: &mut O, summary: &TrialSummary) -> Result<(), PutErr>
-    ensures content { AfterPut (O.written out.old) (O.written out.new) (trial_summary_lines summary.now) result }
+    ensures content { AfterPut (O.written out.old) (O.written out.new)
+        (trial_summary_lines summary.now) result }
     ensures cause { HasPutCause (O.faults out.old) (O.faults out.new) result }
     ensures lack { HasLack (O.lacks out.old) (O.lacks out.new) result }
 {

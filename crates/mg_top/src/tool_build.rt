@@ -24,8 +24,10 @@ pub(crate) fn run_build<S: Store, O: Sink, E: Sink>(
     requires least { 4096 ≤ budget }
     requires most { budget ≤ 2 ^ 30 }
     // Whatever the input is, which is not read.
-    ensures does { RunsByStore S.Store O.Sink E.Sink store.old store.new out.old out.new err.old err.new result (Built collection.now name.now budget) }
-    ensures told { ToldWhy result (E.written err.old) (E.written err.new) (E.faults err.old) (E.faults err.new) (E.lacks err.old) (E.lacks err.new) }
+    ensures does { RunsByStore S.Store O.Sink E.Sink store.old store.new out.old out.new err.old
+        err.new result (Built collection.now name.now budget) }
+    ensures told { ToldWhy result (E.written err.old) (E.written err.new) (E.faults err.old)
+        (E.faults err.new) (E.lacks err.old) (E.lacks err.new) }
 {
     match build(alloc, store, collection, name, budget) {
         Ok(summary) => match put_summary(out, &summary) {

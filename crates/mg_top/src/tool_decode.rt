@@ -17,8 +17,10 @@ pub(crate) fn run_decode<S: Store, O: Sink, E: Sink>(
     err: &mut E,
 ) -> Status
     // Whatever the input is, which is not read.
-    ensures does { RunsByStore S.Store O.Sink E.Sink store.old store.new out.old out.new err.old err.new result (Decoded name.now) }
-    ensures told { ToldWhy result (E.written err.old) (E.written err.new) (E.faults err.old) (E.faults err.new) (E.lacks err.old) (E.lacks err.new) }
+    ensures does { RunsByStore S.Store O.Sink E.Sink store.old store.new out.old out.new err.old
+        err.new result (Decoded name.now) }
+    ensures told { ToldWhy result (E.written err.old) (E.written err.new) (E.faults err.old)
+        (E.faults err.new) (E.lacks err.old) (E.lacks err.new) }
 {
     match decode(alloc, store, name, out) {
         Ok(()) => Status::Done,

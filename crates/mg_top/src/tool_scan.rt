@@ -17,8 +17,10 @@ pub(crate) fn run_scan<S: Store, I: Source, O: Sink, E: Sink>(
     out: &mut O,
     err: &mut E,
 ) -> Status
-    ensures does { RunsBy S.Store I.Source O.Sink E.Sink store.old store.new input.old input.new out.old out.new err.old err.new result (Scanned name.now) }
-    ensures told { ToldWhy result (E.written err.old) (E.written err.new) (E.faults err.old) (E.faults err.new) (E.lacks err.old) (E.lacks err.new) }
+    ensures does { RunsBy S.Store I.Source O.Sink E.Sink store.old store.new input.old input.new
+        out.old out.new err.old err.new result (Scanned name.now) }
+    ensures told { ToldWhy result (E.written err.old) (E.written err.new) (E.faults err.old)
+        (E.faults err.new) (E.lacks err.old) (E.lacks err.new) }
 {
     match scan(alloc, store, name, input, out) {
         Ok(()) => Status::Done,

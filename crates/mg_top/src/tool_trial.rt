@@ -21,8 +21,10 @@ pub(crate) fn run_trial<O: Sink, E: Sink>(
     requires some { 1 ≤ docs }
     requires most { docs ≤ 20000 }
     // Whatever the store and the input are, which are not touched.
-    ensures does { RunsAlone O.Sink E.Sink out.old out.new err.old err.new result (Tried seed docs) }
-    ensures told { ToldWhy result (E.written err.old) (E.written err.new) (E.faults err.old) (E.faults err.new) (E.lacks err.old) (E.lacks err.new) }
+    ensures does { RunsAlone O.Sink E.Sink out.old out.new err.old err.new result
+        (Tried seed docs) }
+    ensures told { ToldWhy result (E.written err.old) (E.written err.new) (E.faults err.old)
+        (E.faults err.new) (E.lacks err.old) (E.lacks err.new) }
 {
     let mut store = SureStore::new(alloc);
     match trial(alloc, &mut store, seed, docs, out) {

@@ -46,7 +46,8 @@ pub fn run<S: Store, I: Source, O: Sink, E: Sink>(
     out: &mut O,
     err: &mut E,
 ) -> Status
-    ensures { RunsBy S.Store I.Source O.Sink E.Sink store.old store.new input.old input.new out.old out.new err.old err.new result (RanFor words.now) }
+    ensures { RunsBy S.Store I.Source O.Sink E.Sink store.old store.new input.old input.new out.old
+        out.new err.old err.new result (RanFor words.now) }
 {
     match read_words(alloc, words) {
         Ok(

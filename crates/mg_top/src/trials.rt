@@ -69,7 +69,8 @@ fn try_all<S: Store>(
     docs: u32,
 ) -> Result<TrialSummary, Fault>
     requires none { S.files store.old ≡ Some no_files }
-    ensures ends { WorkEnds (Rose (S.faults store.old) (S.faults store.new)) docs (made_collection seed docs) (made_session seed) result }
+    ensures ends { WorkEnds (Rose (S.faults store.old) (S.faults store.new)) docs
+        (made_collection seed docs) (made_session seed) result }
     ensures built { OnOk result (IsBuilt (S.files store.new) (made_collection seed docs)) }
     ensures later { S.faults store.old ≤ S.faults store.new }
 {
@@ -133,18 +134,24 @@ pub fn trial<S: Store, O: Sink>(
     ensures text { AfterPut (O.written out.old) (O.written out.new) (trial_text seed docs) result }
     // Then the store has the collection in its file, and the set.
     ensures built { OnOk result (IsBuilt (S.files store.new) (made_collection seed docs)) }
-    ensures silent { IfErr result (SilentAfter (O.written out.old) (O.written out.new) (O.lacks out.old) (O.lacks out.new)) }
+    ensures silent { IfErr result (SilentAfter (O.written out.old) (O.written out.new)
+        (O.lacks out.old) (O.lacks out.new)) }
     // The cause of each refusal.
-    ensures cause { TrialStopsBy S.faults O.faults store.old store.new out.old out.new result (made_collection seed docs) }
+    ensures cause { TrialStopsBy S.faults O.faults store.old store.new out.old out.new result
+        (made_collection seed docs) }
     ensures later { S.faults store.old ≤ S.faults store.new }
     // What the collection has too much of is told, in this order.
-    ensures large { held_bytes < length (made_collection seed docs) → RefusedFor result (fault.TooLarge (length (made_collection seed docs)) held_bytes) }
-    ensures documents { WhereBeyond seed docs start_mark (RefusedFor result fault.TooManyDocuments) }
+    ensures large { held_bytes < length (made_collection seed docs) →
+        RefusedFor result (fault.TooLarge (length (made_collection seed docs)) held_bytes) }
+    ensures documents { WhereBeyond seed docs start_mark
+        (RefusedFor result fault.TooManyDocuments) }
     ensures pieces { (stream : Kind) (piece : List ℕ) →
-        WhereBeyond seed docs (piece_mark stream piece) (RefusedFor result (fault.TooManyPieces stream)) }
+        WhereBeyond seed docs (piece_mark stream piece)
+        (RefusedFor result (fault.TooManyPieces stream)) }
     // Within the limits it is done, or memory lacks.
     ensures complete { WhereAllowed seed docs
-        (¬ Rose (S.faults store.old) (S.faults store.new) → ¬ Rose (O.faults out.old) (O.faults out.new) → IsDone result) }
+        (¬ Rose (S.faults store.old) (S.faults store.new) →
+        ¬ Rose (O.faults out.old) (O.faults out.new) → IsDone result) }
 {
     match try_all(alloc, store, seed, docs) {
         Ok(summary) => match put_trial_summary(out, &summary) {

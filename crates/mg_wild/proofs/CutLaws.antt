@@ -66,7 +66,8 @@ numbered-at number (i ∷ infos) (suc k) info h e =
     let n : suc number + k ≡ number + suc k = omega arith in
     subst (λ m. IsNumbered m info) n (numbered-at (suc number) infos k info h.1 e)
 
-pub block-push : (ends bytes : List ℕ) (infos : List TermInfo) (term new now : List ℕ) (info : TermInfo) (more : List TermInfo) → IsTermBlock ends bytes infos → length bytes + length term + length ends < most_rotations → length term ≤ 255 → IsNumbered (length ends) info →
+pub block-push : (ends bytes : List ℕ) (infos : List TermInfo) (term new now : List ℕ) (info : TermInfo) (more : List TermInfo) → IsTermBlock ends bytes infos →
+    length bytes + length term + length ends < most_rotations → length term ≤ 255 → IsNumbered (length ends) info →
     new ≡ ends ++ (length bytes + length term) ∷ [] → now ≡ bytes ++ term → more ≡ infos ++ info ∷ [] → IsTermBlock new now more
 block-push ends bytes infos term new now info more is few low at e f g =
     let long : length now ≡ length bytes + length term = ap length f ∙ length-append bytes term in
@@ -109,20 +110,27 @@ rises-at from (end ∷ ends) to zero h l = (h.0, ends-rise end ends to h.1)
 rises-at from (end ∷ ends) to (suc zero) h l = rises-at end ends to zero h.1 (omega arith)
 rises-at from (end ∷ ends) to (suc (suc number)) h l = rises-at end ends to (suc number) h.1 (omega arith)
 
-term-at : (from : ℕ) (ends bytes : List ℕ) (number : ℕ) → number < length ends → get_or (cut from ends bytes) number [] ≡ take (get_or ends number 0 - start_from from ends number) (drop (start_from from ends number) bytes)
+term-at : (from : ℕ) (ends bytes : List ℕ) (number : ℕ) → number < length ends → get_or (cut from ends bytes) number []
+    ≡ take (get_or ends number 0 - start_from from ends number) (drop (start_from from ends number) bytes)
 term-at from [] bytes number l = absurd (omega arith)
 term-at from (end ∷ ends) bytes zero l = refl
 term-at from (end ∷ ends) bytes (suc zero) l = term-at end ends bytes zero (omega arith)
 term-at from (end ∷ ends) bytes (suc (suc number)) l = term-at end ends bytes (suc number) (omega arith)
 
 -- over the lists that were lent
-pub at-lent : (ends bytes lent lent_bytes : List ℕ) (number start end : ℕ) → AreEnds 0 ends (length bytes) → number < length ends → lent ≡ ends → lent_bytes ≡ bytes → start ≡ start_of lent number → end ≡ get_or lent number 0 →
+pub at-lent : (ends bytes lent lent_bytes : List ℕ) (number start end : ℕ) → AreEnds 0 ends (length bytes) → number < length ends → lent ≡ ends →
+    lent_bytes ≡ bytes → start ≡ start_of lent number → end ≡ get_or lent number 0 →
     (start ≤ end) × (end ≤ length lent_bytes) × (get_or (cut 0 ends bytes) number [] ≡ take (end - start) (drop start lent_bytes))
 at-lent ends bytes lent lent_bytes number start end h l e f s t =
     let r = rises-at 0 ends (length bytes) number h l in
     let from : start ≡ start_from 0 ends number = s ∙ ap (λ x. start_of x number) e ∙ sym (start-is ends number) in
-    let to : end ≡ get_or ends number 0 = t ∙ ap (λ x. get_or x number 0) e in
-    (omega (arith, r.0, from, to), omega (arith, r.1, to, ap length f), term-at 0 ends bytes number l ∙ ap (λ n. take (n - start_from 0 ends number) (drop (start_from 0 ends number) bytes)) (sym to) ∙ ap (λ n. take (end - n) (drop n bytes)) (sym from) ∙ ap (λ x. take (end - start) (drop start x)) (sym f))
+    let to : end ≡ get_or ends number 0 = t ∙ ap (λ x. get_or x number 0) e in (
+      omega (arith, r.0, from, to),
+      omega (arith, r.1, to, ap length f),
+      term-at 0 ends bytes number l
+          ∙ ap (λ n. take (n - start_from 0 ends number) (drop (start_from 0 ends number) bytes)) (sym to) ∙ ap (λ n. take (end - n) (drop n bytes)) (sym from)
+          ∙ ap (λ x. take (end - start) (drop start x)) (sym f),
+    )
 
 pub past : (terms : List (List ℕ)) (number : ℕ) → length terms ≤ number → ◌≡◌ {A = List ℕ} [] (get_or terms number [])
 past [] number l = refl

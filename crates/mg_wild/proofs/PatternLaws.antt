@@ -37,7 +37,8 @@ empty_at xs n e = let none : take n xs ≡ [] = ap (λ k. take k xs) e in ap wit
 
 -- ---- the bytes between a line's blanks
 
-pub read_at : (line from body : List ℕ) (start n : ℕ) → start ≡ prefix_len is_blank line → from ≡ drop start line → take n from ≡ without_end_blanks from → body ≡ take n from → pattern_at start body ≡ pattern_of line
+pub read_at : (line from body : List ℕ) (start n : ℕ) → start ≡ prefix_len is_blank line → from ≡ drop start line → take n from ≡ without_end_blanks from →
+    body ≡ take n from → pattern_at start body ≡ pattern_of line
 unfolding pattern_of
 read_at line from body start n s e t f =
     let rest : from ≡ drop (blanks_before line) line = e ∙ ap (λ k. drop k line) s in

@@ -32,7 +32,8 @@ pub enum PatternErr {
 fn ends_in_blank(text: &[u8], len: usize) -> bool
     requires { len ≤ length text.now }
     ensures some { OnTrue result (0 < len) }
-    ensures blank { OnTrue result (without_end_blanks (take (len - 1) text.now) ≡ without_end_blanks (take len text.now)) }
+    ensures blank { OnTrue result (without_end_blanks (take (len - 1) text.now)
+        ≡ without_end_blanks (take len text.now)) }
     ensures none { OnFalse result (without_end_blanks (take len text.now) ≡ take len text.now) }
 {
     if len == 0 {
@@ -86,7 +87,8 @@ fn read_body(alloc: Global, at: u32, body: &[u8]) -> Result<Pattern, PatternErr>
 fn read_star(alloc: Global, left: &[u8], at: u32, rest: &[u8]) -> Result<Pattern, PatternErr>
     requires { at + length rest.now ≤ 1024 }
     ensures reads { IfOk result (λ p. star_of left.now at rest.now ≡ sides (sides_of p)) }
-    ensures refused { IfErr result (λ e. IfSome (bad_of e) (λ why. star_of left.now at rest.now ≡ why)) }
+    ensures refused { IfErr result (λ e.
+        IfSome (bad_of e) (λ why. star_of left.now at rest.now ≡ why)) }
 {
     match rest {
         [b'*', right @ ..] => read_right(alloc, left, at, right),
@@ -98,7 +100,8 @@ fn read_star(alloc: Global, left: &[u8], at: u32, rest: &[u8]) -> Result<Pattern
 fn read_right(alloc: Global, left: &[u8], at: u32, right: &[u8]) -> Result<Pattern, PatternErr>
     requires { at + length right.now ≤ 1024 }
     ensures reads { IfOk result (λ p. right_of left.now at right.now ≡ sides (sides_of p)) }
-    ensures refused { IfErr result (λ e. IfSome (bad_of e) (λ why. right_of left.now at right.now ≡ why)) }
+    ensures refused { IfErr result (λ e.
+        IfSome (bad_of e) (λ why. right_of left.now at right.now ≡ why)) }
 {
     let size = word_len(right);
     if size < right.len() {
@@ -114,7 +117,8 @@ fn read_right(alloc: Global, left: &[u8], at: u32, right: &[u8]) -> Result<Patte
 
 /// A pattern with these sides.
 fn pattern_with(alloc: Global, left: &[u8], right: &[u8]) -> Result<Pattern, AllocError>
-    ensures { IfOk result (λ p. sides_of p ≡ record { left = folded left.now; right = folded right.now }) }
+    ensures { IfOk result (λ p. sides_of p
+        ≡ record { left = folded left.now; right = folded right.now }) }
 {
     let left = Term::of_word(alloc, left)?;
     let right = Term::of_word(alloc, right)?;

@@ -24,7 +24,9 @@ pub(crate) fn total_size<S: Store>(
     file: FileRef<'_>,
     count: u32,
 ) -> Result<u64, PartErr>
-    ensures answer { IsSome (S.files store.old) → AnswersTotal (bytes_at (S.files store.old) (full_name file.entry.base.now file.entry.part)) count result }
+    ensures answer { IsSome (S.files store.old) →
+        AnswersTotal (bytes_at (S.files store.old) (full_name file.entry.base.now file.entry.part))
+        count result }
     ensures most { IfOk result (λ size. size ≤ 255 * count) }
     ensures looked { Between S.files S.reads S.faults store.old store.new (Looked file.entry.part) }
     ensures cause { HasPartCause (S.faults store.old) (S.faults store.new) result }
@@ -51,7 +53,8 @@ pub(crate) fn read_terms<S: Store>(
     size: u32,
 ) -> Result<TermBlock, PartErr>
     requires { size + count ≤ most_rotations }
-    ensures answer { ForEntries (S.files store.old) (full_name file.entry.base.now file.entry.part) count size
+    ensures answer { ForEntries (S.files store.old) (full_name file.entry.base.now file.entry.part)
+        count size
         (λ es. AnswersTermsOf (λ terms. terms) es result) }
     ensures numbered { IfOk result (λ terms. AreNumbered 0 terms.infos) }
     ensures looked { Between S.files S.reads S.faults store.old store.new (Looked file.entry.part) }

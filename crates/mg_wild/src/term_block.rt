@@ -108,9 +108,11 @@ impl TermBlock {
 
     /// Adds the term of an entry, where that is within the most rotations.
     pub(crate) fn push(&mut self, entry: &FrontEntry) -> Result<(), AllocError>
-        requires { total self.old.terms + length (string_of entry.now) + length self.old.terms < most_rotations }
+        requires { total self.old.terms + length (string_of entry.now) + length self.old.terms
+            < most_rotations }
         ensures terms { OnOk result (self.new.terms ≡ self.old.terms ++ string_of entry.now ∷ []) }
-        ensures fields { OnOk result (field_bytes self.new.infos ≡ field_bytes self.old.infos ++ take 16 entry.now.field ∷ []) }
+        ensures fields { OnOk result (field_bytes self.new.infos ≡ field_bytes self.old.infos
+            ++ take 16 entry.now.field ∷ []) }
         ensures numbered { OnOk result (AreNumbered 0 self.new.infos) }
     {
         self.ends.reserve(1)?;

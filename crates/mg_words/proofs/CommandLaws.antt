@@ -52,7 +52,8 @@ pub numbers_other : (old new : Command) (a : Arg) (r : Rule) (id : Word) (low hi
 numbers_other old new a r id low high added arg other = numbers_more old new a id low high added
     (λ same. absurd (other (sym (ap (λ (w : Rule). w.id) arg.0) ∙ (bytes_eq-Decides _ _).0 same)))
 
-pub numbers_here : (old new : Command) (a : Arg) (r : Rule) (id : Word) (low high : ℕ) → AddsArg old a new → IsArg a r → r.parser ≡ Some (parser.Unsigned low high) → TakesNumbers old id low high → TakesNumbers new id low high
+pub numbers_here : (old new : Command) (a : Arg) (r : Rule) (id : Word) (low high : ℕ) → AddsArg old a new → IsArg a r →
+    r.parser ≡ Some (parser.Unsigned low high) → TakesNumbers old id low high → TakesNumbers new id low high
 numbers_here old new a r id low high added arg is = numbers_more old new a id low high added (λ same. ap (λ (w : Rule). w.parser) arg.0 ∙ is)
 
 -- ---- what it took
@@ -89,7 +90,8 @@ number_taken old m id low high text p plain takes named help version is =
     passed : (t : Word) → PassesArg p.built id t → IsUnsignedIn low high t
     passed t pass = accepted pass.1 low high t (built_numbers old m p id low high takes help version pass.0 pass.1 pass.2 pass.3 pass.4.0) pass.4.1
 
-    read : (x : MatchedArg) (e : Entry) → e.1 ≡ x → bytes_eq e.0.now id ≡ true → EntryPasses p.built e → option_map (λ s. read_as x.reading s.now) (slice_get x.vals.items 0) ≡ Some text → IsUnsignedIn low high text
+    read : (x : MatchedArg) (e : Entry) → e.1 ≡ x → bytes_eq e.0.now id ≡ true → EntryPasses p.built e →
+        option_map (λ s. read_as x.reading s.now) (slice_get x.vals.items 0) ≡ Some text → IsUnsignedIn low high text
     read x e same key pass first =
         let key_id : e.0.now ≡ id = (bytes_eq-Decides _ _).0 key in
         let no_group : e.1.is_group ≡ true → ⊥ = λ g. elim (pass.3 g) [

@@ -88,7 +88,9 @@ pub wants_here : (old new : Command) (a : Arg) (r : Rule) → AddsArg old a new 
 wants_here old new a r added arg wanted fresh = record {
   place = length (args_of old);
   below = rw added.args (omega (arith, length-append (args_of old) (added.arg ∷ [])));
-  taking = λ d. subst (λ x. IsTaking x r.id) (sym (ap (λ l. slice_index_or l (length (args_of old)) d) added.args ∙ get_or_at (args_of old) added.arg [] d (length (args_of old)) refl)) (taking_of old new a r added arg wanted);
+  taking = λ d.
+      subst (λ x. IsTaking x r.id) (sym (ap (λ l. slice_index_or l (length (args_of old)) d) added.args
+      ∙ get_or_at (args_of old) added.arg [] d (length (args_of old)) refl)) (taking_of old new a r added arg wanted);
   only = λ j e low same. elim (cases_lt j (length (args_of old))) [
     | inl under ↦
         let there : bytes_eq (slice_index_or (args_of old) j e).id.now r.id ≡ true = rw (added.args, get_or_append_left (args_of old) (added.arg ∷ []) e j under) at same in

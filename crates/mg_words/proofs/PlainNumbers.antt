@@ -45,7 +45,8 @@ same_number {E} low high n word r ok fits parses is =
     let t = tested low high word is in
     same_ok E n (digits_value 10 word) (sym ok ∙ parse-decimal 64 (digits_value 10 word) word r (omega (arith, t.2, fits)) (omega (arith, t.2, fits)) t.0 parses)
 
-pub not_written : {E : Type 0} (low high n : ℕ) (word : Word) (r : Result ℕ E) → r ≡ Ok n → high < 2 ^ 64 → ParsesUnsigned 64 10 word r → ((decimal n ≡ word) → (low ≤ n) → (n ≤ high) → ⊥) → plain_number low high word ≡ None
+pub not_written : {E : Type 0} (low high n : ℕ) (word : Word) (r : Result ℕ E) → r ≡ Ok n → high < 2 ^ 64 → ParsesUnsigned 64 10 word r →
+    ((decimal n ≡ word) → (low ≤ n) → (n ≤ high) → ⊥) → plain_number low high word ≡ None
 not_written low high n word r ok fits parses never = none_unless low high word (λ is.
     let t = tested low high word is in
     let same = same_number low high n word r ok fits parses is in

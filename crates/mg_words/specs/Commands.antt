@@ -16,7 +16,11 @@ abbrev pub name_rule : Word → Rule
 name_rule id = record (new_rule id) { required = true; action = Some action.Set }
 
 abbrev pub number_rule : Word → ℕ → ℕ → Rule
-number_rule id low high = record (new_rule id) { required = true; action = Some action.Set; parser = Some (parser.Unsigned low high) }
+number_rule id low high = record (new_rule id) {
+  required = true;
+  action = Some action.Set;
+  parser = Some (parser.Unsigned low high);
+}
 
 abbrev pub budget_rule : Rule
 budget_rule = record (new_rule (codes "budget")) {
@@ -32,7 +36,8 @@ name_app tool id = with_rule (new_app tool) (name_rule id)
 
 -- `build COLLECTION NAME [--budget BYTES]`
 abbrev pub build_app : App
-build_app = with_rule (with_rule (with_rule (new_app (codes "build")) (name_rule (codes "collection"))) (name_rule (codes "name"))) budget_rule
+build_app = with_rule (with_rule (with_rule (new_app (codes "build")) (name_rule (codes "collection")))
+    (name_rule (codes "name"))) budget_rule
 
 -- the ids of its names
 abbrev pub build_names : List Word
@@ -47,14 +52,16 @@ migrate_names = codes "name" ∷ codes "new" ∷ []
 
 -- `merge A B NEW`
 abbrev pub merge_app : App
-merge_app = with_rule (with_rule (name_app (codes "merge") (codes "first")) (name_rule (codes "second"))) (name_rule (codes "new"))
+merge_app = with_rule (with_rule (name_app (codes "merge") (codes "first")) (name_rule (codes "second")))
+    (name_rule (codes "new"))
 
 abbrev pub merge_names : List Word
 merge_names = codes "first" ∷ codes "second" ∷ codes "new" ∷ []
 
 -- `trial SEED DOCS`
 abbrev pub trial_app : App
-trial_app = with_rule (with_rule (new_app (codes "trial")) (number_rule (codes "seed") 0 18446744073709551615)) (number_rule (codes "docs") 1 20000)
+trial_app = with_rule (with_rule (new_app (codes "trial")) (number_rule (codes "seed") 0 18446744073709551615))
+    (number_rule (codes "docs") 1 20000)
 
 -- the kinds of error that a command may give at the words, none where it takes them
 unfoldable pub faults : App → List Word → Kinds
@@ -104,11 +111,13 @@ IsArg arg rule = (rule_of arg ≡ rule) × IsPlainArg arg × (arg.global ≡ fal
 
 -- each argument of this id takes numbers in this range
 abbrev pub TakesNumbers : Command → Word → ℕ → ℕ → Type 0
-TakesNumbers command id low high = All (λ arg. bytes_eq arg.id.now id ≡ true → arg.value_parser ≡ Some (parser.Unsigned low high)) (args_of command)
+TakesNumbers command id low high = All (λ arg. bytes_eq arg.id.now id ≡ true →
+    arg.value_parser ≡ Some (parser.Unsigned low high)) (args_of command)
 
 -- a command made by adding arguments alone, none of which excludes another
 abbrev pub IsPlainCommand : Command → Type 0
-IsPlainCommand command = IsPlain command × ((out-Command command).has_globals ≡ false) × ((out-Command command).subcommand_negates_reqs ≡ false)
+IsPlainCommand command = IsPlain command × ((out-Command command).has_globals ≡ false)
+    × ((out-Command command).subcommand_negates_reqs ≡ false)
 
 -- a parse that takes the words gives the id a value
 abbrev pub Gives : Command → Word → Type 0

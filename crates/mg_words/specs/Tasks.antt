@@ -31,15 +31,18 @@ plain_name words = None
 
 -- a build of two plain names, where the budget is there
 abbrev pub plain_names : Word → Word → Option ℕ → Option Task
-plain_names collection name budget = if is_plain_name collection && is_plain_name name then option_map (build collection name) budget else None
+plain_names collection name budget = if is_plain_name collection && is_plain_name name
+    then option_map (build collection name) budget else None
 
 -- the names in order, and the budget before, between or after them, or nowhere
 abbrev pub plain_build : List Word → Option Task
 plain_build (a ∷ b ∷ []) = plain_names a b (Some default_budget)
 plain_build (a ∷ b ∷ c ∷ []) =
-    option_or (plain_names b c (budget_in_one a)) (option_or (plain_names a c (budget_in_one b)) (plain_names a b (budget_in_one c)))
+    option_or (plain_names b c (budget_in_one a))
+    (option_or (plain_names a c (budget_in_one b)) (plain_names a b (budget_in_one c)))
 plain_build (a ∷ b ∷ c ∷ d ∷ []) =
-    option_or (plain_names c d (budget_in_two a b)) (option_or (plain_names a d (budget_in_two b c)) (plain_names a b (budget_in_two c d)))
+    option_or (plain_names c d (budget_in_two a b))
+    (option_or (plain_names a d (budget_in_two b c)) (plain_names a b (budget_in_two c d)))
 plain_build words = None
 
 abbrev pub plain_trial : List Word → Option Task
@@ -59,17 +62,21 @@ plain_merge words = None
 -- ---- words that a tool's command takes
 
 abbrev pub build_in : List Row → Option Task
-build_in held = option_and_then (λ collection. option_map (λ name. build collection name (unwrap_or (number_in (codes "budget") held) default_budget))
+build_in held = option_and_then (λ collection.
+    option_map (λ name. build collection name (unwrap_or (number_in (codes "budget") held) default_budget))
     (name_in (codes "name") held)) (name_in (codes "collection") held)
 
 abbrev pub trial_in : List Row → Option Task
-trial_in held = option_and_then (λ seed. option_map (trial seed) (number_in (codes "docs") held)) (number_in (codes "seed") held)
+trial_in held = option_and_then (λ seed. option_map (trial seed) (number_in (codes "docs") held))
+    (number_in (codes "seed") held)
 
 abbrev pub migrate_in : List Row → Option Task
-migrate_in held = option_and_then (λ name. option_map (migrate name) (name_in (codes "new") held)) (name_in (codes "name") held)
+migrate_in held = option_and_then (λ name. option_map (migrate name) (name_in (codes "new") held))
+    (name_in (codes "name") held)
 
 abbrev pub merge_in : List Row → Option Task
-merge_in held = option_and_then (λ first. option_and_then (λ second. option_map (merge first second) (name_in (codes "new") held))
+merge_in held = option_and_then (λ first. option_and_then (λ second.
+    option_map (merge first second) (name_in (codes "new") held))
     (name_in (codes "second") held)) (name_in (codes "first") held)
 
 -- ---- all words
@@ -162,16 +169,19 @@ words_at named tool = record {
 
 abbrev pub tool_words : Word → Option ToolWords
 tool_words tool =
-    if bytes_eq tool (codes "build") then Some (record { command = build_app; names = build_names; plain = plain_build })
+    if bytes_eq tool (codes "build") then Some
+    (record { command = build_app; names = build_names; plain = plain_build })
     else if bytes_eq tool (codes "query") then Some (words_at named.Query tool)
     else if bytes_eq tool (codes "decode") then Some (words_at named.Decode tool)
     else if bytes_eq tool (codes "scan") then Some (words_at named.Scan tool)
     else if bytes_eq tool (codes "trial") then Some (record { command = trial_app; names = []; plain = plain_trial })
-    else if bytes_eq tool (codes "migrate") then Some (record { command = migrate_app; names = migrate_names; plain = plain_migrate })
+    else if bytes_eq tool (codes "migrate")
+    then Some (record { command = migrate_app; names = migrate_names; plain = plain_migrate })
     else if bytes_eq tool (codes "check") then Some (words_at named.Check tool)
     else if bytes_eq tool (codes "wild") then Some (words_at named.Wild tool)
     else if bytes_eq tool (codes "phrase") then Some (words_at named.Phrase tool)
-    else if bytes_eq tool (codes "merge") then Some (record { command = merge_app; names = merge_names; plain = plain_merge })
+    else if bytes_eq tool (codes "merge") then Some
+    (record { command = merge_app; names = merge_names; plain = plain_merge })
     else None
 
 -- the words are not plain, and the tool's command refuses them, or takes them with an empty name

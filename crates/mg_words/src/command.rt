@@ -39,9 +39,12 @@ fn cause_of(error: Error) -> NotTaken
 pub fn matches_by<'a>(command: Command<'a>, words: &'a [String]) -> Result<ArgMatches<'a>, NotTaken>
     requires simple { is_simple_and_free (app_of command) ≡ true }
     requires alone { is_simple (app_of command) ≡ true }
-    ensures taken { OnOk result (faults (app_of command.entry) (map string_bytes words.entry.now) ≡ []) }
-    ensures refused { IsErrOf result NotTaken.Refused → faults (app_of command.entry) (map string_bytes words.entry.now) ≢ [] }
-    ensures values { IfOk result (λ m. rows_of (found_of m) ≡ rows (app_of command.entry) (map string_bytes words.entry.now)) }
+    ensures taken { OnOk result (faults (app_of command.entry) (map string_bytes words.entry.now)
+        ≡ []) }
+    ensures refused { IsErrOf result NotTaken.Refused →
+        faults (app_of command.entry) (map string_bytes words.entry.now) ≢ [] }
+    ensures values { IfOk result (λ m. rows_of (found_of m)
+        ≡ rows (app_of command.entry) (map string_bytes words.entry.now)) }
     ensures parsed { IfOk result (IsParsedFrom command.entry) }
 {
     match command.try_get_matches_from(words) {
@@ -130,7 +133,8 @@ pub fn migrate_command<'a>(alloc: Global) -> Result<Command<'a>, AllocError>
 /// The command of `merge A B NEW`.
 pub fn merge_command<'a>(alloc: Global) -> Result<Command<'a>, AllocError>
     ensures app { IfOk result (λ c. app_of c ≡ merge_app) }
-    ensures given { IfOk result (λ c. Gives c (codes "first") × Gives c (codes "second") × Gives c (codes "new")) }
+    ensures given { IfOk result (λ c. Gives c (codes "first") × Gives c (codes "second")
+        × Gives c (codes "new")) }
 {
     Command::new(alloc, "merge")
         .arg(name_arg(alloc, "first"))?

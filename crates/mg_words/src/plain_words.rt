@@ -53,7 +53,8 @@ pub fn plain_name(words: &[String]) -> Option<&str>
 /// A build of two plain names, where the budget is there.
 fn plain_names<'a>(collection: &'a str, name: &'a str, budget: Option<u64>) -> Option<Task<'a>>
     requires { IfSome budget IsBudget }
-    ensures is { option_map as_task result ≡ plain_names_spec collection.entry.now name.entry.now budget }
+    ensures is { option_map as_task result ≡ plain_names_spec collection.entry.now name.entry.now
+        budget }
     ensures within { IfSome result (λ q. IsWithin (as_task q)) }
 {
     let Some(budget) = budget else {
@@ -87,7 +88,8 @@ pub fn plain_build(words: &[String]) -> Option<Task<'_>>
 
 fn build_with_one<'a>(a: &'a str, b: &'a str, c: &'a str) -> Option<Task<'a>>
     ensures within { IfSome result (λ q. IsWithin (as_task q)) }
-    ensures is { option_map as_task result ≡ plain_build_spec (a.entry.now ∷ b.entry.now ∷ c.entry.now ∷ []) }
+    ensures is { option_map as_task result ≡ plain_build_spec
+        (a.entry.now ∷ b.entry.now ∷ c.entry.now ∷ []) }
 {
     if let Some(task) = plain_names(b, c, budget_in_one(a)) {
         return Some(task);
@@ -100,7 +102,8 @@ fn build_with_one<'a>(a: &'a str, b: &'a str, c: &'a str) -> Option<Task<'a>>
 
 fn build_with_two<'a>(a: &'a str, b: &'a str, c: &'a str, d: &'a str) -> Option<Task<'a>>
     ensures within { IfSome result (λ q. IsWithin (as_task q)) }
-    ensures is { option_map as_task result ≡ plain_build_spec (a.entry.now ∷ b.entry.now ∷ c.entry.now ∷ d.entry.now ∷ []) }
+    ensures is { option_map as_task result ≡ plain_build_spec
+        (a.entry.now ∷ b.entry.now ∷ c.entry.now ∷ d.entry.now ∷ []) }
 {
     if let Some(task) = plain_names(c, d, budget_in_two(a, b)) {
         return Some(task);

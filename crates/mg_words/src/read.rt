@@ -21,8 +21,11 @@ fn read_name<'a>(
     requires own { IsOwnId id.now }
     requires split { map string_bytes words.now ≡ tool.now ∷ map string_bytes rest.now }
     ensures unplain { result ≡ Ok None → plain_name_spec (map string_bytes rest.entry.now) ≡ None }
-    ensures refused { result ≡ Ok None → IsRefusedBy (name_app tool.entry.now id.entry.now) (id.entry.now ∷ []) (map string_bytes words.entry.now) }
-    ensures is { IfOk result (λ r. option_copied r ≡ name_asked id.entry.now tool.entry.now (map string_bytes rest.entry.now)) }
+    ensures refused { result ≡ Ok None →
+        IsRefusedBy (name_app tool.entry.now id.entry.now) (id.entry.now ∷ [])
+        (map string_bytes words.entry.now) }
+    ensures is { IfOk result (λ r. option_copied r ≡ name_asked id.entry.now tool.entry.now
+        (map string_bytes rest.entry.now)) }
 {
     if let Some(name) = plain_name(rest) {
         return Ok(Some(name));
@@ -36,8 +39,10 @@ fn read_build<'a>(
     words: &'a [String],
 ) -> Result<Option<Task<'a>>, AllocError>
     ensures unplain { result ≡ Ok None → plain_build_spec (map string_bytes rest.entry.now) ≡ None }
-    ensures refused { result ≡ Ok None → IsRefusedBy build_app build_names (map string_bytes words.entry.now) }
-    ensures is { IfOk result (λ r. option_map as_task r ≡ build_asked (map string_bytes rest.entry.now) (map string_bytes words.entry.now)) }
+    ensures refused { result ≡ Ok None →
+        IsRefusedBy build_app build_names (map string_bytes words.entry.now) }
+    ensures is { IfOk result (λ r. option_map as_task r ≡
+        build_asked (map string_bytes rest.entry.now) (map string_bytes words.entry.now)) }
     ensures within { IfOk result (λ r. IfSome r (λ q. IsWithin (as_task q))) }
 {
     if let Some(task) = plain_build(rest) {
@@ -57,8 +62,10 @@ fn read_named<'a>(
     requires { map string_bytes words.now ≡ tool.now ∷ map string_bytes rest.now }
     ensures unplain { result ≡ Ok None → plain_name_spec (map string_bytes rest.entry.now) ≡ None }
     ensures refused { result ≡ Ok None →
-        IsRefusedBy (name_app tool.entry.now (name_id named)) (name_id named ∷ []) (map string_bytes words.entry.now) }
-    ensures is { IfOk result (λ r. option_map as_task r ≡ named_asked named tool.entry.now (map string_bytes rest.entry.now)) }
+        IsRefusedBy (name_app tool.entry.now (name_id named)) (name_id named ∷ [])
+        (map string_bytes words.entry.now) }
+    ensures is { IfOk result (λ r. option_map as_task r ≡
+        named_asked named tool.entry.now (map string_bytes rest.entry.now)) }
     ensures within { IfOk result (λ r. IfSome r (λ q. IsWithin (as_task q))) }
 {
     match read_name(alloc, tool, named.id(), rest, words)? {
@@ -73,8 +80,10 @@ fn read_trial<'a>(
     words: &'a [String],
 ) -> Result<Option<Task<'a>>, AllocError>
     ensures unplain { result ≡ Ok None → plain_trial_spec (map string_bytes rest.entry.now) ≡ None }
-    ensures refused { result ≡ Ok None → IsRefusedBy trial_app [] (map string_bytes words.entry.now) }
-    ensures is { IfOk result (λ r. option_map as_task r ≡ trial_asked (map string_bytes rest.entry.now) (map string_bytes words.entry.now)) }
+    ensures refused { result ≡ Ok None →
+        IsRefusedBy trial_app [] (map string_bytes words.entry.now) }
+    ensures is { IfOk result (λ r. option_map as_task r ≡
+        trial_asked (map string_bytes rest.entry.now) (map string_bytes words.entry.now)) }
     ensures within { IfOk result (λ r. IfSome r (λ q. IsWithin (as_task q))) }
 {
     if let Some(task) = plain_trial(rest) {
@@ -88,9 +97,12 @@ fn read_migrate<'a>(
     rest: &'a [String],
     words: &'a [String],
 ) -> Result<Option<Task<'a>>, AllocError>
-    ensures unplain { result ≡ Ok None → plain_migrate_spec (map string_bytes rest.entry.now) ≡ None }
-    ensures refused { result ≡ Ok None → IsRefusedBy migrate_app migrate_names (map string_bytes words.entry.now) }
-    ensures is { IfOk result (λ r. option_map as_task r ≡ migrate_asked (map string_bytes rest.entry.now) (map string_bytes words.entry.now)) }
+    ensures unplain { result ≡ Ok None → plain_migrate_spec (map string_bytes rest.entry.now)
+        ≡ None }
+    ensures refused { result ≡ Ok None →
+        IsRefusedBy migrate_app migrate_names (map string_bytes words.entry.now) }
+    ensures is { IfOk result (λ r. option_map as_task r ≡
+        migrate_asked (map string_bytes rest.entry.now) (map string_bytes words.entry.now)) }
     ensures within { IfOk result (λ r. IfSome r (λ q. IsWithin (as_task q))) }
 {
     if let Some(task) = plain_migrate(rest) {
@@ -105,8 +117,10 @@ fn read_merge<'a>(
     words: &'a [String],
 ) -> Result<Option<Task<'a>>, AllocError>
     ensures unplain { result ≡ Ok None → plain_merge_spec (map string_bytes rest.entry.now) ≡ None }
-    ensures refused { result ≡ Ok None → IsRefusedBy merge_app merge_names (map string_bytes words.entry.now) }
-    ensures is { IfOk result (λ r. option_map as_task r ≡ merge_asked (map string_bytes rest.entry.now) (map string_bytes words.entry.now)) }
+    ensures refused { result ≡ Ok None →
+        IsRefusedBy merge_app merge_names (map string_bytes words.entry.now) }
+    ensures is { IfOk result (λ r. option_map as_task r ≡
+        merge_asked (map string_bytes rest.entry.now) (map string_bytes words.entry.now)) }
     ensures within { IfOk result (λ r. IfSome r (λ q. IsWithin (as_task q))) }
 {
     if let Some(task) = plain_merge(rest) {
@@ -135,7 +149,8 @@ fn read_merge<'a>(
 /// `AllocError` where there was no memory.
 pub fn read_words<'a>(alloc: Global, words: &'a [String]) -> Result<Option<Task<'a>>, AllocError>
     ensures refused { result ≡ Ok None → IsRefused (map string_bytes words.entry.now) }
-    ensures is { IfOk result (λ r. option_map as_task r ≡ task_of (map string_bytes words.entry.now)) }
+    ensures is { IfOk result (λ r. option_map as_task r ≡
+        task_of (map string_bytes words.entry.now)) }
     ensures within { IfOk result (λ r. IfSome r (λ q. IsWithin (as_task q))) }
 {
     let [tool, rest @ ..] = words else {

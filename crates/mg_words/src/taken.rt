@@ -17,7 +17,8 @@ use std::alloc::{AllocError, Global};
 /// The name of this id; an empty one is no name.
 fn name_of<'a>(matches: &ArgMatches<'a>, id: &str) -> Option<&'a str>
     ensures is { option_copied result ≡ name_in id.now (rows_in matches.now) }
-    ensures empty { result ≡ None → IsGiven matches.now id.now → first_of id.now (rows_in matches.now) ≡ Some [] }
+    ensures empty { result ≡ None → IsGiven matches.now id.now →
+        first_of id.now (rows_in matches.now) ≡ Some [] }
 {
     let Some(name) = matches.get_str(id) else {
         return None;
@@ -30,7 +31,8 @@ fn name_of<'a>(matches: &ArgMatches<'a>, id: &str) -> Option<&'a str>
 
 /// The number of this id, where its text writes one.
 fn number_of(matches: &ArgMatches<'_>, id: &str) -> Option<u64>
-    requires { (text : List ℕ) → one_of id.now (rows_in matches.now) ≡ Some text → WritesNumber text }
+    requires { (text : List ℕ) → one_of id.now (rows_in matches.now) ≡ Some text →
+        WritesNumber text }
     ensures is { result ≡ number_in id.now (rows_in matches.now) }
     ensures there { IsGiven matches.now id.now → result ≢ None }
 {
@@ -46,8 +48,11 @@ pub fn name_taken<'a>(
 ) -> Result<Option<&'a str>, AllocError>
     requires { IsOwnId id.now }
     ensures is { IfOk result (λ r. option_copied r
-        ≡ if_taken (name_app tool.entry.now id.entry.now) (map string_bytes words.entry.now) (name_in id.entry.now)) }
-    ensures refused { result ≡ Ok None → IsRefusedBy (name_app tool.entry.now id.entry.now) (id.entry.now ∷ []) (map string_bytes words.entry.now) }
+        ≡ if_taken (name_app tool.entry.now id.entry.now) (map string_bytes words.entry.now)
+        (name_in id.entry.now)) }
+    ensures refused { result ≡ Ok None →
+        IsRefusedBy (name_app tool.entry.now id.entry.now) (id.entry.now ∷ [])
+        (map string_bytes words.entry.now) }
 {
     let command = name_command(alloc, tool, id)?;
     match matches_by(command, words) {
@@ -59,8 +64,10 @@ pub fn name_taken<'a>(
 
 /// What the command of `build` takes.
 pub fn build_taken<'a>(alloc: Global, words: &'a [String]) -> Result<Option<Task<'a>>, AllocError>
-    ensures refused { result ≡ Ok None → IsRefusedBy build_app build_names (map string_bytes words.entry.now) }
-    ensures is { IfOk result (λ r. option_map as_task r ≡ if_taken build_app (map string_bytes words.entry.now) build_in) }
+    ensures refused { result ≡ Ok None →
+        IsRefusedBy build_app build_names (map string_bytes words.entry.now) }
+    ensures is { IfOk result (λ r. option_map as_task r ≡
+        if_taken build_app (map string_bytes words.entry.now) build_in) }
     ensures within { IfOk result (λ r. IfSome r (λ q. IsWithin (as_task q))) }
 {
     let command = build_command(alloc)?;
@@ -72,8 +79,10 @@ pub fn build_taken<'a>(alloc: Global, words: &'a [String]) -> Result<Option<Task
 }
 
 fn build_of<'a>(matches: &ArgMatches<'a>) -> Option<Task<'a>>
-    requires { (text : List ℕ) → one_of (codes "budget") (rows_in matches.now) ≡ Some text → IsUnsignedIn 4096 1073741824 text }
-    ensures empty { result ≡ None → WhereGiven matches.now build_names (HasEmpty build_names (rows_in matches.now)) }
+    requires { (text : List ℕ) → one_of (codes "budget") (rows_in matches.now) ≡ Some text →
+        IsUnsignedIn 4096 1073741824 text }
+    ensures empty { result ≡ None → WhereGiven matches.now build_names
+        (HasEmpty build_names (rows_in matches.now)) }
     ensures is { option_map as_task result ≡ build_in (rows_in matches.now) }
     ensures within { IfSome result (λ q. IsWithin (as_task q)) }
 {
@@ -96,8 +105,10 @@ fn build_of<'a>(matches: &ArgMatches<'a>) -> Option<Task<'a>>
 
 /// What the command of `trial` takes.
 pub fn trial_taken<'a>(alloc: Global, words: &'a [String]) -> Result<Option<Task<'a>>, AllocError>
-    ensures refused { result ≡ Ok None → IsRefusedBy trial_app [] (map string_bytes words.entry.now) }
-    ensures is { IfOk result (λ r. option_map as_task r ≡ if_taken trial_app (map string_bytes words.entry.now) trial_in) }
+    ensures refused { result ≡ Ok None →
+        IsRefusedBy trial_app [] (map string_bytes words.entry.now) }
+    ensures is { IfOk result (λ r. option_map as_task r ≡
+        if_taken trial_app (map string_bytes words.entry.now) trial_in) }
     ensures within { IfOk result (λ r. IfSome r (λ q. IsWithin (as_task q))) }
 {
     let command = trial_command(alloc)?;
@@ -109,9 +120,12 @@ pub fn trial_taken<'a>(alloc: Global, words: &'a [String]) -> Result<Option<Task
 }
 
 fn trial_of<'a>(matches: &ArgMatches<'a>) -> Option<Task<'a>>
-    requires seed { (text : List ℕ) → one_of (codes "seed") (rows_in matches.now) ≡ Some text → IsUnsignedIn 0 18446744073709551615 text }
-    requires docs { (text : List ℕ) → one_of (codes "docs") (rows_in matches.now) ≡ Some text → IsUnsignedIn 1 20000 text }
-    ensures there { IsGiven matches.now (codes "seed") → IsGiven matches.now (codes "docs") → result ≢ None }
+    requires seed { (text : List ℕ) → one_of (codes "seed") (rows_in matches.now) ≡ Some text →
+        IsUnsignedIn 0 18446744073709551615 text }
+    requires docs { (text : List ℕ) → one_of (codes "docs") (rows_in matches.now) ≡ Some text →
+        IsUnsignedIn 1 20000 text }
+    ensures there { IsGiven matches.now (codes "seed") → IsGiven matches.now (codes "docs") →
+        result ≢ None }
     ensures is { option_map as_task result ≡ trial_in (rows_in matches.now) }
     ensures within { IfSome result (λ q. IsWithin (as_task q)) }
 {
@@ -129,8 +143,10 @@ fn trial_of<'a>(matches: &ArgMatches<'a>) -> Option<Task<'a>>
 
 /// What the command of `migrate` takes.
 pub fn migrate_taken<'a>(alloc: Global, words: &'a [String]) -> Result<Option<Task<'a>>, AllocError>
-    ensures refused { result ≡ Ok None → IsRefusedBy migrate_app migrate_names (map string_bytes words.entry.now) }
-    ensures is { IfOk result (λ r. option_map as_task r ≡ if_taken migrate_app (map string_bytes words.entry.now) migrate_in) }
+    ensures refused { result ≡ Ok None →
+        IsRefusedBy migrate_app migrate_names (map string_bytes words.entry.now) }
+    ensures is { IfOk result (λ r. option_map as_task r ≡
+        if_taken migrate_app (map string_bytes words.entry.now) migrate_in) }
     ensures within { IfOk result (λ r. IfSome r (λ q. IsWithin (as_task q))) }
 {
     let command = migrate_command(alloc)?;
@@ -142,7 +158,8 @@ pub fn migrate_taken<'a>(alloc: Global, words: &'a [String]) -> Result<Option<Ta
 }
 
 fn migrate_of<'a>(matches: &ArgMatches<'a>) -> Option<Task<'a>>
-    ensures empty { result ≡ None → WhereGiven matches.now migrate_names (HasEmpty migrate_names (rows_in matches.now)) }
+    ensures empty { result ≡ None → WhereGiven matches.now migrate_names
+        (HasEmpty migrate_names (rows_in matches.now)) }
     ensures is { option_map as_task result ≡ migrate_in (rows_in matches.now) }
     ensures within { IfSome result (λ q. IsWithin (as_task q)) }
 {
@@ -157,8 +174,10 @@ fn migrate_of<'a>(matches: &ArgMatches<'a>) -> Option<Task<'a>>
 
 /// What the command of `merge` takes.
 pub fn merge_taken<'a>(alloc: Global, words: &'a [String]) -> Result<Option<Task<'a>>, AllocError>
-    ensures refused { result ≡ Ok None → IsRefusedBy merge_app merge_names (map string_bytes words.entry.now) }
-    ensures is { IfOk result (λ r. option_map as_task r ≡ if_taken merge_app (map string_bytes words.entry.now) merge_in) }
+    ensures refused { result ≡ Ok None →
+        IsRefusedBy merge_app merge_names (map string_bytes words.entry.now) }
+    ensures is { IfOk result (λ r. option_map as_task r ≡
+        if_taken merge_app (map string_bytes words.entry.now) merge_in) }
     ensures within { IfOk result (λ r. IfSome r (λ q. IsWithin (as_task q))) }
 {
     let command = merge_command(alloc)?;
@@ -170,7 +189,8 @@ pub fn merge_taken<'a>(alloc: Global, words: &'a [String]) -> Result<Option<Task
 }
 
 fn merge_of<'a>(matches: &ArgMatches<'a>) -> Option<Task<'a>>
-    ensures empty { result ≡ None → WhereGiven matches.now merge_names (HasEmpty merge_names (rows_in matches.now)) }
+    ensures empty { result ≡ None → WhereGiven matches.now merge_names
+        (HasEmpty merge_names (rows_in matches.now)) }
     ensures is { option_map as_task result ≡ merge_in (rows_in matches.now) }
     ensures within { IfSome result (λ q. IsWithin (as_task q)) }
 {

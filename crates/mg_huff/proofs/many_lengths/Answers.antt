@@ -58,7 +58,9 @@ returns-clause-good c =
     let o : c.deref-5.result.now ≡ c.in_ok-order.order.items = search rules in
     let k = depths_found (counts_of c.in_ok-order.order.items) c.deref-3.result.now c.in_ok-found.found.items e d in
     IfOk-weaker c.in_places.result (λ out. AreInPlace c.args.counts.now c.deref-5.result.now c.deref-6.result.now out.items) (λ out. AreGood out.items)
-    (λ out p. whole_good c.args.counts.now c.in_ok-order.order.items c.in_ok-found.found.items out.items l k (subst (λ t. AreInPlace c.args.counts.now c.in_ok-order.order.items t out.items) f (subst (λ t. AreInPlace c.args.counts.now t c.deref-6.result.now out.items) o p)) c.requires.many)
+    (λ out p. whole_good c.args.counts.now c.in_ok-order.order.items c.in_ok-found.found.items out.items l k
+    (subst (λ t. AreInPlace c.args.counts.now c.in_ok-order.order.items t out.items) f
+    (subst (λ t. AreInPlace c.args.counts.now t c.deref-6.result.now out.items) o p)) c.requires.many)
     c.in_places.ensures
 
 pub returns-clause-cost : goal.returns-clause-cost
@@ -69,6 +71,9 @@ returns-clause-cost c =
     let f : c.deref-6.result.now ≡ c.in_ok-found.found.items = search rules in
     let o : c.deref-5.result.now ≡ c.in_ok-order.order.items = search rules in
     let k = depths_found (counts_of c.in_ok-order.order.items) c.deref-3.result.now c.in_ok-found.found.items e d in
-    IfOk-weaker c.in_places.result (λ out. AreInPlace c.args.counts.now c.deref-5.result.now c.deref-6.result.now out.items) (λ out. cost_of c.args.counts.now out.items ≡ huffman_cost c.args.counts.now)
-    (λ out p. whole_cost c.args.counts.now c.in_ok-order.order.items c.in_ok-found.found.items out.items l k (subst (λ t. AreInPlace c.args.counts.now c.in_ok-order.order.items t out.items) f (subst (λ t. AreInPlace c.args.counts.now t c.deref-6.result.now out.items) o p)) c.requires.many)
+    IfOk-weaker c.in_places.result (λ out. AreInPlace c.args.counts.now c.deref-5.result.now c.deref-6.result.now out.items)
+    (λ out. cost_of c.args.counts.now out.items ≡ huffman_cost c.args.counts.now)
+    (λ out p. whole_cost c.args.counts.now c.in_ok-order.order.items c.in_ok-found.found.items out.items l k
+    (subst (λ t. AreInPlace c.args.counts.now c.in_ok-order.order.items t out.items) f
+    (subst (λ t. AreInPlace c.args.counts.now t c.deref-6.result.now out.items) o p)) c.requires.many)
     c.in_places.ensures

@@ -17,13 +17,16 @@ ask_first-requires-clause-fits g c = c.loop-walk.invariant.fits
 pub returns-in-Ok-None : goal.returns-in-Ok-None
 returns-in-Ok-None g c =
     let e = c.ask_first.ensures in
-    walk_none c.loop-walk.invariant _ (record { same = e.same; files = e.files; reads = e.reads; faults = e.cause.later }) e.size (any_reads c.requires.none c.requires.some c.loop-walk-test.true c.ask_first.new.places.items _ _ e.pages) c.in-Ok-None.ensures.fits
+    walk_none c.loop-walk.invariant _ (record { same = e.same; files = e.files; reads = e.reads; faults = e.cause.later }) e.size
+    (any_reads c.requires.none c.requires.some c.loop-walk-test.true c.ask_first.new.places.items _ _ e.pages) c.in-Ok-None.ensures.fits
     (any_none c.requires.none c.requires.some c.loop-walk-test.true c.ask_first.new.places.items c.ask_first.new.there.items (rw c.in-Ok-None.field-0-is at c.in-Ok-None.ensures.answer))
 
 pub returns-in-Err : goal.returns-in-Err
 returns-in-Err g c =
     let e = c.in-Err.ensures in
-    walk_err c.loop-walk.invariant _ (record { same = e.same; files = e.files; reads = e.reads; faults = e.cause.later }) e.size (any_reads c.requires.none c.requires.some c.loop-walk-test.true c.ask_first.new.places.items _ _ e.pages) _ e.part (λ is. e.memory (ap Err is)) c.loop-walk.invariant.step.faults e.cause
+    walk_err c.loop-walk.invariant _ (record { same = e.same; files = e.files; reads = e.reads; faults = e.cause.later }) e.size
+    (any_reads c.requires.none c.requires.some c.loop-walk-test.true c.ask_first.new.places.items _ _ e.pages) _ e.part (λ is. e.memory (ap Err is))
+    c.loop-walk.invariant.step.faults e.cause
     (any_err c.requires.none c.requires.some c.loop-walk-test.true c.ask_first.new.places.items c.ask_first.new.there.items _ e.answer)
 
 -- ---- the first document of all lists satisfies the query, or not
@@ -32,8 +35,10 @@ pub returns-then-holds : goal.returns-then-holds
 returns-then-holds g c =
     let e = c.in-Ok-Some.ensures in
     let range = (rw c.in-Ok-Some.field-0-is at e.range) c.requires.ready.on.0 c.args.asks.now.all (on_still _ _ _ _ c.loop-walk.invariant.step.same c.requires.ready.on.1) in
-    walk_hit c.loop-walk.invariant _ (record { same = e.same; files = e.files; reads = e.reads; faults = e.cause.later }) e.size (any_reads c.requires.none c.requires.some c.loop-walk-test.true c.ask_first.new.places.items _ _ e.pages) e.fits (omega (arith, range.0)) range.1
-    (any_decides c.requires.none c.requires.some c.loop-walk-test.true c.ask_first.new.places.items c.ask_first.new.there.items _ _ (rw c.in-Ok-Some.field-0-is at e.answer) (λ doc t. c.holds.ensures.satisfied doc (rw (← c.deref.ensures.value) at t))) c.if-holds.true
+    walk_hit c.loop-walk.invariant _ (record { same = e.same; files = e.files; reads = e.reads; faults = e.cause.later }) e.size
+    (any_reads c.requires.none c.requires.some c.loop-walk-test.true c.ask_first.new.places.items _ _ e.pages) e.fits (omega (arith, range.0)) range.1
+    (any_decides c.requires.none c.requires.some c.loop-walk-test.true c.ask_first.new.places.items c.ask_first.new.there.items _ _
+    (rw c.in-Ok-Some.field-0-is at e.answer) (λ doc t. c.holds.ensures.satisfied doc (rw (← c.deref.ensures.value) at t))) c.if-holds.true
 
 pub loop-walk-smaller : goal.loop-walk-smaller
 loop-walk-smaller g c =
@@ -44,8 +49,10 @@ pub loop-walk-preserved : goal.loop-walk-preserved
 loop-walk-preserved g c =
     let e = c.in-Ok-Some.ensures in
     let range = (rw c.in-Ok-Some.field-0-is at e.range) c.requires.ready.on.0 c.args.asks.now.all (on_still _ _ _ _ c.loop-walk.invariant.step.same c.requires.ready.on.1) in
-    walk_more c.loop-walk.invariant _ (record { same = e.same; files = e.files; reads = e.reads; faults = e.cause.later }) e.size (any_reads c.requires.none c.requires.some c.loop-walk-test.true c.ask_first.new.places.items _ _ e.pages) e.fits (omega (arith, range.0)) range.1
-    (any_decides c.requires.none c.requires.some c.loop-walk-test.true c.ask_first.new.places.items c.ask_first.new.there.items _ _ (rw c.in-Ok-Some.field-0-is at e.answer) (λ doc t. c.holds.ensures.satisfied doc (rw (← c.deref.ensures.value) at t))) c.if-holds.false
+    walk_more c.loop-walk.invariant _ (record { same = e.same; files = e.files; reads = e.reads; faults = e.cause.later }) e.size
+    (any_reads c.requires.none c.requires.some c.loop-walk-test.true c.ask_first.new.places.items _ _ e.pages) e.fits (omega (arith, range.0)) range.1
+    (any_decides c.requires.none c.requires.some c.loop-walk-test.true c.ask_first.new.places.items c.ask_first.new.there.items _ _
+    (rw c.in-Ok-Some.field-0-is at e.answer) (λ doc t. c.holds.ensures.satisfied doc (rw (← c.deref.ensures.value) at t))) c.if-holds.false
 
 -- ---- all documents were decided
 

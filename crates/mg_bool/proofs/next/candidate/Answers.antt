@@ -27,12 +27,19 @@ pub returns-clause-answer : goal.returns-clause-answer
 returns-clause-answer g c = λ q base collection goes.
     let l = lead_of base collection q _ _ c.args.lead c.in-Some.place c.args.all c.args.decided c.in-Some.is goes in
     let v = slice_index_or c.ask_at.new.places.items c.in-Some.place None in
-    let one = answers_more c.ask_at.result _ (λ found. IsNext collection q c.args.decided found × PlacesFor base collection (asked_of collection q) (query_terms q) (c.args.decided + 1) (slice_set c.args.places.now.items c.in-Some.place (slice_index_or c.ask_at.new.places.items c.in-Some.place None)))
-    (λ found a. lead_answer base collection q _ _ c.args.lead c.in-Some.place c.args.all c.args.decided _ found goes l a) (c.ask_at.ensures.answer base collection (asked_of collection q) (get_or (query_terms q) c.in-Some.place []) l.asks) in
-    subst (λ (ps : List Place). AnswersList c.ask_at.result (λ found. IsNext collection q c.args.decided found × PlacesFor base collection (asked_of collection q) (query_terms q) (c.args.decided + 1) ps)) (sym c.ask_at.ensures.places) one
+    let one = answers_more c.ask_at.result _ (λ found. IsNext collection q c.args.decided found
+    × PlacesFor base collection (asked_of collection q) (query_terms q) (c.args.decided + 1)
+    (slice_set c.args.places.now.items c.in-Some.place (slice_index_or c.ask_at.new.places.items c.in-Some.place None)))
+    (λ found a. lead_answer base collection q _ _ c.args.lead c.in-Some.place c.args.all c.args.decided _ found goes l a)
+    (c.ask_at.ensures.answer base collection (asked_of collection q) (get_or (query_terms q) c.in-Some.place []) l.asks) in
+    subst (λ (ps : List Place). AnswersList c.ask_at.result (λ found. IsNext collection q c.args.decided found
+    × PlacesFor base collection (asked_of collection q) (query_terms q) (c.args.decided + 1) ps)) (sym c.ask_at.ensures.places) one
 
 pub returns-clause-pages : goal.returns-clause-pages
 returns-clause-pages g c = λ q base collection goes.
     let l = lead_of base collection q _ _ c.args.lead c.in-Some.place c.args.all c.args.decided c.in-Some.is goes in
-    subst (λ (ps : List Place). PagesWithin (boolean_bound collection q) (pages_read c.args.places.now.items) (pages_read ps) (g.S.Store.reads c.args.store.now) (g.S.Store.reads c.ask_at.new.store)) (sym c.ask_at.ensures.places)
-    (lead_pages base collection q _ c.args.places.now.items c.args.lead c.in-Some.place c.args.all c.args.decided (slice_index_or c.ask_at.new.places.items c.in-Some.place None) _ _ c.cursor_pages_are_within.ensures goes l (c.ask_at.ensures.pages base collection (asked_of collection q) (get_or (query_terms q) c.in-Some.place []) l.asks))
+    subst (λ (ps : List Place). PagesWithin (boolean_bound collection q) (pages_read c.args.places.now.items) (pages_read ps) (g.S.Store.reads c.args.store.now)
+    (g.S.Store.reads c.ask_at.new.store)) (sym c.ask_at.ensures.places)
+    (lead_pages base collection q _ c.args.places.now.items c.args.lead c.in-Some.place c.args.all c.args.decided
+    (slice_index_or c.ask_at.new.places.items c.in-Some.place None) _ _ c.cursor_pages_are_within.ensures goes l
+    (c.ask_at.ensures.pages base collection (asked_of collection q) (get_or (query_terms q) c.in-Some.place []) l.asks))

@@ -25,12 +25,14 @@ ask_all-requires-clause-size g c = c.loop-walk.invariant.there ∙ c.requires.th
 pub returns-in-Ok-None : goal.returns-in-Ok-None
 returns-in-Ok-None g c =
     let e = c.candidate.ensures in
-    walk_none c.loop-walk.invariant _ (record { same = e.same; files = e.files; reads = e.reads; faults = e.cause.later }) refl (e.pages _) c.in-Ok-None.ensures.fits ((rw c.in-Ok-None.field-0-is at c.in-Ok-None.ensures.answer) _)
+    walk_none c.loop-walk.invariant _ (record { same = e.same; files = e.files; reads = e.reads; faults = e.cause.later }) refl (e.pages _)
+    c.in-Ok-None.ensures.fits ((rw c.in-Ok-None.field-0-is at c.in-Ok-None.ensures.answer) _)
 
 pub returns-in-Err : goal.returns-in-Err
 returns-in-Err g c =
     let e = c.in-Err.ensures in
-    walk_err c.loop-walk.invariant _ (record { same = e.same; files = e.files; reads = e.reads; faults = e.cause.later }) refl (e.pages _) _ e.part (λ is. e.memory (ap Err is)) c.loop-walk.invariant.step.faults e.cause
+    walk_err c.loop-walk.invariant _ (record { same = e.same; files = e.files; reads = e.reads; faults = e.cause.later }) refl (e.pages _) _ e.part
+    (λ is. e.memory (ap Err is)) c.loop-walk.invariant.step.faults e.cause
     (λ base collection goes. err_answer _ _ _ (e.answer (query_of c.args.asks.now.query.now) base collection goes))
 
 pub returns-in-Err-ask_all : goal.returns-in-Err-ask_all
@@ -39,7 +41,8 @@ returns-in-Err-ask_all g c =
     let a = c.in-Err-ask_all.ensures in
     let found = (rw c.in-Ok-Some.field-0-is at c.in-Ok-Some.ensures.answer) (query_of c.args.asks.now.query.now) in
     let step = stepped_on (record { same = e.same; files = e.files; reads = e.reads; faults = e.cause.later }) (record { same = a.same; files = a.files; reads = a.reads; faults = a.cause.later }) in
-    walk_err c.loop-walk.invariant _ step a.size (asked_reads e.files found (e.pages _) c.ask_all.new.places.items _ a.pages) _ a.part (λ is. a.memory (ap Err is)) (omega (arith, c.loop-walk.invariant.step.faults, e.cause.later)) a.cause
+    walk_err c.loop-walk.invariant _ step a.size (asked_reads e.files found (e.pages _) c.ask_all.new.places.items _ a.pages) _ a.part
+    (λ is. a.memory (ap Err is)) (omega (arith, c.loop-walk.invariant.step.faults, e.cause.later)) a.cause
     (asked_err e.files found (e.pages _) c.ask_all.new.places.items c.ask_all.new.there.items _ a.answer)
 
 pub returns-then-holds : goal.returns-then-holds
@@ -50,7 +53,8 @@ returns-then-holds g c =
     let step = stepped_on (record { same = e.same; files = e.files; reads = e.reads; faults = e.cause.later }) (record { same = a.same; files = a.files; reads = a.reads; faults = a.cause.later }) in
     let range = rw c.in-Ok-Some.field-0-is at c.in-Ok-Some.ensures.range in
     walk_hit c.loop-walk.invariant _ step a.size (asked_reads e.files found (e.pages _) c.ask_all.new.places.items _ a.pages) a.fits (omega (arith, range.0)) range.1
-    (asked_decides e.files found (e.pages _) c.ask_all.new.places.items c.ask_all.new.there.items _ a.answer (λ doc t. c.holds.ensures.satisfied doc (rw (← c.deref.ensures.value) at t))) c.if-holds.true
+    (asked_decides e.files found (e.pages _) c.ask_all.new.places.items c.ask_all.new.there.items _ a.answer
+    (λ doc t. c.holds.ensures.satisfied doc (rw (← c.deref.ensures.value) at t))) c.if-holds.true
 
 pub loop-walk-preserved : goal.loop-walk-preserved
 loop-walk-preserved g c =
@@ -60,7 +64,8 @@ loop-walk-preserved g c =
     let step = stepped_on (record { same = e.same; files = e.files; reads = e.reads; faults = e.cause.later }) (record { same = a.same; files = a.files; reads = a.reads; faults = a.cause.later }) in
     let range = rw c.in-Ok-Some.field-0-is at c.in-Ok-Some.ensures.range in
     walk_more c.loop-walk.invariant _ step a.size (asked_reads e.files found (e.pages _) c.ask_all.new.places.items _ a.pages) a.fits (omega (arith, range.0)) range.1
-    (asked_decides e.files found (e.pages _) c.ask_all.new.places.items c.ask_all.new.there.items _ a.answer (λ doc t. c.holds.ensures.satisfied doc (rw (← c.deref.ensures.value) at t))) c.if-holds.false
+    (asked_decides e.files found (e.pages _) c.ask_all.new.places.items c.ask_all.new.there.items _ a.answer
+    (λ doc t. c.holds.ensures.satisfied doc (rw (← c.deref.ensures.value) at t))) c.if-holds.false
 
 -- ---- all documents were decided
 

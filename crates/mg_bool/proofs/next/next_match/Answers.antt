@@ -18,8 +18,11 @@ returns-in-Err g c =
       later = omega arith;
       range = tt;
       last = λ is. absurd cc;
-      answer = λ base collection goes. err_answer _ _ _ (e.answer t base collection (word_goes base collection t _ _ _ _ c.in-Term-Some.place _ _ (ap query_of c.in-Term-Some.is-0) c.in-Term-Some.is-1 goes));
-      pages = λ base collection goes. word_pages collection t _ _ _ _ _ (ap query_of c.in-Term-Some.is-0) (e.pages t base collection (word_goes base collection t _ _ _ _ c.in-Term-Some.place _ _ (ap query_of c.in-Term-Some.is-0) c.in-Term-Some.is-1 goes));
+      answer = λ base collection goes.
+          err_answer _ _ _ (e.answer t base collection (word_goes base collection t _ _ _ _ c.in-Term-Some.place _ _ (ap query_of c.in-Term-Some.is-0)
+          c.in-Term-Some.is-1 goes));
+      pages = λ base collection goes. word_pages collection t _ _ _ _ _ (ap query_of c.in-Term-Some.is-0)
+          (e.pages t base collection (word_goes base collection t _ _ _ _ c.in-Term-Some.place _ _ (ap query_of c.in-Term-Some.is-0) c.in-Term-Some.is-1 goes));
       part = e.part;
       reads = e.reads;
       files = e.files;
@@ -43,7 +46,8 @@ returns-then-walk-asks g c =
       answer = λ base collection goes.
           word_found base collection t _ _ _ c.in-Term-Some.place _ _ _ _ c.in-Ok.found (ap query_of c.in-Term-Some.is-0) c.in-Term-Some.is-1 c.unwrap_or-walk.ensures
           (e.answer t base collection (word_goes base collection t _ _ _ _ c.in-Term-Some.place _ _ (ap query_of c.in-Term-Some.is-0) c.in-Term-Some.is-1 goes));
-      pages = λ base collection goes. word_pages collection t _ _ _ _ _ (ap query_of c.in-Term-Some.is-0) (e.pages t base collection (word_goes base collection t _ _ _ _ c.in-Term-Some.place _ _ (ap query_of c.in-Term-Some.is-0) c.in-Term-Some.is-1 goes));
+      pages = λ base collection goes. word_pages collection t _ _ _ _ _ (ap query_of c.in-Term-Some.is-0)
+          (e.pages t base collection (word_goes base collection t _ _ _ _ c.in-Term-Some.place _ _ (ap query_of c.in-Term-Some.is-0) c.in-Term-Some.is-1 goes));
       part = tt;
       reads = e.reads;
       files = e.files;

@@ -35,15 +35,27 @@ loop-i-preserved g c = record {
       let one = asks_one base collection asked ts c.args.doc c.loop-i.i _ _ c.loop-i.places.items c.args.places.now.items c.loop-i.invariant.files asks a.places_for lt in
       let answer = c.in-Ok.ensures.answer base collection asked (get_or ts c.loop-i.i []) one in
       let step = c.ask_at.ensures.pages base collection asked (get_or ts c.loop-i.i []) one in
-      let next = asking_next base collection asked ts c.args.doc c.loop-i.i _ _ _ (slice_index_or c.ask_at.new.places.items c.loop-i.i None) c.is_at.result _ _ (g.S.Store.reads c.ask_at.new.store) a lt (omega (arith, c.loop-i.invariant.there, c.requires.size, c.loop-i.invariant.same.size, a.places_for.size, lt)) answer.place
+      let next = asking_next base collection asked ts c.args.doc c.loop-i.i _ _ _ (slice_index_or c.ask_at.new.places.items c.loop-i.i None) c.is_at.result _ _
+      (g.S.Store.reads c.ask_at.new.store) a lt (omega (
+        arith,
+        c.loop-i.invariant.there,
+        c.requires.size,
+        c.loop-i.invariant.same.size,
+        a.places_for.size,
+        lt,
+      )) answer.place
       (found_is collection (get_or ts c.loop-i.i []) c.args.doc c.in-Ok.found c.is_at.result c.requires.some asks.within answer.found_is c.is_at.ensures) step.post in
-      subst (λ (ps : List Place). Asking base collection asked ts c.args.doc (c.loop-i.i + 1) c.args.places.now.items ps (slice_set c.loop-i.there.items c.loop-i.i c.is_at.result) (g.S.Store.reads c.args.store.now) (g.S.Store.reads c.ask_at.new.store)) (sym c.ask_at.ensures.places) next;
+      subst (λ (ps : List Place). Asking base collection asked ts c.args.doc (c.loop-i.i + 1) c.args.places.now.items ps
+      (slice_set c.loop-i.there.items c.loop-i.i c.is_at.result) (g.S.Store.reads c.args.store.now) (g.S.Store.reads c.ask_at.new.store))
+      (sym c.ask_at.ensures.places) next;
 }
 
 pub returns-clause-answer : goal.returns-clause-answer
 returns-clause-answer g c = λ base collection asked ts asks.
     let a = c.loop-i.invariant.asking base collection asked ts asks in
-    asking_end base collection asked ts c.args.doc c.loop-i.i _ _ _ _ _ a (omega (arith, a.places_for.size, c.loop-i.invariant.same.size, c.loop-i-test.false, c.len-i-end.ensures)) (omega (arith, c.loop-i.invariant.there, c.requires.size, c.loop-i.invariant.same.size, a.places_for.size))
+    asking_end base collection asked ts c.args.doc c.loop-i.i _ _ _ _ _ a
+    (omega (arith, a.places_for.size, c.loop-i.invariant.same.size, c.loop-i-test.false, c.len-i-end.ensures))
+    (omega (arith, c.loop-i.invariant.there, c.requires.size, c.loop-i.invariant.same.size, a.places_for.size))
 
 pub returns-clause-pages : goal.returns-clause-pages
 returns-clause-pages g c = λ base collection asked ts asks.
@@ -66,5 +78,8 @@ returns-in-Err-clause-pages g c = λ base collection asked ts asks.
     let lt : c.loop-i.i < length ts = omega (arith, a.places_for.size, c.loop-i.invariant.same.size, c.loop-i-test.true, c.len-i-end.ensures) in
     let one = asks_one base collection asked ts c.args.doc c.loop-i.i _ _ c.loop-i.places.items c.args.places.now.items c.loop-i.invariant.files asks a.places_for lt in
     let step = c.ask_at.ensures.pages base collection asked (get_or ts c.loop-i.i []) one in
-    subst (λ (ps : List Place). PagesWithin (sum_by (pages_for collection asked) ts) (pages_read c.args.places.now.items) (pages_read ps) (g.S.Store.reads c.args.store.now) (g.S.Store.reads c.ask_at.new.store)) (sym c.ask_at.ensures.places)
-    (asked_pages base collection asked ts c.args.doc c.loop-i.i c.args.places.now.items c.loop-i.places.items (slice_index_or c.ask_at.new.places.items c.loop-i.i None) (g.S.Store.reads c.args.store.now) (g.S.Store.reads c.loop-i.store) (g.S.Store.reads c.ask_at.new.store) c.cursor_pages_are_within.ensures a.places_for lt a.post step)
+    subst (λ (ps : List Place). PagesWithin (sum_by (pages_for collection asked) ts) (pages_read c.args.places.now.items) (pages_read ps)
+    (g.S.Store.reads c.args.store.now) (g.S.Store.reads c.ask_at.new.store)) (sym c.ask_at.ensures.places)
+    (asked_pages base collection asked ts c.args.doc c.loop-i.i c.args.places.now.items c.loop-i.places.items
+    (slice_index_or c.ask_at.new.places.items c.loop-i.i None) (g.S.Store.reads c.args.store.now) (g.S.Store.reads c.loop-i.store)
+    (g.S.Store.reads c.ask_at.new.store) c.cursor_pages_are_within.ensures a.places_for lt a.post step)

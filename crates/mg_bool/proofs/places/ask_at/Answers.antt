@@ -6,11 +6,15 @@ returns-clause-same g c = new_same c.args.places.now.items c.args.i c.index_mut-
 
 pub returns-clause-answer : goal.returns-clause-answer
 returns-clause-answer g c = λ base collection asked t a.
-    new_answer base collection asked t c.args.doc _ c.args.i _ _ c.requires.there (c.ask.ensures.answer base collection asked t (old_asks base collection asked t c.args.doc _ _ c.args.i _ c.requires.there c.index_mut-place.ensures.value a))
+    new_answer base collection asked t c.args.doc _ c.args.i _ _ c.requires.there
+    (c.ask.ensures.answer base collection asked t (old_asks base collection asked t c.args.doc _ _ c.args.i _ c.requires.there
+    c.index_mut-place.ensures.value a))
 
 pub returns-clause-pages : goal.returns-clause-pages
 returns-clause-pages g c = λ base collection asked t a.
-    new_pages _ _ _ c.args.places.now.items c.args.i c.index_mut-place.result.now c.ask.new.self c.requires.there c.index_mut-place.ensures.value (c.ask.ensures.pages base collection asked t (old_asks base collection asked t c.args.doc _ _ c.args.i _ c.requires.there c.index_mut-place.ensures.value a))
+    new_pages _ _ _ c.args.places.now.items c.args.i c.index_mut-place.result.now c.ask.new.self c.requires.there c.index_mut-place.ensures.value
+    (c.ask.ensures.pages base collection asked t (old_asks base collection asked t c.args.doc _ _ c.args.i _ c.requires.there
+    c.index_mut-place.ensures.value a))
 
 pub returns-clause-range : goal.returns-clause-range
 returns-clause-range g c = λ base all on. c.ask.ensures.range base all (old_on base all _ c.args.i _ c.requires.there c.index_mut-place.ensures.value on)

@@ -7,7 +7,13 @@ loop-info-init g c = rw c.new-places.ensures.items (record { size = refl; each =
 
 pub loop-info-preserved : goal.loop-info-preserved
 loop-info-preserved g c =
-    rw c.in_ok-push.ensures.items (made_next _ _ _ _ _ _ c.loop-info.invariant (record { over = c.in_ok-place.ensures.place; on = c.in_ok-place.ensures.on; fits = c.in_ok-place.ensures.fits; nothing = c.in_ok-place.ensures.nothing }))
+    rw c.in_ok-push.ensures.items (made_next _ _ _ _ _ _ c.loop-info.invariant
+    (record {
+      over = c.in_ok-place.ensures.place;
+      on = c.in_ok-place.ensures.on;
+      fits = c.in_ok-place.ensures.fits;
+      nothing = c.in_ok-place.ensures.nothing;
+    }))
 
 pub returns-clause-over : goal.returns-clause-over
 returns-clause-over g c = made_over _ _ _ _ _ c.loop-info.invariant (omega (arith, c.loop-info-test.false, c.loop-info.auto))

@@ -18,12 +18,17 @@ pub returns-clause-answer : goal.returns-clause-answer
 returns-clause-answer g c = λ t base collection goes.
     let l = lead_of base collection (term t) _ _ (Some c.args.place) c.args.place c.args.all c.args.decided refl goes in
     let v = slice_index_or c.ask_at.new.places.items c.args.place None in
-    let one = answers_more c.ask_at.result _ (WordFound base collection t c.args.place c.args.all c.args.decided (slice_set c.args.places.now.items c.args.place (slice_index_or c.ask_at.new.places.items c.args.place None)))
-    (λ found a. word_answer base collection t _ _ c.args.place c.args.all c.args.decided _ found c.requires.more goes l a) (c.ask_at.ensures.answer base collection (asked_of collection (term t)) (get_or (query_terms (term t)) c.args.place []) l.asks) in
+    let one = answers_more c.ask_at.result _ (WordFound base collection t c.args.place c.args.all c.args.decided
+    (slice_set c.args.places.now.items c.args.place (slice_index_or c.ask_at.new.places.items c.args.place None)))
+    (λ found a. word_answer base collection t _ _ c.args.place c.args.all c.args.decided _ found c.requires.more goes l a)
+    (c.ask_at.ensures.answer base collection (asked_of collection (term t)) (get_or (query_terms (term t)) c.args.place []) l.asks) in
     subst (λ (ps : List Place). AnswersList c.ask_at.result (WordFound base collection t c.args.place c.args.all c.args.decided ps)) (sym c.ask_at.ensures.places) one
 
 pub returns-clause-pages : goal.returns-clause-pages
 returns-clause-pages g c = λ t base collection goes.
     let l = lead_of base collection (term t) _ _ (Some c.args.place) c.args.place c.args.all c.args.decided refl goes in
-    subst (λ (ps : List Place). PagesWithin (boolean_bound collection (term t)) (pages_read c.args.places.now.items) (pages_read ps) (g.S.Store.reads c.args.store.now) (g.S.Store.reads c.ask_at.new.store)) (sym c.ask_at.ensures.places)
-    (lead_pages base collection (term t) _ c.args.places.now.items (Some c.args.place) c.args.place c.args.all c.args.decided (slice_index_or c.ask_at.new.places.items c.args.place None) _ _ c.cursor_pages_are_within.ensures goes l (c.ask_at.ensures.pages base collection (asked_of collection (term t)) (get_or (query_terms (term t)) c.args.place []) l.asks))
+    subst (λ (ps : List Place). PagesWithin (boolean_bound collection (term t)) (pages_read c.args.places.now.items) (pages_read ps)
+    (g.S.Store.reads c.args.store.now) (g.S.Store.reads c.ask_at.new.store)) (sym c.ask_at.ensures.places)
+    (lead_pages base collection (term t) _ c.args.places.now.items (Some c.args.place) c.args.place c.args.all c.args.decided
+    (slice_index_or c.ask_at.new.places.items c.args.place None) _ _ c.cursor_pages_are_within.ensures goes l
+    (c.ask_at.ensures.pages base collection (asked_of collection (term t)) (get_or (query_terms (term t)) c.args.place []) l.asks))

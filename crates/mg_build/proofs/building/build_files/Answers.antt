@@ -60,9 +60,11 @@ returns-in-Err-count_all-clause-pieces g c = λ bytes stream x is apart few firs
     (pass_at _ _ _ _ _ _ c.in-Err-count_all.fault c.in-Ok.ensures.files c.in-Ok.ensures.name c.in-Err-count_all.ensures.refused)
 
 pub returns-in-Err-count_all-clause-complete : goal.returns-in-Err-count_all-clause-complete
-returns-in-Err-count_all-clause-complete g c = λ bytes is apart limits never. done_or_lacks Summary (Rose (g.S.Store.faults c.open.new.store) (g.S.Store.faults c.count_all.new.store)) c.in-Err-count_all.fault
+returns-in-Err-count_all-clause-complete g c = λ bytes is apart limits never.
+    done_or_lacks Summary (Rose (g.S.Store.faults c.open.new.store) (g.S.Store.faults c.count_all.new.store)) c.in-Err-count_all.fault
     (λ rose. never (rose_behind _ _ _ c.in-Ok.ensures.later rose))
-    (pass_only _ _ _ bytes _ c.in-Err-count_all.fault is c.in-Ok.ensures.size limits (pass_at _ _ _ _ _ _ c.in-Err-count_all.fault c.in-Ok.ensures.files c.in-Ok.ensures.name c.in-Err-count_all.ensures.refused))
+    (pass_only _ _ _ bytes _ c.in-Err-count_all.fault is c.in-Ok.ensures.size limits
+    (pass_at _ _ _ _ _ _ c.in-Err-count_all.fault c.in-Ok.ensures.files c.in-Ok.ensures.name c.in-Err-count_all.ensures.refused))
 
 pub returns-clause-stands : goal.returns-clause-stands
 returns-clause-stands g c = λ told.
@@ -72,11 +74,16 @@ returns-clause-stands g c = λ told.
     let plan : Plan = c.in-Ok-count_all.made.0 in
     let whole : length (bytes_at before c.args.collection.now) ≡ c.in-Ok.source.size = size_is before c.args.collection.now c.in-Ok.source.size (c.in-Ok.ensures.size told) in
     let planned : IsPlanFor plan counted c.count_all.new.source.feed.name c.count_all.new.source.size
-    = plan_at plan opened counted c.in-Ok.source.feed.name c.count_all.new.source.feed.name c.in-Ok.source.size c.count_all.new.source.size (sym c.in-Ok-count_all.ensures.looked.files) (sym c.in-Ok-count_all.ensures.file.name) (sym c.in-Ok-count_all.ensures.size)
-    (c.in-Ok-count_all.ensures.of (subst (λ f. IsSome f) (sym c.in-Ok.ensures.files) told) (size_at before opened c.args.collection.now c.in-Ok.source.feed.name c.in-Ok.source.size (sym c.in-Ok.ensures.files) (sym c.in-Ok.ensures.name) whole)) in
+    = plan_at plan opened counted c.in-Ok.source.feed.name c.count_all.new.source.feed.name c.in-Ok.source.size c.count_all.new.source.size
+    (sym c.in-Ok-count_all.ensures.looked.files) (sym c.in-Ok-count_all.ensures.file.name) (sym c.in-Ok-count_all.ensures.size)
+    (c.in-Ok-count_all.ensures.of (subst (λ f. IsSome f) (sym c.in-Ok.ensures.files) told)
+    (size_at before opened c.args.collection.now c.in-Ok.source.feed.name c.in-Ok.source.size (sym c.in-Ok.ensures.files) (sym c.in-Ok.ensures.name)
+    whole)) in
     let same : bytes_at counted c.count_all.new.source.feed.name ≡ bytes_at before c.args.collection.now
-    = ap (λ f. bytes_at f c.count_all.new.source.feed.name) (c.in-Ok-count_all.ensures.looked.files ∙ c.in-Ok.ensures.files) ∙ ap (λ n. bytes_at before n) (c.in-Ok-count_all.ensures.file.name ∙ c.in-Ok.ensures.name) in
-    moved (λ limit base bytes. OnOk c.write_set.result (StandsIn 2 (run_cap limit) (g.S.Store.files c.write_set.new.store) base bytes)) _ _ _ _ _ _ (ap (λ pool. pool.limit) c.in-Ok-count_all.ensures.room.pool) refl same (c.write_set.ensures.stands planned)
+    = ap (λ f. bytes_at f c.count_all.new.source.feed.name) (c.in-Ok-count_all.ensures.looked.files ∙ c.in-Ok.ensures.files)
+    ∙ ap (λ n. bytes_at before n) (c.in-Ok-count_all.ensures.file.name ∙ c.in-Ok.ensures.name) in
+    moved (λ limit base bytes. OnOk c.write_set.result (StandsIn 2 (run_cap limit) (g.S.Store.files c.write_set.new.store) base bytes)) _ _ _ _ _ _
+    (ap (λ pool. pool.limit) c.in-Ok-count_all.ensures.room.pool) refl same (c.write_set.ensures.stands planned)
 
 pub returns-clause-summary : goal.returns-clause-summary
 returns-clause-summary g c = λ told.
@@ -86,11 +93,16 @@ returns-clause-summary g c = λ told.
     let plan : Plan = c.in-Ok-count_all.made.0 in
     let whole : length (bytes_at before c.args.collection.now) ≡ c.in-Ok.source.size = size_is before c.args.collection.now c.in-Ok.source.size (c.in-Ok.ensures.size told) in
     let planned : IsPlanFor plan counted c.count_all.new.source.feed.name c.count_all.new.source.size
-    = plan_at plan opened counted c.in-Ok.source.feed.name c.count_all.new.source.feed.name c.in-Ok.source.size c.count_all.new.source.size (sym c.in-Ok-count_all.ensures.looked.files) (sym c.in-Ok-count_all.ensures.file.name) (sym c.in-Ok-count_all.ensures.size)
-    (c.in-Ok-count_all.ensures.of (subst (λ f. IsSome f) (sym c.in-Ok.ensures.files) told) (size_at before opened c.args.collection.now c.in-Ok.source.feed.name c.in-Ok.source.size (sym c.in-Ok.ensures.files) (sym c.in-Ok.ensures.name) whole)) in
+    = plan_at plan opened counted c.in-Ok.source.feed.name c.count_all.new.source.feed.name c.in-Ok.source.size c.count_all.new.source.size
+    (sym c.in-Ok-count_all.ensures.looked.files) (sym c.in-Ok-count_all.ensures.file.name) (sym c.in-Ok-count_all.ensures.size)
+    (c.in-Ok-count_all.ensures.of (subst (λ f. IsSome f) (sym c.in-Ok.ensures.files) told)
+    (size_at before opened c.args.collection.now c.in-Ok.source.feed.name c.in-Ok.source.size (sym c.in-Ok.ensures.files) (sym c.in-Ok.ensures.name)
+    whole)) in
     let same : bytes_at counted c.count_all.new.source.feed.name ≡ bytes_at before c.args.collection.now
-    = ap (λ f. bytes_at f c.count_all.new.source.feed.name) (c.in-Ok-count_all.ensures.looked.files ∙ c.in-Ok.ensures.files) ∙ ap (λ n. bytes_at before n) (c.in-Ok-count_all.ensures.file.name ∙ c.in-Ok.ensures.name) in
-    moved (λ limit base bytes. IfOk c.write_set.result (λ summary. summary ≡ summary_of limit bytes)) _ _ c.args.base.now c.args.base.now _ _ (ap (λ pool. pool.limit) c.in-Ok-count_all.ensures.room.pool) refl same (c.write_set.ensures.summary planned)
+    = ap (λ f. bytes_at f c.count_all.new.source.feed.name) (c.in-Ok-count_all.ensures.looked.files ∙ c.in-Ok.ensures.files)
+    ∙ ap (λ n. bytes_at before n) (c.in-Ok-count_all.ensures.file.name ∙ c.in-Ok.ensures.name) in
+    moved (λ limit base bytes. IfOk c.write_set.result (λ summary. summary ≡ summary_of limit bytes)) _ _ c.args.base.now c.args.base.now _ _
+    (ap (λ pool. pool.limit) c.in-Ok-count_all.ensures.room.pool) refl same (c.write_set.ensures.summary planned)
 
 pub returns-clause-text : goal.returns-clause-text
 returns-clause-text g c = λ told.
@@ -100,11 +112,17 @@ returns-clause-text g c = λ told.
     let plan : Plan = c.in-Ok-count_all.made.0 in
     let whole : length (bytes_at before c.args.collection.now) ≡ c.in-Ok.source.size = size_is before c.args.collection.now c.in-Ok.source.size (c.in-Ok.ensures.size told) in
     let planned : IsPlanFor plan counted c.count_all.new.source.feed.name c.count_all.new.source.size
-    = plan_at plan opened counted c.in-Ok.source.feed.name c.count_all.new.source.feed.name c.in-Ok.source.size c.count_all.new.source.size (sym c.in-Ok-count_all.ensures.looked.files) (sym c.in-Ok-count_all.ensures.file.name) (sym c.in-Ok-count_all.ensures.size)
-    (c.in-Ok-count_all.ensures.of (subst (λ f. IsSome f) (sym c.in-Ok.ensures.files) told) (size_at before opened c.args.collection.now c.in-Ok.source.feed.name c.in-Ok.source.size (sym c.in-Ok.ensures.files) (sym c.in-Ok.ensures.name) whole)) in
+    = plan_at plan opened counted c.in-Ok.source.feed.name c.count_all.new.source.feed.name c.in-Ok.source.size c.count_all.new.source.size
+    (sym c.in-Ok-count_all.ensures.looked.files) (sym c.in-Ok-count_all.ensures.file.name) (sym c.in-Ok-count_all.ensures.size)
+    (c.in-Ok-count_all.ensures.of (subst (λ f. IsSome f) (sym c.in-Ok.ensures.files) told)
+    (size_at before opened c.args.collection.now c.in-Ok.source.feed.name c.in-Ok.source.size (sym c.in-Ok.ensures.files) (sym c.in-Ok.ensures.name)
+    whole)) in
     let same : bytes_at counted c.count_all.new.source.feed.name ≡ bytes_at before c.args.collection.now
-    = ap (λ f. bytes_at f c.count_all.new.source.feed.name) (c.in-Ok-count_all.ensures.looked.files ∙ c.in-Ok.ensures.files) ∙ ap (λ n. bytes_at before n) (c.in-Ok-count_all.ensures.file.name ∙ c.in-Ok.ensures.name) in
-    text_all c.write_set.result (run_cap c.in-Ok-count_all.made.1.pool.limit) _ _ _ (subst (λ bytes. OnOk c.write_set.result (StandsIn 2 (run_cap c.in-Ok-count_all.made.1.pool.limit) (g.S.Store.files c.write_set.new.store) c.args.base.now bytes)) same (c.write_set.ensures.stands planned))
+    = ap (λ f. bytes_at f c.count_all.new.source.feed.name) (c.in-Ok-count_all.ensures.looked.files ∙ c.in-Ok.ensures.files)
+    ∙ ap (λ n. bytes_at before n) (c.in-Ok-count_all.ensures.file.name ∙ c.in-Ok.ensures.name) in
+    text_all c.write_set.result (run_cap c.in-Ok-count_all.made.1.pool.limit) _ _ _
+    (subst (λ bytes. OnOk c.write_set.result (StandsIn 2 (run_cap c.in-Ok-count_all.made.1.pool.limit) (g.S.Store.files c.write_set.new.store)
+    c.args.base.now bytes)) same (c.write_set.ensures.stands planned))
 
 pub returns-clause-merge_a : goal.returns-clause-merge_a
 returns-clause-merge_a g c = λ told.
@@ -114,10 +132,14 @@ returns-clause-merge_a g c = λ told.
     let plan : Plan = c.in-Ok-count_all.made.0 in
     let whole : length (bytes_at before c.args.collection.now) ≡ c.in-Ok.source.size = size_is before c.args.collection.now c.in-Ok.source.size (c.in-Ok.ensures.size told) in
     let planned : IsPlanFor plan counted c.count_all.new.source.feed.name c.count_all.new.source.size
-    = plan_at plan opened counted c.in-Ok.source.feed.name c.count_all.new.source.feed.name c.in-Ok.source.size c.count_all.new.source.size (sym c.in-Ok-count_all.ensures.looked.files) (sym c.in-Ok-count_all.ensures.file.name) (sym c.in-Ok-count_all.ensures.size)
-    (c.in-Ok-count_all.ensures.of (subst (λ f. IsSome f) (sym c.in-Ok.ensures.files) told) (size_at before opened c.args.collection.now c.in-Ok.source.feed.name c.in-Ok.source.size (sym c.in-Ok.ensures.files) (sym c.in-Ok.ensures.name) whole)) in
+    = plan_at plan opened counted c.in-Ok.source.feed.name c.count_all.new.source.feed.name c.in-Ok.source.size c.count_all.new.source.size
+    (sym c.in-Ok-count_all.ensures.looked.files) (sym c.in-Ok-count_all.ensures.file.name) (sym c.in-Ok-count_all.ensures.size)
+    (c.in-Ok-count_all.ensures.of (subst (λ f. IsSome f) (sym c.in-Ok.ensures.files) told)
+    (size_at before opened c.args.collection.now c.in-Ok.source.feed.name c.in-Ok.source.size (sym c.in-Ok.ensures.files) (sym c.in-Ok.ensures.name)
+    whole)) in
     let same : bytes_at counted c.count_all.new.source.feed.name ≡ bytes_at before c.args.collection.now
-    = ap (λ f. bytes_at f c.count_all.new.source.feed.name) (c.in-Ok-count_all.ensures.looked.files ∙ c.in-Ok.ensures.files) ∙ ap (λ n. bytes_at before n) (c.in-Ok-count_all.ensures.file.name ∙ c.in-Ok.ensures.name) in
+    = ap (λ f. bytes_at f c.count_all.new.source.feed.name) (c.in-Ok-count_all.ensures.looked.files ∙ c.in-Ok.ensures.files)
+    ∙ ap (λ n. bytes_at before n) (c.in-Ok-count_all.ensures.file.name ∙ c.in-Ok.ensures.name) in
     c.write_set.ensures.merge_a planned
 
 pub returns-clause-merge_b : goal.returns-clause-merge_b
@@ -128,10 +150,14 @@ returns-clause-merge_b g c = λ told.
     let plan : Plan = c.in-Ok-count_all.made.0 in
     let whole : length (bytes_at before c.args.collection.now) ≡ c.in-Ok.source.size = size_is before c.args.collection.now c.in-Ok.source.size (c.in-Ok.ensures.size told) in
     let planned : IsPlanFor plan counted c.count_all.new.source.feed.name c.count_all.new.source.size
-    = plan_at plan opened counted c.in-Ok.source.feed.name c.count_all.new.source.feed.name c.in-Ok.source.size c.count_all.new.source.size (sym c.in-Ok-count_all.ensures.looked.files) (sym c.in-Ok-count_all.ensures.file.name) (sym c.in-Ok-count_all.ensures.size)
-    (c.in-Ok-count_all.ensures.of (subst (λ f. IsSome f) (sym c.in-Ok.ensures.files) told) (size_at before opened c.args.collection.now c.in-Ok.source.feed.name c.in-Ok.source.size (sym c.in-Ok.ensures.files) (sym c.in-Ok.ensures.name) whole)) in
+    = plan_at plan opened counted c.in-Ok.source.feed.name c.count_all.new.source.feed.name c.in-Ok.source.size c.count_all.new.source.size
+    (sym c.in-Ok-count_all.ensures.looked.files) (sym c.in-Ok-count_all.ensures.file.name) (sym c.in-Ok-count_all.ensures.size)
+    (c.in-Ok-count_all.ensures.of (subst (λ f. IsSome f) (sym c.in-Ok.ensures.files) told)
+    (size_at before opened c.args.collection.now c.in-Ok.source.feed.name c.in-Ok.source.size (sym c.in-Ok.ensures.files) (sym c.in-Ok.ensures.name)
+    whole)) in
     let same : bytes_at counted c.count_all.new.source.feed.name ≡ bytes_at before c.args.collection.now
-    = ap (λ f. bytes_at f c.count_all.new.source.feed.name) (c.in-Ok-count_all.ensures.looked.files ∙ c.in-Ok.ensures.files) ∙ ap (λ n. bytes_at before n) (c.in-Ok-count_all.ensures.file.name ∙ c.in-Ok.ensures.name) in
+    = ap (λ f. bytes_at f c.count_all.new.source.feed.name) (c.in-Ok-count_all.ensures.looked.files ∙ c.in-Ok.ensures.files)
+    ∙ ap (λ n. bytes_at before n) (c.in-Ok-count_all.ensures.file.name ∙ c.in-Ok.ensures.name) in
     c.write_set.ensures.merge_b planned
 
 pub returns-clause-left : goal.returns-clause-left
@@ -142,10 +168,14 @@ returns-clause-left g c = λ told.
     let plan : Plan = c.in-Ok-count_all.made.0 in
     let whole : length (bytes_at before c.args.collection.now) ≡ c.in-Ok.source.size = size_is before c.args.collection.now c.in-Ok.source.size (c.in-Ok.ensures.size told) in
     let planned : IsPlanFor plan counted c.count_all.new.source.feed.name c.count_all.new.source.size
-    = plan_at plan opened counted c.in-Ok.source.feed.name c.count_all.new.source.feed.name c.in-Ok.source.size c.count_all.new.source.size (sym c.in-Ok-count_all.ensures.looked.files) (sym c.in-Ok-count_all.ensures.file.name) (sym c.in-Ok-count_all.ensures.size)
-    (c.in-Ok-count_all.ensures.of (subst (λ f. IsSome f) (sym c.in-Ok.ensures.files) told) (size_at before opened c.args.collection.now c.in-Ok.source.feed.name c.in-Ok.source.size (sym c.in-Ok.ensures.files) (sym c.in-Ok.ensures.name) whole)) in
+    = plan_at plan opened counted c.in-Ok.source.feed.name c.count_all.new.source.feed.name c.in-Ok.source.size c.count_all.new.source.size
+    (sym c.in-Ok-count_all.ensures.looked.files) (sym c.in-Ok-count_all.ensures.file.name) (sym c.in-Ok-count_all.ensures.size)
+    (c.in-Ok-count_all.ensures.of (subst (λ f. IsSome f) (sym c.in-Ok.ensures.files) told)
+    (size_at before opened c.args.collection.now c.in-Ok.source.feed.name c.in-Ok.source.size (sym c.in-Ok.ensures.files) (sym c.in-Ok.ensures.name)
+    whole)) in
     let same : bytes_at counted c.count_all.new.source.feed.name ≡ bytes_at before c.args.collection.now
-    = ap (λ f. bytes_at f c.count_all.new.source.feed.name) (c.in-Ok-count_all.ensures.looked.files ∙ c.in-Ok.ensures.files) ∙ ap (λ n. bytes_at before n) (c.in-Ok-count_all.ensures.file.name ∙ c.in-Ok.ensures.name) in
+    = ap (λ f. bytes_at f c.count_all.new.source.feed.name) (c.in-Ok-count_all.ensures.looked.files ∙ c.in-Ok.ensures.files)
+    ∙ ap (λ n. bytes_at before n) (c.in-Ok-count_all.ensures.file.name ∙ c.in-Ok.ensures.name) in
     subst (λ f. Left c.args.base.now f (g.S.Store.files c.write_set.new.store) (bytes_at before c.args.collection.now)) (c.in-Ok-count_all.ensures.looked.files ∙ c.in-Ok.ensures.files)
     (subst (λ bytes. Left c.args.base.now counted (g.S.Store.files c.write_set.new.store) bytes) same (c.write_set.ensures.left planned))
 
@@ -160,10 +190,14 @@ returns-clause-cause g c = cause_all c.write_set.result _ _ _ _ _ _ (λ rose. ro
     let plan : Plan = c.in-Ok-count_all.made.0 in
     let whole : length (bytes_at before c.args.collection.now) ≡ c.in-Ok.source.size = size_is before c.args.collection.now c.in-Ok.source.size (c.in-Ok.ensures.size told) in
     let planned : IsPlanFor plan counted c.count_all.new.source.feed.name c.count_all.new.source.size
-    = plan_at plan opened counted c.in-Ok.source.feed.name c.count_all.new.source.feed.name c.in-Ok.source.size c.count_all.new.source.size (sym c.in-Ok-count_all.ensures.looked.files) (sym c.in-Ok-count_all.ensures.file.name) (sym c.in-Ok-count_all.ensures.size)
-    (c.in-Ok-count_all.ensures.of (subst (λ f. IsSome f) (sym c.in-Ok.ensures.files) told) (size_at before opened c.args.collection.now c.in-Ok.source.feed.name c.in-Ok.source.size (sym c.in-Ok.ensures.files) (sym c.in-Ok.ensures.name) whole)) in
+    = plan_at plan opened counted c.in-Ok.source.feed.name c.count_all.new.source.feed.name c.in-Ok.source.size c.count_all.new.source.size
+    (sym c.in-Ok-count_all.ensures.looked.files) (sym c.in-Ok-count_all.ensures.file.name) (sym c.in-Ok-count_all.ensures.size)
+    (c.in-Ok-count_all.ensures.of (subst (λ f. IsSome f) (sym c.in-Ok.ensures.files) told)
+    (size_at before opened c.args.collection.now c.in-Ok.source.feed.name c.in-Ok.source.size (sym c.in-Ok.ensures.files) (sym c.in-Ok.ensures.name)
+    whole)) in
     let same : bytes_at counted c.count_all.new.source.feed.name ≡ bytes_at before c.args.collection.now
-    = ap (λ f. bytes_at f c.count_all.new.source.feed.name) (c.in-Ok-count_all.ensures.looked.files ∙ c.in-Ok.ensures.files) ∙ ap (λ n. bytes_at before n) (c.in-Ok-count_all.ensures.file.name ∙ c.in-Ok.ensures.name) in
+    = ap (λ f. bytes_at f c.count_all.new.source.feed.name) (c.in-Ok-count_all.ensures.looked.files ∙ c.in-Ok.ensures.files)
+    ∙ ap (λ n. bytes_at before n) (c.in-Ok-count_all.ensures.file.name ∙ c.in-Ok.ensures.name) in
     planned) c.write_set.ensures.refused
 
 pub returns-clause-documents : goal.returns-clause-documents
@@ -175,10 +209,14 @@ returns-clause-documents g c = λ bytes is apart few first.
     let plan : Plan = c.in-Ok-count_all.made.0 in
     let whole : length (bytes_at before c.args.collection.now) ≡ c.in-Ok.source.size = size_is before c.args.collection.now c.in-Ok.source.size (c.in-Ok.ensures.size told) in
     let planned : IsPlanFor plan counted c.count_all.new.source.feed.name c.count_all.new.source.size
-    = plan_at plan opened counted c.in-Ok.source.feed.name c.count_all.new.source.feed.name c.in-Ok.source.size c.count_all.new.source.size (sym c.in-Ok-count_all.ensures.looked.files) (sym c.in-Ok-count_all.ensures.file.name) (sym c.in-Ok-count_all.ensures.size)
-    (c.in-Ok-count_all.ensures.of (subst (λ f. IsSome f) (sym c.in-Ok.ensures.files) told) (size_at before opened c.args.collection.now c.in-Ok.source.feed.name c.in-Ok.source.size (sym c.in-Ok.ensures.files) (sym c.in-Ok.ensures.name) whole)) in
+    = plan_at plan opened counted c.in-Ok.source.feed.name c.count_all.new.source.feed.name c.in-Ok.source.size c.count_all.new.source.size
+    (sym c.in-Ok-count_all.ensures.looked.files) (sym c.in-Ok-count_all.ensures.file.name) (sym c.in-Ok-count_all.ensures.size)
+    (c.in-Ok-count_all.ensures.of (subst (λ f. IsSome f) (sym c.in-Ok.ensures.files) told)
+    (size_at before opened c.args.collection.now c.in-Ok.source.feed.name c.in-Ok.source.size (sym c.in-Ok.ensures.files) (sym c.in-Ok.ensures.name)
+    whole)) in
     let same : bytes_at counted c.count_all.new.source.feed.name ≡ bytes_at before c.args.collection.now
-    = ap (λ f. bytes_at f c.count_all.new.source.feed.name) (c.in-Ok-count_all.ensures.looked.files ∙ c.in-Ok.ensures.files) ∙ ap (λ n. bytes_at before n) (c.in-Ok-count_all.ensures.file.name ∙ c.in-Ok.ensures.name) in
+    = ap (λ f. bytes_at f c.count_all.new.source.feed.name) (c.in-Ok-count_all.ensures.looked.files ∙ c.in-Ok.ensures.files)
+    ∙ ap (λ n. bytes_at before n) (c.in-Ok-count_all.ensures.file.name ∙ c.in-Ok.ensures.name) in
     absurd (within_passes bytes start (subst (λ b. IsWithinLimits 2 b) (same ∙ its_bytes _ _ bytes is) planned.counted.limits) first)
 
 pub returns-clause-pieces : goal.returns-clause-pieces
@@ -190,10 +228,14 @@ returns-clause-pieces g c = λ bytes stream x is apart few first.
     let plan : Plan = c.in-Ok-count_all.made.0 in
     let whole : length (bytes_at before c.args.collection.now) ≡ c.in-Ok.source.size = size_is before c.args.collection.now c.in-Ok.source.size (c.in-Ok.ensures.size told) in
     let planned : IsPlanFor plan counted c.count_all.new.source.feed.name c.count_all.new.source.size
-    = plan_at plan opened counted c.in-Ok.source.feed.name c.count_all.new.source.feed.name c.in-Ok.source.size c.count_all.new.source.size (sym c.in-Ok-count_all.ensures.looked.files) (sym c.in-Ok-count_all.ensures.file.name) (sym c.in-Ok-count_all.ensures.size)
-    (c.in-Ok-count_all.ensures.of (subst (λ f. IsSome f) (sym c.in-Ok.ensures.files) told) (size_at before opened c.args.collection.now c.in-Ok.source.feed.name c.in-Ok.source.size (sym c.in-Ok.ensures.files) (sym c.in-Ok.ensures.name) whole)) in
+    = plan_at plan opened counted c.in-Ok.source.feed.name c.count_all.new.source.feed.name c.in-Ok.source.size c.count_all.new.source.size
+    (sym c.in-Ok-count_all.ensures.looked.files) (sym c.in-Ok-count_all.ensures.file.name) (sym c.in-Ok-count_all.ensures.size)
+    (c.in-Ok-count_all.ensures.of (subst (λ f. IsSome f) (sym c.in-Ok.ensures.files) told)
+    (size_at before opened c.args.collection.now c.in-Ok.source.feed.name c.in-Ok.source.size (sym c.in-Ok.ensures.files) (sym c.in-Ok.ensures.name)
+    whole)) in
     let same : bytes_at counted c.count_all.new.source.feed.name ≡ bytes_at before c.args.collection.now
-    = ap (λ f. bytes_at f c.count_all.new.source.feed.name) (c.in-Ok-count_all.ensures.looked.files ∙ c.in-Ok.ensures.files) ∙ ap (λ n. bytes_at before n) (c.in-Ok-count_all.ensures.file.name ∙ c.in-Ok.ensures.name) in
+    = ap (λ f. bytes_at f c.count_all.new.source.feed.name) (c.in-Ok-count_all.ensures.looked.files ∙ c.in-Ok.ensures.files)
+    ∙ ap (λ n. bytes_at before n) (c.in-Ok-count_all.ensures.file.name ∙ c.in-Ok.ensures.name) in
     absurd (within_passes bytes (piece stream x) (subst (λ b. IsWithinLimits 2 b) (same ∙ its_bytes _ _ bytes is) planned.counted.limits) first)
 
 pub returns-clause-complete : goal.returns-clause-complete
@@ -205,8 +247,12 @@ returns-clause-complete g c = λ bytes is apart limits never.
     let plan : Plan = c.in-Ok-count_all.made.0 in
     let whole : length (bytes_at before c.args.collection.now) ≡ c.in-Ok.source.size = size_is before c.args.collection.now c.in-Ok.source.size (c.in-Ok.ensures.size told) in
     let planned : IsPlanFor plan counted c.count_all.new.source.feed.name c.count_all.new.source.size
-    = plan_at plan opened counted c.in-Ok.source.feed.name c.count_all.new.source.feed.name c.in-Ok.source.size c.count_all.new.source.size (sym c.in-Ok-count_all.ensures.looked.files) (sym c.in-Ok-count_all.ensures.file.name) (sym c.in-Ok-count_all.ensures.size)
-    (c.in-Ok-count_all.ensures.of (subst (λ f. IsSome f) (sym c.in-Ok.ensures.files) told) (size_at before opened c.args.collection.now c.in-Ok.source.feed.name c.in-Ok.source.size (sym c.in-Ok.ensures.files) (sym c.in-Ok.ensures.name) whole)) in
+    = plan_at plan opened counted c.in-Ok.source.feed.name c.count_all.new.source.feed.name c.in-Ok.source.size c.count_all.new.source.size
+    (sym c.in-Ok-count_all.ensures.looked.files) (sym c.in-Ok-count_all.ensures.file.name) (sym c.in-Ok-count_all.ensures.size)
+    (c.in-Ok-count_all.ensures.of (subst (λ f. IsSome f) (sym c.in-Ok.ensures.files) told)
+    (size_at before opened c.args.collection.now c.in-Ok.source.feed.name c.in-Ok.source.size (sym c.in-Ok.ensures.files) (sym c.in-Ok.ensures.name)
+    whole)) in
     let same : bytes_at counted c.count_all.new.source.feed.name ≡ bytes_at before c.args.collection.now
-    = ap (λ f. bytes_at f c.count_all.new.source.feed.name) (c.in-Ok-count_all.ensures.looked.files ∙ c.in-Ok.ensures.files) ∙ ap (λ n. bytes_at before n) (c.in-Ok-count_all.ensures.file.name ∙ c.in-Ok.ensures.name) in
+    = ap (λ f. bytes_at f c.count_all.new.source.feed.name) (c.in-Ok-count_all.ensures.looked.files ∙ c.in-Ok.ensures.files)
+    ∙ ap (λ n. bytes_at before n) (c.in-Ok-count_all.ensures.file.name ∙ c.in-Ok.ensures.name) in
     done_all c.write_set.result _ _ _ (λ rose. rose_behind _ _ _ (omega (arith, c.in-Ok.ensures.later, c.in-Ok-count_all.ensures.looked.faults)) rose) never planned c.write_set.ensures.refused

@@ -15,7 +15,9 @@ returns-in-Some-clause-apart c = λ none. apart_behind c.args.name.now c.args.ba
     (strip_prefix_is Decides-eqb c.as_bytes.result.now c.as_bytes-2.result.now c.strip_prefix.result c.strip_prefix.ensures.cases))) c.in-Some.is (c.part_ending_in.ensures.none none)
 
 pub returns-in-None-clause-apart : goal.returns-in-None-clause-apart
-returns-in-None-clause-apart c = λ none. apart_before c.args.name.now c.args.base.now c.strip_prefix.result (subst (λ name. Splits name c.args.base.now c.strip_prefix.result) c.as_bytes.ensures.value (subst (λ base. Splits c.as_bytes.result.now base c.strip_prefix.result) c.as_bytes-2.ensures.value
+returns-in-None-clause-apart c = λ none. apart_before c.args.name.now c.args.base.now c.strip_prefix.result
+    (subst (λ name. Splits name c.args.base.now c.strip_prefix.result) c.as_bytes.ensures.value
+    (subst (λ base. Splits c.as_bytes.result.now base c.strip_prefix.result) c.as_bytes-2.ensures.value
     (strip_prefix_is Decides-eqb c.as_bytes.result.now c.as_bytes-2.result.now c.strip_prefix.result c.strip_prefix.ensures.cases))) c.in-None.is
 
 pub returns-in-Some-clause-one : goal.returns-in-Some-clause-one

@@ -23,7 +23,8 @@ returns-in-Err-take-clause-refused g c =
     write_put _ _ c.args.writer.now.plan before name so_far.put.0 c.args.source.now.size c.loop-at.at c.in-Ok.byte c.in-Err-take.refusal
     (λ rose. rose_behind _ _ _ (omega (arith, so_far.later, c.in-Ok.ensures.looked.faults)) rose)
     (omega (arith, c.size-at-end.ensures.size, c.size-at-end.ensures.small)) (omega (arith, c.loop-at-test.true, c.size-at-end.ensures.size)) read so_far.put.1
-    (λ more few. subst (λ plan. SecondStops (Rose (g.S.Store.faults c.byte.new.store) (g.S.Store.faults c.take.new.store)) (IsPlanOf plan (so_far.put.0 ++ c.in-Ok.byte ∷ more)) c.in-Err-take.refusal) so_far.plan
+    (λ more few. subst (λ plan. SecondStops (Rose (g.S.Store.faults c.byte.new.store) (g.S.Store.faults c.take.new.store))
+    (IsPlanOf plan (so_far.put.0 ++ c.in-Ok.byte ∷ more)) c.in-Err-take.refusal) so_far.plan
     (c.in-Err-take.ensures.refused so_far.put.0 more (still_put c.loop-at.writer _ _ so_far.put.0 c.in-Ok.ensures.looked.files so_far.put.2) few))
 
 pub loop-at-preserved : goal.loop-at-preserved
@@ -47,7 +48,8 @@ loop-at-preserved g c =
       base = c.in-Ok-take.ensures.base ∙ so_far.base;
       plan = c.in-Ok-take.ensures.plan ∙ so_far.plan;
       limit = c.in-Ok-take.ensures.limit ∙ so_far.limit;
-      head = λ told. subst (λ base. file_at (g.S.Store.files c.take.new.store) (full_name base Head) ≡ Some []) so_far.base (c.in-Ok-take.ensures.head (still_told before (g.S.Store.files c.byte.new.store) read_others.told told));
+      head = λ told. subst (λ base. file_at (g.S.Store.files c.take.new.store) (full_name base Head) ≡ Some []) so_far.base
+          (c.in-Ok-take.ensures.head (still_told before (g.S.Store.files c.byte.new.store) read_others.told told));
       others = others_more c.args.writer.now.base before (g.S.Store.files c.byte.new.store) (g.S.Store.files c.take.new.store) read_others put_others;
       plain = omega (arith, so_far.plain, c.in-Ok.ensures.looked.later Plain, c.in-Ok-take.ensures.plain);
       later = omega (arith, so_far.later, c.in-Ok.ensures.looked.faults, c.in-Ok-take.ensures.later);

@@ -43,9 +43,11 @@ returns-clause-stands g c = λ is.
     let told : IsSome (g.S.Store.files c.put_bytes.new.store)
     = still_told (g.S.Store.files c.start.new.store) _ c.in-Ok-put_bytes.ensures.others.told (still_told (g.S.Store.files c.args.store.now) _ c.in-Ok.ensures.others.told is.told) in
     let planned : IsPlanOf c.put_bytes.new.writer.plan fed
-    = subst (λ plan. IsPlanOf plan fed) (sym (c.in-Ok-put_bytes.ensures.plan ∙ c.in-Ok.ensures.plan)) (plan_of_read c.args.plan.now (g.S.Store.files c.args.store.now) c.args.source.now.feed.name c.args.source.now.size fed are is) in
+    = subst (λ plan. IsPlanOf plan fed) (sym (c.in-Ok-put_bytes.ensures.plan ∙ c.in-Ok.ensures.plan))
+    (plan_of_read c.args.plan.now (g.S.Store.files c.args.store.now) c.args.source.now.feed.name c.args.source.now.size fed are is) in
     moved (λ limit base bytes. OnOk c.finish.result (StandsIn 2 (run_cap limit) (g.S.Store.files c.finish.new.store) base bytes)) _ _ _ _ _ _
-    (c.in-Ok-put_bytes.ensures.limit ∙ c.in-Ok.ensures.limit) (c.in-Ok-put_bytes.ensures.base ∙ c.in-Ok.ensures.base) (read_all _ _ _ fed are is.told is.whole) (c.finish.ensures.stands fed told c.in-Ok-put_bytes.ensures.put.2 planned)
+    (c.in-Ok-put_bytes.ensures.limit ∙ c.in-Ok.ensures.limit) (c.in-Ok-put_bytes.ensures.base ∙ c.in-Ok.ensures.base) (read_all _ _ _ fed are is.told is.whole)
+    (c.finish.ensures.stands fed told c.in-Ok-put_bytes.ensures.put.2 planned)
 
 pub returns-clause-summary : goal.returns-clause-summary
 returns-clause-summary g c = λ is.
@@ -56,9 +58,11 @@ returns-clause-summary g c = λ is.
     let told : IsSome (g.S.Store.files c.put_bytes.new.store)
     = still_told (g.S.Store.files c.start.new.store) _ c.in-Ok-put_bytes.ensures.others.told (still_told (g.S.Store.files c.args.store.now) _ c.in-Ok.ensures.others.told is.told) in
     let planned : IsPlanOf c.put_bytes.new.writer.plan fed
-    = subst (λ plan. IsPlanOf plan fed) (sym (c.in-Ok-put_bytes.ensures.plan ∙ c.in-Ok.ensures.plan)) (plan_of_read c.args.plan.now (g.S.Store.files c.args.store.now) c.args.source.now.feed.name c.args.source.now.size fed are is) in
+    = subst (λ plan. IsPlanOf plan fed) (sym (c.in-Ok-put_bytes.ensures.plan ∙ c.in-Ok.ensures.plan))
+    (plan_of_read c.args.plan.now (g.S.Store.files c.args.store.now) c.args.source.now.feed.name c.args.source.now.size fed are is) in
     moved (λ limit base bytes. IfOk c.finish.result (λ summary. summary ≡ summary_of limit bytes)) _ _ _ _ _ _
-    (c.in-Ok-put_bytes.ensures.limit ∙ c.in-Ok.ensures.limit) (c.in-Ok-put_bytes.ensures.base ∙ c.in-Ok.ensures.base) (read_all _ _ _ fed are is.told is.whole) (c.finish.ensures.summary fed told c.in-Ok-put_bytes.ensures.put.2 planned)
+    (c.in-Ok-put_bytes.ensures.limit ∙ c.in-Ok.ensures.limit) (c.in-Ok-put_bytes.ensures.base ∙ c.in-Ok.ensures.base) (read_all _ _ _ fed are is.told is.whole)
+    (c.finish.ensures.summary fed told c.in-Ok-put_bytes.ensures.put.2 planned)
 
 pub returns-clause-merge_a : goal.returns-clause-merge_a
 returns-clause-merge_a g c = λ is.
@@ -69,9 +73,11 @@ returns-clause-merge_a g c = λ is.
     let told : IsSome (g.S.Store.files c.put_bytes.new.store)
     = still_told (g.S.Store.files c.start.new.store) _ c.in-Ok-put_bytes.ensures.others.told (still_told (g.S.Store.files c.args.store.now) _ c.in-Ok.ensures.others.told is.told) in
     let planned : IsPlanOf c.put_bytes.new.writer.plan fed
-    = subst (λ plan. IsPlanOf plan fed) (sym (c.in-Ok-put_bytes.ensures.plan ∙ c.in-Ok.ensures.plan)) (plan_of_read c.args.plan.now (g.S.Store.files c.args.store.now) c.args.source.now.feed.name c.args.source.now.size fed are is) in
+    = subst (λ plan. IsPlanOf plan fed) (sym (c.in-Ok-put_bytes.ensures.plan ∙ c.in-Ok.ensures.plan))
+    (plan_of_read c.args.plan.now (g.S.Store.files c.args.store.now) c.args.source.now.feed.name c.args.source.now.size fed are is) in
     moved (λ limit base bytes. OnOk c.finish.result (file_at (g.S.Store.files c.finish.new.store) (full_name base MergeA) ≡ Some [])) _ _ _ _ _ _
-    (c.in-Ok-put_bytes.ensures.limit ∙ c.in-Ok.ensures.limit) (c.in-Ok-put_bytes.ensures.base ∙ c.in-Ok.ensures.base) (read_all _ _ _ fed are is.told is.whole) (c.finish.ensures.merge_a fed told c.in-Ok-put_bytes.ensures.put.2 planned)
+    (c.in-Ok-put_bytes.ensures.limit ∙ c.in-Ok.ensures.limit) (c.in-Ok-put_bytes.ensures.base ∙ c.in-Ok.ensures.base) (read_all _ _ _ fed are is.told is.whole)
+    (c.finish.ensures.merge_a fed told c.in-Ok-put_bytes.ensures.put.2 planned)
 
 pub returns-clause-merge_b : goal.returns-clause-merge_b
 returns-clause-merge_b g c = λ is.
@@ -82,9 +88,11 @@ returns-clause-merge_b g c = λ is.
     let told : IsSome (g.S.Store.files c.put_bytes.new.store)
     = still_told (g.S.Store.files c.start.new.store) _ c.in-Ok-put_bytes.ensures.others.told (still_told (g.S.Store.files c.args.store.now) _ c.in-Ok.ensures.others.told is.told) in
     let planned : IsPlanOf c.put_bytes.new.writer.plan fed
-    = subst (λ plan. IsPlanOf plan fed) (sym (c.in-Ok-put_bytes.ensures.plan ∙ c.in-Ok.ensures.plan)) (plan_of_read c.args.plan.now (g.S.Store.files c.args.store.now) c.args.source.now.feed.name c.args.source.now.size fed are is) in
+    = subst (λ plan. IsPlanOf plan fed) (sym (c.in-Ok-put_bytes.ensures.plan ∙ c.in-Ok.ensures.plan))
+    (plan_of_read c.args.plan.now (g.S.Store.files c.args.store.now) c.args.source.now.feed.name c.args.source.now.size fed are is) in
     moved (λ limit base bytes. OnOk c.finish.result (file_at (g.S.Store.files c.finish.new.store) (full_name base MergeB) ≡ Some [])) _ _ _ _ _ _
-    (c.in-Ok-put_bytes.ensures.limit ∙ c.in-Ok.ensures.limit) (c.in-Ok-put_bytes.ensures.base ∙ c.in-Ok.ensures.base) (read_all _ _ _ fed are is.told is.whole) (c.finish.ensures.merge_b fed told c.in-Ok-put_bytes.ensures.put.2 planned)
+    (c.in-Ok-put_bytes.ensures.limit ∙ c.in-Ok.ensures.limit) (c.in-Ok-put_bytes.ensures.base ∙ c.in-Ok.ensures.base) (read_all _ _ _ fed are is.told is.whole)
+    (c.finish.ensures.merge_b fed told c.in-Ok-put_bytes.ensures.put.2 planned)
 
 pub returns-clause-left : goal.returns-clause-left
 returns-clause-left g c = λ is.
@@ -95,13 +103,15 @@ returns-clause-left g c = λ is.
     let told : IsSome (g.S.Store.files c.put_bytes.new.store)
     = still_told (g.S.Store.files c.start.new.store) _ c.in-Ok-put_bytes.ensures.others.told (still_told (g.S.Store.files c.args.store.now) _ c.in-Ok.ensures.others.told is.told) in
     let planned : IsPlanOf c.put_bytes.new.writer.plan fed
-    = subst (λ plan. IsPlanOf plan fed) (sym (c.in-Ok-put_bytes.ensures.plan ∙ c.in-Ok.ensures.plan)) (plan_of_read c.args.plan.now (g.S.Store.files c.args.store.now) c.args.source.now.feed.name c.args.source.now.size fed are is) in
+    = subst (λ plan. IsPlanOf plan fed) (sym (c.in-Ok-put_bytes.ensures.plan ∙ c.in-Ok.ensures.plan))
+    (plan_of_read c.args.plan.now (g.S.Store.files c.args.store.now) c.args.source.now.feed.name c.args.source.now.size fed are is) in
     inr (moved (λ limit base bytes. StandsForNone (g.S.Store.files c.finish.new.store) base ⊎ Stands (g.S.Store.files c.finish.new.store) base bytes) 0 0 _ _ _ _
     refl (c.in-Ok-put_bytes.ensures.base ∙ c.in-Ok.ensures.base) (read_all _ _ _ fed are is.told is.whole) (c.finish.ensures.left fed told c.in-Ok-put_bytes.ensures.put.2 planned))
 
 pub returns-clause-others : goal.returns-clause-others
 returns-clause-others g c = others_more c.args.base.now _ _ _ c.in-Ok.ensures.others
-    (others_more c.args.base.now _ _ _ (subst (λ base. OthersSame base (g.S.Store.files c.start.new.store) (g.S.Store.files c.put_bytes.new.store)) c.in-Ok.ensures.base c.in-Ok-put_bytes.ensures.others)
+    (others_more c.args.base.now _ _ _ (subst (λ base. OthersSame base (g.S.Store.files c.start.new.store) (g.S.Store.files c.put_bytes.new.store))
+    c.in-Ok.ensures.base c.in-Ok-put_bytes.ensures.others)
     (subst (λ base. OthersSame base (g.S.Store.files c.put_bytes.new.store) (g.S.Store.files c.finish.new.store)) (c.in-Ok-put_bytes.ensures.base ∙ c.in-Ok.ensures.base) c.finish.ensures.others))
 
 pub returns-clause-refused : goal.returns-clause-refused
@@ -109,9 +119,11 @@ returns-clause-refused g c =
     let are : AreRead (g.S.Store.files c.args.store.now) c.args.source.now.feed.name c.args.source.now.size c.in-Ok-put_bytes.ensures.put.0
     = read_of_before (g.S.Store.files c.args.store.now) (g.S.Store.files c.start.new.store) c.args.source.now.feed.name c.args.source.now.size _ c.in-Ok.ensures.others.told
     (c.in-Ok.ensures.others.others c.args.source.now.feed.name c.requires.apart) c.in-Ok-put_bytes.ensures.put.1 in
-    subst (λ plan. IfErr c.finish.result (WriteStops (Rose (g.S.Store.faults c.args.store.now) (g.S.Store.faults c.finish.new.store)) (IsPlanFor plan (g.S.Store.files c.args.store.now) c.args.source.now.feed.name c.args.source.now.size)))
+    subst (λ plan. IfErr c.finish.result (WriteStops (Rose (g.S.Store.faults c.args.store.now) (g.S.Store.faults c.finish.new.store))
+    (IsPlanFor plan (g.S.Store.files c.args.store.now) c.args.source.now.feed.name c.args.source.now.size)))
     (c.in-Ok-put_bytes.ensures.plan ∙ c.in-Ok.ensures.plan)
-    (write_end_all c.finish.result (λ fed. HasPut c.put_bytes.new.writer (g.S.Store.files c.put_bytes.new.store) fed) _ _ _ _ (g.S.Store.files c.put_bytes.new.store) _ c.in-Ok-put_bytes.ensures.put.0 _
+    (write_end_all c.finish.result (λ fed. HasPut c.put_bytes.new.writer (g.S.Store.files c.put_bytes.new.store) fed) _ _ _ _
+    (g.S.Store.files c.put_bytes.new.store) _ c.in-Ok-put_bytes.ensures.put.0 _
     (λ rose. rose_behind _ _ _ (omega (arith, c.in-Ok.ensures.cause.later, c.in-Ok-put_bytes.ensures.later)) rose)
     (λ told. still_told (g.S.Store.files c.start.new.store) _ c.in-Ok-put_bytes.ensures.others.told (still_told (g.S.Store.files c.args.store.now) _ c.in-Ok.ensures.others.told told))
     are c.in-Ok-put_bytes.ensures.put.2 c.finish.ensures.refused)

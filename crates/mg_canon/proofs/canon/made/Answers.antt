@@ -7,7 +7,8 @@ use Rattle.mg_canon.proofs.canon.made.Goals as goal
 
 pub number-requires-clause-firsts : goal.number-requires-clause-firsts
 number-requires-clause-firsts c =
-    firsts_from c.args.lengths.now c.count_lengths-counts.result c.first_codewords-firsts.result (are_within c.args.lengths.now c.requires.all) c.count_lengths-counts.ensures.counts c.first_codewords-firsts.ensures
+    firsts_from c.args.lengths.now c.count_lengths-counts.result c.first_codewords-firsts.result (are_within c.args.lengths.now c.requires.all)
+    c.count_lengths-counts.ensures.counts c.first_codewords-firsts.ensures
 
 pub number-requires-clause-offsets : goal.number-requires-clause-offsets
 number-requires-clause-offsets c =
@@ -21,7 +22,8 @@ invariant_of-code c =
       few = c.requires.few;
       all = c.requires.all;
       full = good_full c.args.lengths.now c.requires.good;
-      first_numbers = firsts_from c.args.lengths.now c.count_lengths-counts.result c.first_codewords-firsts.result (are_within c.args.lengths.now c.requires.all) c.count_lengths-counts.ensures.counts c.first_codewords-firsts.ensures;
+      first_numbers = firsts_from c.args.lengths.now c.count_lengths-counts.result c.first_codewords-firsts.result
+          (are_within c.args.lengths.now c.requires.all) c.count_lengths-counts.ensures.counts c.first_codewords-firsts.ensures;
       first_places = offsets_from c.args.lengths.now c.count_lengths-counts.result c.first_places-offsets.result c.count_lengths-counts.ensures.counts c.first_places-offsets.ensures;
       numbered = made.numbered;
       value_count = made.values;

@@ -11,7 +11,8 @@ use Rattle.mg_check.proofs.checking.check_parts.Goals as goal
 pub returns-in-Err-clause-other : goal.returns-in-Err-clause-other
 returns-in-Err-clause-other g c = λ collection stand.
     let size = c.run_size-size.result in
-    refutes-so (TermsStand c.args.base.now (g.S.Store.files c.args.store.now) size collection) (PartsStand (g.S.Store.files c.args.store.now) c.args.base.now c.args.head.now collection) c.in-Err.refusal
+    refutes-so (TermsStand c.args.base.now (g.S.Store.files c.args.store.now) size collection)
+    (PartsStand (g.S.Store.files c.args.store.now) c.args.base.now c.args.head.now collection) c.in-Err.refusal
     (λ parts. terms-of-size (g.S.Store.files c.args.store.now) c.args.base.now c.args.head.now size collection
     (head-runs c.args.head.now size collection c.run_size-size.ensures.least c.run_size-size.ensures.most c.run_size-size.ensures.enough parts.occurrences_are) parts.terms)
     (c.in-Err.ensures.other collection stand)
@@ -36,7 +37,9 @@ returns-clause-looks g c = looks_then c.in-Ok.ensures.text.looks c.check_index.e
 pub returns-clause-stand : goal.returns-clause-stand
 returns-clause-stand g c = λ collection stand.
     let same : g.S.Store.files c.check_terms.new.store ≡ g.S.Store.files c.args.store.now = c.in-Ok.ensures.text.looks.files in
-    let index = index-of (g.S.Store.files c.args.store.now) (g.S.Store.files c.check_terms.new.store) c.args.head.now c.args.reader.now c.check_terms.new.reader c.args.table.now c.deref.result.now collection same c.in-Ok.ensures.text.same c.requires.text.table_is (c.deref.ensures.value ∙ (c.in-Ok.ensures.counted collection stand).docs) c.requires.reads.documents c.requires.reads.within stand in
+    let index = index-of (g.S.Store.files c.args.store.now) (g.S.Store.files c.check_terms.new.store) c.args.head.now c.args.reader.now c.check_terms.new.reader
+    c.args.table.now c.deref.result.now collection same c.in-Ok.ensures.text.same c.requires.text.table_is
+    (c.deref.ensures.value ∙ (c.in-Ok.ensures.counted collection stand).docs) c.requires.reads.documents c.requires.reads.within stand in
     let size = c.run_size-size.result in
     let count = c.in-Ok-expect_number.ensures.same ∙ (c.in-Ok.ensures.counted collection stand).occurrences in
     let runs = head-runs c.args.head.now size collection c.run_size-size.ensures.least c.run_size-size.ensures.most c.run_size-size.ensures.enough count in
@@ -48,6 +51,9 @@ returns-clause-stand g c = λ collection stand.
 pub returns-clause-other : goal.returns-clause-other
 returns-clause-other g c = λ collection stand.
     let same : g.S.Store.files c.check_terms.new.store ≡ g.S.Store.files c.args.store.now = c.in-Ok.ensures.text.looks.files in
-    let index = index-of (g.S.Store.files c.args.store.now) (g.S.Store.files c.check_terms.new.store) c.args.head.now c.args.reader.now c.check_terms.new.reader c.args.table.now c.deref.result.now collection same c.in-Ok.ensures.text.same c.requires.text.table_is (c.deref.ensures.value ∙ (c.in-Ok.ensures.counted collection stand).docs) c.requires.reads.documents c.requires.reads.within stand in
-    other-so (IndexStands (g.S.Store.files c.args.store.now) c.args.base.now collection) (PartsStand (g.S.Store.files c.args.store.now) c.args.base.now c.args.head.now collection) c.check_index.result (λ parts. parts.index)
+    let index = index-of (g.S.Store.files c.args.store.now) (g.S.Store.files c.check_terms.new.store) c.args.head.now c.args.reader.now c.check_terms.new.reader
+    c.args.table.now c.deref.result.now collection same c.in-Ok.ensures.text.same c.requires.text.table_is
+    (c.deref.ensures.value ∙ (c.in-Ok.ensures.counted collection stand).docs) c.requires.reads.documents c.requires.reads.within stand in
+    other-so (IndexStands (g.S.Store.files c.args.store.now) c.args.base.now collection)
+    (PartsStand (g.S.Store.files c.args.store.now) c.args.base.now c.args.head.now collection) c.check_index.result (λ parts. parts.index)
     (subst (λ (f : Option Files). IfErr c.check_index.result (Refutes (IndexStands f c.args.base.now collection))) same (c.check_index.ensures.index.other collection index))

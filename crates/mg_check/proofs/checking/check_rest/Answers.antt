@@ -16,26 +16,35 @@ pub returns-in-Err-expect_told-clause-other : goal.returns-in-Err-expect_told-cl
 returns-in-Err-expect_told-clause-other g c = λ collection stand.
     let table : c.in-Ok.table ≡ terms_and_numbers c.args.reader.now.code.words.pieces = c.in-Ok.ensures ∙ ap (λ (code : TextCode). terms_and_numbers code.words.pieces) c.model.ensures in
     let own = table_terms c.in-Ok.table c.args.reader.now (g.S.Store.files c.args.store.now) collection table stand in
-    refutes-so (IsTold (parts_at (g.S.Store.files c.args.store.now) c.args.base.now) c.args.head.now c.from-terms.result) (RestStands (g.S.Store.files c.args.store.now) c.args.base.now c.args.head.now collection) c.in-Err-expect_told.refusal
-    (λ rest. record { terms_are = omega (arith, rest.numbers.terms, ap length own, c.count.ensures.count, c.from-terms.ensures); sizes = sizes-of (g.S.Store.files c.args.store.now) c.args.base.now c.args.head.now collection rest })
+    refutes-so (IsTold (parts_at (g.S.Store.files c.args.store.now) c.args.base.now) c.args.head.now c.from-terms.result)
+    (RestStands (g.S.Store.files c.args.store.now) c.args.base.now c.args.head.now collection) c.in-Err-expect_told.refusal
+    (λ rest. record {
+      terms_are = omega (arith, rest.numbers.terms, ap length own, c.count.ensures.count, c.from-terms.ensures);
+      sizes = sizes-of (g.S.Store.files c.args.store.now) c.args.base.now c.args.head.now collection rest;
+    })
     (c.in-Err-expect_told.ensures.other stand.told)
 
 pub returns-clause-stand : goal.returns-clause-stand
 returns-clause-stand g c = λ collection stand.
     let table : c.in-Ok.table ≡ terms_and_numbers c.args.reader.now.code.words.pieces = c.in-Ok.ensures ∙ ap (λ (code : TextCode). terms_and_numbers code.words.pieces) c.model.ensures in
     let own = table_terms c.in-Ok.table c.args.reader.now (g.S.Store.files c.args.store.now) collection table stand in
-    let there = stands_on c.args.reader.now c.args.reader.now (g.S.Store.files c.args.store.now) (g.S.Store.files c.expect_told.new.store) collection (same_text c.args.reader.now) c.expect_told.ensures.looks.files stand in
+    let there = stands_on c.args.reader.now c.args.reader.now (g.S.Store.files c.args.store.now) (g.S.Store.files c.expect_told.new.store) collection
+    (same_text c.args.reader.now) c.expect_told.ensures.looks.files stand in
     let count : c.from-terms.result ≡ length (dictionary collection) = omega (arith, ap length own, c.count.ensures.count, c.from-terms.ensures) in
-    ok-so (PartsStand (g.S.Store.files c.args.store.now) c.args.base.now c.args.head.now collection) (RestStands (g.S.Store.files c.args.store.now) c.args.base.now c.args.head.now collection) c.check_parts.result
+    ok-so (PartsStand (g.S.Store.files c.args.store.now) c.args.base.now c.args.head.now collection)
+    (RestStands (g.S.Store.files c.args.store.now) c.args.base.now c.args.head.now collection) c.check_parts.result
     (rest-of (g.S.Store.files c.args.store.now) c.args.base.now c.args.head.now c.from-terms.result collection count (c.in-Ok-expect_told.ensures.told stand.told))
     (subst (λ (f : Option Files). OnOk c.check_parts.result (PartsStand f c.args.base.now c.args.head.now collection)) c.expect_told.ensures.looks.files (c.check_parts.ensures.stand collection there))
 
 pub returns-clause-other : goal.returns-clause-other
 returns-clause-other g c = λ collection stand.
-    let there = stands_on c.args.reader.now c.args.reader.now (g.S.Store.files c.args.store.now) (g.S.Store.files c.expect_told.new.store) collection (same_text c.args.reader.now) c.expect_told.ensures.looks.files stand in
-    other-so (PartsStand (g.S.Store.files c.args.store.now) c.args.base.now c.args.head.now collection) (RestStands (g.S.Store.files c.args.store.now) c.args.base.now c.args.head.now collection) c.check_parts.result
+    let there = stands_on c.args.reader.now c.args.reader.now (g.S.Store.files c.args.store.now) (g.S.Store.files c.expect_told.new.store) collection
+    (same_text c.args.reader.now) c.expect_told.ensures.looks.files stand in
+    other-so (PartsStand (g.S.Store.files c.args.store.now) c.args.base.now c.args.head.now collection)
+    (RestStands (g.S.Store.files c.args.store.now) c.args.base.now c.args.head.now collection) c.check_parts.result
     (λ rest. record { occurrences_are = rest.numbers.occurrences; terms = rest.terms; index = rest.index })
-    (subst (λ (f : Option Files). IfErr c.check_parts.result (Refutes (PartsStand f c.args.base.now c.args.head.now collection))) c.expect_told.ensures.looks.files (c.check_parts.ensures.other collection there))
+    (subst (λ (f : Option Files). IfErr c.check_parts.result (Refutes (PartsStand f c.args.base.now c.args.head.now collection)))
+    c.expect_told.ensures.looks.files (c.check_parts.ensures.other collection there))
 
 pub returns-in-Err-clause-looks : goal.returns-in-Err-clause-looks
 returns-in-Err-clause-looks g c = looks_own Memory _ _ _ tt

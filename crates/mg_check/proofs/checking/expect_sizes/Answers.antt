@@ -6,4 +6,5 @@ returns-in-Err-clause-looks g c = looks_size c.expect_size.ensures.files c.expec
 
 pub returns-clause-looks : goal.returns-clause-looks
 returns-clause-looks g c =
-    looks_then (looks_size c.expect_size.ensures.files c.expect_size.ensures.reads c.in-Ok.ensures.cause) (looks_size c.expect_size-2.ensures.files c.expect_size-2.ensures.reads c.expect_size-2.ensures.cause)
+    looks_then (looks_size c.expect_size.ensures.files c.expect_size.ensures.reads c.in-Ok.ensures.cause)
+    (looks_size c.expect_size-2.ensures.files c.expect_size-2.ensures.reads c.expect_size-2.ensures.cause)

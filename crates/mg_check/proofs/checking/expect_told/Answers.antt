@@ -7,7 +7,8 @@ use Rattle.mg_check.proofs.checking.expect_told.Goals as goal
 
 pub returns-in-Err-clause-other : goal.returns-in-Err-clause-other
 returns-in-Err-clause-other g c = λ told.
-    refutes-so (c.from.result ≡ c.args.terms) (IsTold (parts_at (g.S.Store.files c.args.store.now) c.args.base.now) c.args.head.now c.args.terms) c.in-Err.refusal (λ is. c.from.ensures ∙ is.terms_are) c.in-Err.ensures.other
+    refutes-so (c.from.result ≡ c.args.terms) (IsTold (parts_at (g.S.Store.files c.args.store.now) c.args.base.now) c.args.head.now c.args.terms)
+    c.in-Err.refusal (λ is. c.from.ensures ∙ is.terms_are) c.in-Err.ensures.other
 
 pub returns-in-Err-clause-looks : goal.returns-in-Err-clause-looks
 returns-in-Err-clause-looks g c = looks_own c.in-Err.refusal _ _ _ c.in-Err.ensures.own
@@ -18,7 +19,8 @@ returns-clause-looks g c = c.expect_sizes.ensures.looks
 pub returns-clause-told : goal.returns-clause-told
 returns-clause-told g c = λ told.
     let parts = parts_at (g.S.Store.files c.args.store.now) c.args.base.now in
-    ok-so (HaveSizes parts c.args.head.now) (IsTold parts c.args.head.now c.args.terms) c.expect_sizes.result (λ sizes. record { terms_are = sym c.from.ensures ∙ c.in-Ok.ensures.same; sizes = sizes }) (c.expect_sizes.ensures.sizes told)
+    ok-so (HaveSizes parts c.args.head.now) (IsTold parts c.args.head.now c.args.terms) c.expect_sizes.result
+    (λ sizes. record { terms_are = sym c.from.ensures ∙ c.in-Ok.ensures.same; sizes = sizes }) (c.expect_sizes.ensures.sizes told)
 
 pub returns-clause-other : goal.returns-clause-other
 returns-clause-other g c = λ told.

@@ -7,7 +7,8 @@ use Rattle.mg_check.proofs.counting.check_terms.Goals as goal
 
 pub count_text-requires-clause-tallied : goal.count_text-requires-clause-tallied
 count_text-requires-clause-tallied g c =
-    text_none c.in-Ok.tally (g.S.Store.files c.args.store.now) c.args.table.now.terms c.args.reader.now (c.in-Ok.ensures.tallied (g.S.Store.files c.args.store.now) c.args.table.now.terms (sym c.count.ensures.count))
+    text_none c.in-Ok.tally (g.S.Store.files c.args.store.now) c.args.table.now.terms c.args.reader.now
+    (c.in-Ok.ensures.tallied (g.S.Store.files c.args.store.now) c.args.table.now.terms (sym c.count.ensures.count))
 
 pub returns-in-Err-clause-text : goal.returns-in-Err-clause-text
 returns-in-Err-clause-text g c = text_own Memory _ _ _ c.requires.text.fits tt

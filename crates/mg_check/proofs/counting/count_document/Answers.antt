@@ -12,7 +12,8 @@ pub add-requires : goal.add-requires
 add-requires g c =
     let read = c.in-Ok.ensures.terms in
     record {
-      can = can_add c.args.tally.now (g.S.Store.files c.args.store.now) (g.S.Store.files c.read.new.store) c.args.table.now.terms c.args.before c.args.reader.now c.requires.tallied read.doc c.read.new.self c.in-Ok.ensures.text.looks.files read.terms;
+      can = can_add c.args.tally.now (g.S.Store.files c.args.store.now) (g.S.Store.files c.read.new.store) c.args.table.now.terms c.args.before
+          c.args.reader.now c.requires.tallied read.doc c.read.new.self c.in-Ok.ensures.text.looks.files read.terms;
     }
 
 pub returns-clause-text : goal.returns-clause-text
@@ -44,7 +45,8 @@ returns-clause-tallied g c = record {
   other = λ collection stand.
       let read = c.in-Ok.ensures.terms in
       let files = c.in-Ok.ensures.text.looks.files in
-      next_bad c.add.result c.args.tally.now (g.S.Store.files c.args.store.now) (g.S.Store.files c.read.new.store) c.args.table.now c.args.before c.args.reader.now c.requires.tallied read.doc c.read.new.self collection
+      next_bad c.add.result c.args.tally.now (g.S.Store.files c.args.store.now) (g.S.Store.files c.read.new.store) c.args.table.now c.args.before
+      c.args.reader.now c.requires.tallied read.doc c.read.new.self collection
       files c.requires.text.table_is c.requires.within stand (doc_of_reader collection c.args.before read.doc read.doc (read.own collection stand) refl) read.terms
       (c.add.ensures.bad (subst (λ f. IsSome f) (sym files) stand.told));
 }

@@ -27,7 +27,8 @@ loop-before-preserved g c =
     let inv = c.loop-before.invariant in
     record {
       text = text_then inv.text c.in-Ok.ensures.text;
-      tallied = text_same c.count_document.new.tally (g.S.Store.files c.count_document.new.store) c.args.table.now.terms (c.loop-before.before + 1) c.loop-before.reader c.args.reader.now (same_back _ _ inv.text.same) c.in-Ok.ensures.tallied.taken;
+      tallied = text_same c.count_document.new.tally (g.S.Store.files c.count_document.new.store) c.args.table.now.terms (c.loop-before.before + 1)
+          c.loop-before.reader c.args.reader.now (same_back _ _ inv.text.same) c.in-Ok.ensures.tallied.taken;
       parts = parts_more _ _ _ inv.parts c.in-Ok.ensures.tallied.parts;
     }
 
@@ -41,7 +42,8 @@ returns-in-Err-clause-tallied g c = record {
   other = λ collection stand.
       let inv = c.loop-before.invariant in
       let files = inv.text.looks.files in
-      where_bad {T = Unit {0}} (AreOwn c.loop-before.tally (g.S.Store.files c.loop-before.store) collection → ⊥) (AreOwn c.args.tally.now (g.S.Store.files c.args.store.now) collection → ⊥) (Err c.in-Err.refusal)
+      where_bad {T = Unit {0}} (AreOwn c.loop-before.tally (g.S.Store.files c.loop-before.store) collection → ⊥)
+      (AreOwn c.args.tally.now (g.S.Store.files c.args.store.now) collection → ⊥) (Err c.in-Err.refusal)
       (λ none own. none (own_stays c.args.tally.now c.loop-before.tally (g.S.Store.files c.args.store.now) (g.S.Store.files c.loop-before.store) collection inv.parts files own))
       (c.in-Err.ensures.tallied.other collection (stands_on _ _ _ _ collection inv.text.same files stand));
 }

@@ -21,14 +21,16 @@ finish-requires g c =
 pub returns-clause-tallied : goal.returns-clause-tallied
 returns-clause-tallied g c = λ text stand.
     let files = c.in-Ok-count_documents.ensures.text.looks.files in
-    tally_done c.finish.result c.args.tally.now c.count_documents.new.tally c.finish.new.self (g.S.Store.files c.args.store.now) (g.S.Store.files c.count_documents.new.store) c.args.table.now c.args.documents c.args.reader.now c.in-Ok-count_documents.ensures.tallied.taken text
+    tally_done c.finish.result c.args.tally.now c.count_documents.new.tally c.finish.new.self (g.S.Store.files c.args.store.now)
+    (g.S.Store.files c.count_documents.new.store) c.args.table.now c.args.documents c.args.reader.now c.in-Ok-count_documents.ensures.tallied.taken text
     files c.in-Ok-count_documents.ensures.tallied.parts c.requires.text.all c.requires.text.table_is stand c.finish.ensures.docs c.finish.ensures.occurrences
     (c.finish.ensures.done (subst (λ f. IsSome f) (sym files) stand.told))
 
 pub returns-clause-other : goal.returns-clause-other
 returns-clause-other g c = λ text stand.
     let files = c.in-Ok-count_documents.ensures.text.looks.files in
-    tally_other c.finish.result c.args.tally.now c.count_documents.new.tally (g.S.Store.files c.args.store.now) (g.S.Store.files c.count_documents.new.store) c.args.table.now c.args.documents c.args.reader.now c.in-Ok-count_documents.ensures.tallied.taken text
+    tally_other c.finish.result c.args.tally.now c.count_documents.new.tally (g.S.Store.files c.args.store.now) (g.S.Store.files c.count_documents.new.store)
+    c.args.table.now c.args.documents c.args.reader.now c.in-Ok-count_documents.ensures.tallied.taken text
     files c.in-Ok-count_documents.ensures.tallied.parts c.requires.text.all c.requires.text.table_is stand
     (c.finish.ensures.bad (subst (λ f. IsSome f) (sym files) stand.told))
 

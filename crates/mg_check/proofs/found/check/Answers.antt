@@ -7,11 +7,13 @@ returns-clause-outside g c = tells-outside c.check_files.result
 
 pub returns-clause-not_built : goal.returns-clause-not_built
 returns-clause-not_built g c = λ told none.
-    refused-unbuilt (Rose (g.S.Store.faults c.args.store.now) (g.S.Store.faults c.check_files.new.store)) (g.S.Store.files c.args.store.now) c.args.base.now c.check_files.result c.check_files.ensures.stands c.check_files.ensures.cause told none
+    refused-unbuilt (Rose (g.S.Store.faults c.args.store.now) (g.S.Store.faults c.check_files.new.store)) (g.S.Store.files c.args.store.now) c.args.base.now
+    c.check_files.result c.check_files.ensures.stands c.check_files.ensures.cause told none
 
 pub returns-clause-complete : goal.returns-clause-complete
 returns-clause-complete g c = λ collection stands fine.
-    completes (Rose (g.S.Store.faults c.args.store.now) (g.S.Store.faults c.check_files.new.store)) (g.S.Store.files c.args.store.now) c.args.base.now collection c.check_files.result c.check_files.ensures.cause stands fine
+    completes (Rose (g.S.Store.faults c.args.store.now) (g.S.Store.faults c.check_files.new.store)) (g.S.Store.files c.args.store.now) c.args.base.now
+    collection c.check_files.result c.check_files.ensures.cause stands fine
 
 pub returns-clause-unread : goal.returns-clause-unread
 returns-clause-unread g c = set_read _ _ c.check_files.ensures.unread

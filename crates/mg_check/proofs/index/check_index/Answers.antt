@@ -13,7 +13,8 @@ returns-then-of-gt-DOCUMENTS-clause-index g c = record {
       elim c.then-of-gt-DOCUMENTS.branch [
         | then-of-gt-DOCUMENTS-via-then-of-gt-DOCUMENTS w ↦ omega (arith, few_documents _ _ _ _ collection c.args.of.now.documents is c.requires.text.all, w.if-of-gt-DOCUMENTS.true)
         | then-of-gt-DOCUMENTS-via-else-of-gt-DOCUMENTS+then-not-are_sizes w ↦
-            (let sizes = subst (λ n. AreSizes c.args.of.now.docs.now n c.args.of.now.documents) (sym w.count.ensures.count) (sizes_of _ _ _ _ collection c.args.of.now.documents is c.requires.text.all) in
+            (let sizes = subst (λ n. AreSizes c.args.of.now.docs.now n c.args.of.now.documents) (sym w.count.ensures.count)
+            (sizes_of _ _ _ _ collection c.args.of.now.documents is c.requires.text.all) in
             let ok = w.are_sizes.ensures.1 sizes in
             search rules)
       ];

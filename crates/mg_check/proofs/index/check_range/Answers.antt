@@ -35,7 +35,8 @@ returns-in-Ok-check_lists-clause-next g c =
       can = can_on c.args.of.now.table.now.terms _ _ _ _ _ next compared.can;
       agree = λ collection is has.
           compared_on now old c.args.of.now.base.now collection _ _ _ _ _ (sym files) next
-          (compared.agree collection (subst IsSome (sym files) is.stands.told) (c.in-Ok.ensures.held collection is) (compared_on old now c.args.of.now.base.now collection c.args.first c.in-Ok.lists.first _ _ _ files first has));
+          (compared.agree collection (subst IsSome (sym files) is.stands.told) (c.in-Ok.ensures.held collection is)
+          (compared_on old now c.args.of.now.base.now collection c.args.first c.in-Ok.lists.first _ _ _ files first has));
       other = λ collection is has. tt;
     }
 
@@ -53,7 +54,8 @@ returns-clause-next g c =
       agree = λ collection is has. tt;
       other = λ collection is has.
           refutes_wider _ (ListsStand old c.args.of.now.base.now collection) c.in-Err-check_lists.refusal (lists_stand_on old now c.args.of.now.base.now collection files)
-          (c.in-Err-check_lists.ensures.range.other collection (subst IsSome (sym files) is.stands.told) (c.in-Ok.ensures.held collection is) (compared_on old now c.args.of.now.base.now collection c.args.first c.in-Ok.lists.first _ _ _ files c.in-Ok.ensures.first has));
+          (c.in-Err-check_lists.ensures.range.other collection (subst IsSome (sym files) is.stands.told) (c.in-Ok.ensures.held collection is)
+          (compared_on old now c.args.of.now.base.now collection c.args.first c.in-Ok.lists.first _ _ _ files c.in-Ok.ensures.first has));
     }
 
 pub returns-clause-text : goal.returns-clause-text

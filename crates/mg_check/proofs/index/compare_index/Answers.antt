@@ -15,7 +15,8 @@ returns-in-Err-clause-index g c = record {
   other = λ collection is.
       let old = g.S.Store.files c.args.store.now in
       let none = c.requires.start.none old c.args.of.now collection in
-      refutes_wider (ListsStand old c.args.of.now.base.now collection) (IndexStands old c.args.of.now.base.now collection) c.in-Err.refusal (λ stand. stand.lists) (c.in-Err.ensures.all.other collection is none);
+      refutes_wider (ListsStand old c.args.of.now.base.now collection) (IndexStands old c.args.of.now.base.now collection) c.in-Err.refusal
+      (λ stand. stand.lists) (c.in-Err.ensures.all.other collection is none);
 }
 
 pub returns-in-Err-expect_ends-clause-index : goal.returns-in-Err-expect_ends-clause-index
@@ -27,8 +28,10 @@ returns-in-Err-expect_ends-clause-index g c = record {
       let files : now ≡ old = c.check_ranges.ensures.text.looks.files in
       let none = c.requires.start.none old c.args.of.now collection in
       let all : length (dictionary collection) ≡ length c.args.of.now.table.now.terms = sym (ap (λ (ts : List (List ℕ)). length ts) is.terms_are) in
-      let has = compared_on old now c.args.of.now.base.now collection (length c.args.of.now.table.now.terms) (length (dictionary collection)) _ _ _ files all (c.in-Ok.ensures.all.agree collection is none) in
-      refutes_wider (ListsStand now c.args.of.now.base.now collection) (IndexStands old c.args.of.now.base.now collection) c.in-Err-expect_ends.refusal (λ stand. lists_stand_on old now c.args.of.now.base.now collection files stand.lists)
+      let has = compared_on old now c.args.of.now.base.now collection (length c.args.of.now.table.now.terms) (length (dictionary collection)) _ _ _ files all
+      (c.in-Ok.ensures.all.agree collection is none) in
+      refutes_wider (ListsStand now c.args.of.now.base.now collection) (IndexStands old c.args.of.now.base.now collection) c.in-Err-expect_ends.refusal
+      (λ stand. lists_stand_on old now c.args.of.now.base.now collection files stand.lists)
       (c.in-Err-expect_ends.ensures.other collection (subst IsSome (sym files) is.stands.told) has.lists);
 }
 
@@ -42,10 +45,12 @@ returns-clause-index g c = record {
       let now_is : now ≡ old = c.expect_ends.ensures.looks.files ∙ mid_is in
       let none = c.requires.start.none old c.args.of.now collection in
       let all : length (dictionary collection) ≡ length c.args.of.now.table.now.terms = sym (ap (λ (ts : List (List ℕ)). length ts) is.terms_are) in
-      let has = compared_on old mid c.args.of.now.base.now collection (length c.args.of.now.table.now.terms) (length (dictionary collection)) _ _ _ mid_is all (c.in-Ok.ensures.all.agree collection is none) in
+      let has = compared_on old mid c.args.of.now.base.now collection (length c.args.of.now.table.now.terms) (length (dictionary collection)) _ _ _ mid_is all
+      (c.in-Ok.ensures.all.agree collection is none) in
       let lists = lists_stand_on mid old c.args.of.now.base.now collection (sym mid_is) (c.in-Ok-expect_ends.ensures.stand collection (subst IsSome (sym mid_is) is.stands.told) has.lists) in
       let took = took_all _ _ collection _ _ _ _ (sym all) (c.in-Ok.ensures.all.agree collection is none) in
-      on_ok (LexiconStands now c.args.of.now.base.now collection) (IndexStands old c.args.of.now.base.now collection) c.check.result (λ lexicon. record { lists = lists; lexicon = lexicon_on old now c.args.of.now.base.now collection now_is lexicon })
+      on_ok (LexiconStands now c.args.of.now.base.now collection) (IndexStands old c.args.of.now.base.now collection) c.check.result
+      (λ lexicon. record { lists = lists; lexicon = lexicon_on old now c.args.of.now.base.now collection now_is lexicon })
       (c.check.ensures.stand collection (subst IsSome (sym now_is) is.stands.told) took);
   other = λ collection is.
       let old = g.S.Store.files c.args.store.now in
@@ -55,7 +60,8 @@ returns-clause-index g c = record {
       let all : length c.args.of.now.table.now.terms ≡ length (dictionary collection) = ap (λ (ts : List (List ℕ)). length ts) is.terms_are in
       let took = took_all _ _ collection _ _ _ _ all (c.in-Ok.ensures.all.agree collection is none) in
       if_err (λ refusal. Refutes (LexiconStands now c.args.of.now.base.now collection) refusal) (λ refusal. Refutes (IndexStands old c.args.of.now.base.now collection) refusal) c.check.result
-      (λ (refusal : PartErr). refutes_wider (LexiconStands now c.args.of.now.base.now collection) (IndexStands old c.args.of.now.base.now collection) refusal (λ stand. lexicon_on now old c.args.of.now.base.now collection (sym now_is) stand.lexicon))
+      (λ (refusal : PartErr). refutes_wider (LexiconStands now c.args.of.now.base.now collection) (IndexStands old c.args.of.now.base.now collection) refusal
+      (λ stand. lexicon_on now old c.args.of.now.base.now collection (sym now_is) stand.lexicon))
       (c.check.ensures.other collection (subst IsSome (sym now_is) is.stands.told) took);
 }
 

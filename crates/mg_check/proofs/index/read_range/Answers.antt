@@ -25,7 +25,9 @@ returns-in-Ok-read_postings-clause-range g c =
       some = omega (arith, rooms.count, same.count, c.range_end-end.ensures.after);
       range = omega (arith, rooms.first_is, rooms.count, same.first, same.count, c.range_end-end.ensures.after, c.range_end-end.ensures.within, sizes.each);
       laid = c.in-Ok-read_postings.ensures.laid;
-      rooms = rooms_stay c.in-Ok.lists c.read_postings.new.lists c.args.of.now.documents same (rooms_of c.in-Ok.lists c.args.of.now.docs.now c.args.first c.range_end-end.result _ c.args.of.now.documents rooms sizes c.range_end-end.ensures.within);
+      rooms = rooms_stay c.in-Ok.lists c.read_postings.new.lists c.args.of.now.documents same
+          (rooms_of c.in-Ok.lists c.args.of.now.docs.now c.args.first c.range_end-end.result _ c.args.of.now.documents rooms sizes
+          c.range_end-end.ensures.within);
       most = c.requires.index.most;
       few = c.requires.index.text.few;
       rising = rising_of c.args.of.now.table.now _ c.requires.index.text.table_is;
@@ -37,7 +39,8 @@ returns-in-Ok-read_postings-clause-first g c = omega (arith, c.in-Ok.ensures.roo
 pub returns-in-Ok-read_postings-clause-held : goal.returns-in-Ok-read_postings-clause-held
 returns-in-Ok-read_postings-clause-held g c = λ collection is.
     let room = room_of_docs c.in-Ok.lists c.args.reader.now _ _ c.args.of.now.docs.now collection c.args.first c.range_end-end.result is c.in-Ok.ensures.rooms c.range_end-end.ensures.within in
-    range_of_index c.in-Ok.lists c.read_postings.new.lists c.args.reader.now _ _ c.args.of.now.docs.now collection c.args.first c.range_end-end.result c.args.of.now.documents is c.in-Ok.ensures.rooms c.range_end-end.ensures.within c.read_postings.ensures.rooms c.requires.index.text.all
+    range_of_index c.in-Ok.lists c.read_postings.new.lists c.args.reader.now _ _ c.args.of.now.docs.now collection c.args.first c.range_end-end.result
+    c.args.of.now.documents is c.in-Ok.ensures.rooms c.range_end-end.ensures.within c.read_postings.ensures.rooms c.requires.index.text.all
     (c.in-Ok-read_postings.ensures.held collection is.stands room)
 
 pub returns-in-Ok-read_postings-clause-text : goal.returns-in-Ok-read_postings-clause-text

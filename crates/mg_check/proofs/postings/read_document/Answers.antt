@@ -19,7 +19,8 @@ returns-then-not-add_document-clause-never_bad g c = λ collection stand holds r
     let counted = counted_is _ c.args.table.now _ collection c.args.before _ _ _ doc c.requires.text.table_is stand read.terms.counted c.counted.ensures in
     let lt : c.args.before < length (documents collection) = omega (arith, c.requires.within, stand.documents) in
     let range = range_in c.args.lists.now c.args.table.now _ _ collection c.requires.text.table_is stand c.requires.fill.range in
-    let there = subst (λ es. HasRoomFor c.args.lists.now (with_document (lists_upto c.args.before collection) (c.args.before + 1) es)) (sym counted) (room_upto c.args.lists.now collection c.args.before lt range room) in
+    let there = subst (λ es. HasRoomFor c.args.lists.now (with_document (lists_upto c.args.before collection) (c.args.before + 1) es)) (sym counted)
+    (room_upto c.args.lists.now collection c.args.before lt range room) in
     let ok = c.add_document.ensures.room (lists_upto c.args.before collection) holds there in
     search rules
 

@@ -34,7 +34,8 @@ pub returns-in-Err-read_document-clause-never_bad : goal.returns-in-Err-read_doc
 returns-in-Err-read_document-clause-never_bad g c = λ collection stand room.
     let inv = c.loop-before.invariant in
     let there = stands_on _ _ _ _ collection inv.text.same inv.text.looks.files stand in
-    let enough = room_for_all c.loop-before.lists collection (c.loop-before.before + 1) (omega (arith, c.loop-before-test.true, c.requires.text.all, stand.documents)) (room_stays _ _ collection inv.rooms room).each in
+    let enough = room_for_all c.loop-before.lists collection (c.loop-before.before + 1)
+    (omega (arith, c.loop-before-test.true, c.requires.text.all, stand.documents)) (room_stays _ _ collection inv.rooms room).each in
     c.in-Err-read_document.ensures.never_bad collection there (inv.held collection stand room) enough
 
 pub returns-in-Err-read_document-clause-text : goal.returns-in-Err-read_document-clause-text
@@ -49,12 +50,14 @@ loop-before-preserved g c =
       rooms = same_more _ _ _ inv.rooms c.read_document.ensures.rooms;
       held = λ collection stand room.
           c.in-Ok-read_document.ensures.held collection (stands_on _ _ _ _ collection inv.text.same inv.text.looks.files stand) (inv.held collection stand room)
-          (room_for_all c.loop-before.lists collection (c.loop-before.before + 1) (omega (arith, c.loop-before-test.true, c.requires.text.all, stand.documents)) (room_stays _ _ collection inv.rooms room).each);
+          (room_for_all c.loop-before.lists collection (c.loop-before.before + 1) (omega (arith, c.loop-before-test.true, c.requires.text.all, stand.documents))
+          (room_stays _ _ collection inv.rooms room).each);
     }
 
 pub returns-clause-held : goal.returns-clause-held
 returns-clause-held g c = λ collection stand room.
-    upto_all c.loop-before.lists collection c.loop-before.before (omega (arith, c.loop-before-test.false, c.loop-before.auto, c.requires.text.all, stand.documents)) (c.loop-before.invariant.held collection stand room)
+    upto_all c.loop-before.lists collection c.loop-before.before
+    (omega (arith, c.loop-before-test.false, c.loop-before.auto, c.requires.text.all, stand.documents)) (c.loop-before.invariant.held collection stand room)
 
 pub returns-clause-text : goal.returns-clause-text
 returns-clause-text g c = c.loop-before.invariant.text

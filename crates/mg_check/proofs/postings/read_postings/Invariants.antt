@@ -10,5 +10,6 @@ invariant-loop-before g l = record {
   text : Between g.S.Store.files g.S.Store.reads g.S.Store.faults l.initial.store l.store (HasReadText l.initial.reader l.reader);
   laid : IsLaidOut l.lists;
   rooms : SameRooms l.initial.lists l.lists;
-  held : (collection : List ℕ) → TextStands l.initial.reader (g.S.Store.files l.initial.store) collection → HasRoomForAll l.initial.lists collection → HoldsLists l.lists (lists_upto l.before collection);
+  held : (collection : List ℕ) → TextStands l.initial.reader (g.S.Store.files l.initial.store) collection → HasRoomForAll l.initial.lists collection →
+      HoldsLists l.lists (lists_upto l.before collection);
 }

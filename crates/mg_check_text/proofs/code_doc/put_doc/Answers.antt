@@ -27,13 +27,15 @@ pub put_pairs-requires-clause-words : goal.put_pairs-requires-clause-words
 put_pairs-requires-clause-words g c = room-less c.args.model.now.words c.args.uses.now.words.items (length c.args.doc.now) (length (parse c.args.doc.now)) c.requires.words (parse_short c.args.doc.now)
 
 pub put_pairs-requires-clause-others : goal.put_pairs-requires-clause-others
-put_pairs-requires-clause-others g c = room-less c.args.model.now.others c.args.uses.now.others.items (length c.args.doc.now) (length (parse c.args.doc.now)) c.requires.others (parse_short c.args.doc.now)
+put_pairs-requires-clause-others g c = room-less c.args.model.now.others c.args.uses.now.others.items (length c.args.doc.now) (length (parse c.args.doc.now))
+    c.requires.others (parse_short c.args.doc.now)
 
 pub returns-clause-coded : goal.returns-clause-coded
 returns-clause-coded g c = λ told.
     let put = put-there c.in-Ok-Some.field-0 _ _ c.in-Ok-Some.field-0-is c.in-Ok-Some.ensures.put in
     let began = c.in_ok-begin_doc.ensures.took [] c.requires.took in
-    let whole = c.in_ok-end_doc.ensures.took [] (gamma (c.count_pairs-count.result + 1) ++ flat_map (coded_pair c.args.model.now) (parse c.args.doc.now)) (put.took (gamma (c.count_pairs-count.result + 1)) began) in
+    let whole = c.in_ok-end_doc.ensures.took [] (gamma (c.count_pairs-count.result + 1) ++ flat_map (coded_pair c.args.model.now) (parse c.args.doc.now))
+    (put.took (gamma (c.count_pairs-count.result + 1)) began) in
     let base : c.end_doc.new.self.base ≡ [] = c.end_doc.ensures.base ∙ put.base ∙ c.begin_doc.ensures.base ∙ c.requires.base in
     let told_too : IsSome (g.S.Store.files c.end_doc.new.store) = c.end_doc.ensures.told ∙ put.told ∙ c.begin_doc.ensures.told ∙ told in
     doc-coded c.args.model.now c.args.doc.now (bytes_at (g.S.Store.files c.finish.new.store) (full_name [] part.Text)) c.count_pairs-count.result

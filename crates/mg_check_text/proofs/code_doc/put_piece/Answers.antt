@@ -10,7 +10,8 @@ returns-clause-put g c =
     let there = c.symbol_and_piece.ensures.piece (code_of c.args.stream c.args.model.now) c.in-Some.symbol c.args.piece.now (sym c.in-Some.ensures) in
     let number = c.symbol_and_piece.ensures.number (code_of c.args.stream c.args.model.now) c.in-Some.symbol c.args.piece.now (sym c.in-Some.ensures) in
     record {
-      took = λ bits on. piece-put code c.args.piece.now c.in-Some.symbol c.args.writer.now _ (g.S.Store.files c.args.store.now) _ bits _ (c.in-Ok.ensures.took [] bits on) (ap (codeword code.lengths) (sym number));
+      took = λ bits on. piece-put code c.args.piece.now c.in-Some.symbol c.args.writer.now _ (g.S.Store.files c.args.store.now) _ bits _
+          (c.in-Ok.ensures.took [] bits on) (ap (codeword code.lengths) (sym number));
       put = c.in-Ok.ensures.put;
       base = c.put_piece.ensures.base;
       told = c.put_piece.ensures.told;

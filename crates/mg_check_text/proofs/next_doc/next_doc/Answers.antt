@@ -7,7 +7,8 @@ use Rattle.mg_check_text.proofs.next_doc.next_doc.Goals as goal
 
 pub returns-in-Err-clause-none : goal.returns-in-Err-clause-none
 returns-in-Err-clause-none g c = λ loaded docs so.
-    refused-next (g.S.Store.files c.args.store.now) c.args.base.now c.args.head.now c.args.reader.now docs c.args.progress.now c.in-Err.refusal loaded so c.requires.more (λ collection stand short. c.in-Err.ensures.never_bad collection (record { stands = stand; short = omega (arith, short) }))
+    refused-next (g.S.Store.files c.args.store.now) c.args.base.now c.args.head.now c.args.reader.now docs c.args.progress.now c.in-Err.refusal loaded so
+    c.requires.more (λ collection stand short. c.in-Err.ensures.never_bad collection (record { stands = stand; short = omega (arith, short) }))
 
 pub returns-clause-range : goal.returns-clause-range
 returns-clause-range g c =
@@ -15,7 +16,8 @@ returns-clause-range g c =
     let left : c.args.progress.now.bytes + length c.bytes.result.now ≤ c.args.head.now.collection = omega (arith, c.in-Ok.ensures.short, ap length c.bytes.ensures) in
     let range = code-range c.args.reader.now.code c.model.result.now c.args.head.now c.args.progress.now same c.requires.range in
     both-ok _ _ _ c.add_doc.result
-    (λ added short. code-range c.model.result.now c.args.reader.now.code c.args.head.now c.add_doc.new.progress (sym same) (range-next c.model.result.now c.args.head.now c.bytes.result.now c.args.progress.now c.add_doc.new.progress range added short left c.requires.more))
+    (λ added short. code-range c.model.result.now c.args.reader.now.code c.args.head.now c.add_doc.new.progress (sym same)
+    (range-next c.model.result.now c.args.head.now c.bytes.result.now c.args.progress.now c.add_doc.new.progress range added short left c.requires.more))
     c.add_doc.ensures.added c.add_doc.ensures.short
 
 pub returns-clause-none : goal.returns-clause-none
@@ -26,7 +28,8 @@ returns-clause-none g c = λ loaded docs so.
     (λ collection stand short. c.bytes.ensures ∙ c.in-Ok.ensures.own collection (record { stands = stand; short = omega (arith, short) }))
     (on-bad (IsNextDoc (parts_at (g.S.Store.files c.decode_next.new.store) c.args.base.now) c.args.head.now.version c.model.result.now c.bytes.result.now c.args.progress.now)
     (IsNextDoc (parts_at (g.S.Store.files c.args.store.now) c.args.base.now) c.args.head.now.version c.args.reader.now.code c.bytes.result.now c.args.progress.now) c.add_doc.result
-    (λ next. next-there (g.S.Store.files c.args.store.now) (g.S.Store.files c.decode_next.new.store) c.args.base.now c.args.head.now.version c.args.reader.now.code c.model.result.now c.bytes.result.now c.args.progress.now c.decode_next.ensures.text.looks.files same next)
+    (λ next. next-there (g.S.Store.files c.args.store.now) (g.S.Store.files c.decode_next.new.store) c.args.base.now c.args.head.now.version
+    c.args.reader.now.code c.model.result.now c.bytes.result.now c.args.progress.now c.decode_next.ensures.text.looks.files same next)
     (c.add_doc.ensures.other told))
 
 pub returns-in-Err-clause-text : goal.returns-in-Err-clause-text

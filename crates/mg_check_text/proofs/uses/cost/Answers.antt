@@ -4,4 +4,11 @@ use Rattle.mg_check_text.proofs.uses.cost.Goals as goal
 
 pub overflow_add-bits : goal.overflow_add-bits
 overflow_add-bits c =
-    omega (arith, cost-step c.loop-i.i c.args.counts.now c.args.lengths.now (omega arith) c.requires.each, cost-small c.args.counts.now c.args.lengths.now c.requires.short, ap (λ n. get_or c.args.counts.now c.loop-i.i 0 * n) c.from.ensures, c.loop-i.invariant, c.requires.few)
+    omega (
+      arith,
+      cost-step c.loop-i.i c.args.counts.now c.args.lengths.now (omega arith) c.requires.each,
+      cost-small c.args.counts.now c.args.lengths.now c.requires.short,
+      ap (λ n. get_or c.args.counts.now c.loop-i.i 0 * n) c.from.ensures,
+      c.loop-i.invariant,
+      c.requires.few,
+    )

@@ -10,15 +10,20 @@ returns-in-Ok-expect_end-clause-found g c = λ loaded.
     let same : c.model.result.now ≡ c.args.reader.now.code = c.model.ensures ∙ c.read_docs.ensures.text.same.code in
     let told = told-there (g.S.Store.files c.args.store.now) (g.S.Store.files c.read_docs.new.store) c.read_docs.ensures.text.looks.files loaded.told in
     text-found (g.S.Store.files c.args.store.now) c.args.base.now c.args.head.now c.args.reader.now c.in-Ok.progress loaded (c.in-Ok.ensures.found loaded.told) c.in-Ok.ensures.all
-    (end-here (g.S.Store.files c.args.store.now) (g.S.Store.files c.read_docs.new.store) c.args.base.now c.args.head.now c.args.reader.now.code c.model.result.now c.in-Ok.progress c.read_docs.ensures.text.looks.files same (c.in-Ok-expect_end.ensures.ends told))
+    (end-here (g.S.Store.files c.args.store.now) (g.S.Store.files c.read_docs.new.store) c.args.base.now c.args.head.now c.args.reader.now.code
+    c.model.result.now c.in-Ok.progress c.read_docs.ensures.text.looks.files same (c.in-Ok-expect_end.ensures.ends told))
 
 pub returns-clause-none : goal.returns-clause-none
 returns-clause-none g c = λ loaded.
     let same : c.model.result.now ≡ c.args.reader.now.code = c.model.ensures ∙ c.read_docs.ensures.text.same.code in
     let told = told-there (g.S.Store.files c.args.store.now) (g.S.Store.files c.read_docs.new.store) c.read_docs.ensures.text.looks.files loaded.told in
-    text-none (g.S.Store.files c.args.store.now) c.args.base.now c.args.head.now c.args.reader.now c.in-Ok.progress c.in-Err-expect_end.refusal loaded (c.in-Ok.ensures.found loaded.told) c.in-Ok.ensures.all
-    (bad-less (IsAtEnd (parts_at (g.S.Store.files c.read_docs.new.store) c.args.base.now) c.args.head.now c.model.result.now c.in-Ok.progress) (IsAtEnd (parts_at (g.S.Store.files c.args.store.now) c.args.base.now) c.args.head.now c.args.reader.now.code c.in-Ok.progress) c.in-Err-expect_end.refusal
-    (λ ends. end-here (g.S.Store.files c.read_docs.new.store) (g.S.Store.files c.args.store.now) c.args.base.now c.args.head.now c.model.result.now c.args.reader.now.code c.in-Ok.progress (sym c.read_docs.ensures.text.looks.files) (sym same) ends)
+    text-none (g.S.Store.files c.args.store.now) c.args.base.now c.args.head.now c.args.reader.now c.in-Ok.progress c.in-Err-expect_end.refusal loaded
+    (c.in-Ok.ensures.found loaded.told) c.in-Ok.ensures.all
+    (bad-less (IsAtEnd (parts_at (g.S.Store.files c.read_docs.new.store) c.args.base.now) c.args.head.now c.model.result.now c.in-Ok.progress)
+    (IsAtEnd (parts_at (g.S.Store.files c.args.store.now) c.args.base.now) c.args.head.now c.args.reader.now.code c.in-Ok.progress)
+    c.in-Err-expect_end.refusal
+    (λ ends. end-here (g.S.Store.files c.read_docs.new.store) (g.S.Store.files c.args.store.now) c.args.base.now c.args.head.now c.model.result.now
+    c.args.reader.now.code c.in-Ok.progress (sym c.read_docs.ensures.text.looks.files) (sym same) ends)
     (c.in-Err-expect_end.ensures.other told))
 
 pub returns-in-Err-clause-text : goal.returns-in-Err-clause-text

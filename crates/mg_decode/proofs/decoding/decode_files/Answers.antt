@@ -17,7 +17,8 @@ returns-in-Err-clause-cause g c = rw c.from.ensures (bad_head _ _ c.in-Err.refus
 
 pub returns-in-Err-clause-complete : goal.returns-in-Err-clause-complete
 returns-in-Err-clause-complete g c = λ collection stands calm well.
-    rw c.from.ensures (done (fault_of_part c.in-Err.refusal) _ _ _ _ collection stands calm well (bad_head _ _ c.in-Err.refusal c.in-Err.ensures.back c.in-Err.ensures.within _ _ _ c.in-Err.ensures.cause))
+    rw c.from.ensures (done (fault_of_part c.in-Err.refusal) _ _ _ _ collection stands calm well
+    (bad_head _ _ c.in-Err.refusal c.in-Err.ensures.back c.in-Err.ensures.within _ _ _ c.in-Err.ensures.cause))
 
 pub returns-in-Err-clause-reads : goal.returns-in-Err-clause-reads
 returns-in-Err-clause-reads g c = read_same _ _ c.in-Err.ensures.reads
@@ -64,7 +65,8 @@ returns-in-Err-show_set-clause-not_built g c = λ told empty. absurd (no_empty_h
 
 pub returns-in-Err-show_set-clause-complete : goal.returns-in-Err-show_set-clause-complete
 returns-in-Err-show_set-clause-complete g c = λ collection stands calm well.
-    rw c.from-in-Err-show_set.ensures (done (fault_of_show c.in-Err-show_set.refusal) _ _ _ _ collection stands calm well (decode_stops c.in-Err-show_set.refusal _ _ _ _ _ _ _ _ _ _ _ c.in-Ok.ensures.cause.later c.in-Err-show_set.ensures.cause
+    rw c.from-in-Err-show_set.ensures (done (fault_of_show c.in-Err-show_set.refusal) _ _ _ _ collection stands calm well
+    (decode_stops c.in-Err-show_set.refusal _ _ _ _ _ _ _ _ _ _ _ c.in-Ok.ensures.cause.later c.in-Err-show_set.ensures.cause
     (λ other is.
     let by = stands_loaded _ _ _ other c.in-Ok.loaded c.in-Some.head c.in-Some.is c.in-Ok.ensures.files c.in-Ok.ensures.answer is in
     c.in-Err-show_set.ensures.never_bad by.0 other by.1)))

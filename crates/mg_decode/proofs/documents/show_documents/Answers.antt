@@ -17,7 +17,8 @@ pub returns-in-Err-clause-content : goal.returns-in-Err-clause-content
 returns-in-Err-clause-content g c = λ collection stands ends.
     let first = c.loop-index.invariant.told collection stands ends in
     let still = stands_on _ _ _ _ collection c.loop-index.invariant.same c.loop-index.invariant.looked.files stands in
-    refused_next collection c.loop-index.index (c.loop-index.index + 1) c.args.documents c.args.open_end c.is_closed-closed.result _ _ _ _ (sym c.requires.documents ∙ stands.documents) c.loop-index-test.true refl ends c.is_closed-closed.ensures first
+    refused_next collection c.loop-index.index (c.loop-index.index + 1) c.args.documents c.args.open_end c.is_closed-closed.result _ _ _ _
+    (sym c.requires.documents ∙ stands.documents) c.loop-index-test.true refl ends c.is_closed-closed.ensures first
     (c.in-Err.ensures.content collection _ first.bytes still first.shown)
 
 pub returns-in-Err-clause-never_bad : goal.returns-in-Err-clause-never_bad
@@ -35,7 +36,8 @@ loop-index-preserved g c = record {
   told = λ collection stands ends.
       let first = c.loop-index.invariant.told collection stands ends in
       let still = stands_on _ _ _ _ collection c.loop-index.invariant.same c.loop-index.invariant.looked.files stands in
-      shown_next collection c.loop-index.index (c.loop-index.index + 1) c.args.documents c.args.open_end c.is_closed-closed.result _ _ _ _ _ (sym c.requires.documents ∙ stands.documents) c.loop-index-test.true refl ends c.is_closed-closed.ensures first
+      shown_next collection c.loop-index.index (c.loop-index.index + 1) c.args.documents c.args.open_end c.is_closed-closed.result _ _ _ _ _
+      (sym c.requires.documents ∙ stands.documents) c.loop-index-test.true refl ends c.is_closed-closed.ensures first
       (c.in-Ok.ensures.content collection _ first.bytes still first.shown);
 }
 

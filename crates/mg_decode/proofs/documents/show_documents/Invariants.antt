@@ -11,7 +11,9 @@ abbrev pub invariant-loop-index : goal.invariant-loop-index
 invariant-loop-index g l = record {
   fits : TextFits l.reader (g.S.Store.files l.store);
   same : SameText l.fn.reader l.reader;
-  looked : LookedAt part.Text part.Places (g.S.Store.files l.fn.store) (g.S.Store.files l.store) (g.S.Store.reads l.fn.store) (g.S.Store.reads l.store) (g.S.Store.faults l.fn.store) (g.S.Store.faults l.store);
+  looked : LookedAt part.Text part.Places (g.S.Store.files l.fn.store) (g.S.Store.files l.store) (g.S.Store.reads l.fn.store) (g.S.Store.reads l.store)
+      (g.S.Store.faults l.fn.store) (g.S.Store.faults l.store);
   added : Added (g.O.Sink.written l.fn.out) (g.O.Sink.written l.out) (g.O.Sink.faults l.fn.out) (g.O.Sink.faults l.out) (g.O.Sink.lacks l.fn.out) (g.O.Sink.lacks l.out);
-  told : (collection : List ℕ) → TextStands l.fn.reader (g.S.Store.files l.fn.store) collection → has_open_end collection ≡ l.open_end → ShownFirst l.index (g.O.Sink.written l.fn.out) (g.O.Sink.written l.out) l.buffer collection;
+  told : (collection : List ℕ) → TextStands l.fn.reader (g.S.Store.files l.fn.store) collection → has_open_end collection ≡ l.open_end →
+      ShownFirst l.index (g.O.Sink.written l.fn.out) (g.O.Sink.written l.out) l.buffer collection;
 }

@@ -7,7 +7,8 @@ use Rattle.mg_dev.specs.Files.{with_read}
 use Rattle.mg_dev.proofs.reads.count_read.Goals as goal
 
 -- a count at the part's number is the part's count
-counted : (l : List ℕ) (k : ℕ) (v : ℕ) (p : Part) → number p < length l → k ≡ number p → v ≡ min (get_or l k 0 + 1) (2 ^ 64 - 1) → ((j : ℕ) → get_or l j 0 < 2 ^ 64) → (q : Part) → get_or (set l k v) (number q) 0 ≡ with_read (λ r. get_or l (number r) 0) p q
+counted : (l : List ℕ) (k : ℕ) (v : ℕ) (p : Part) → number p < length l → k ≡ number p → v ≡ min (get_or l k 0 + 1) (2 ^ 64 - 1) →
+    ((j : ℕ) → get_or l j 0 < 2 ^ 64) → (q : Part) → get_or (set l k v) (number q) 0 ≡ with_read (λ r. get_or l (number r) 0) p q
 unfolding with_read
 counted l k v p within at is small q = by_test (same_part q p) refl
   where

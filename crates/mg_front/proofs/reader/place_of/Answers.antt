@@ -5,9 +5,11 @@ use Rattle.mg_bits.specs.Pages.{IsFilled}
 use Rattle.mg_front.proofs.ReadPages.{four_page}
 use Rattle.mg_front.proofs.reader.place_of.Goals as goal
 
-read_four : (whole : Bool) (buf bytes : List ℕ) (at place n m : ℕ) → whole ≡ true → length buf ≡ 4 → IsFilled whole buf at bytes → four n ≡ buf → m ≡ n → at ≡ place → take 4 (drop place bytes) ≡ four m
+read_four : (whole : Bool) (buf bytes : List ℕ) (at place n m : ℕ) → whole ≡ true → length buf ≡ 4 → IsFilled whole buf at bytes → four n ≡ buf → m ≡ n →
+    at ≡ place → take 4 (drop place bytes) ≡ four m
 read_four false buf bytes at place n m yes_whole long filled is same here = absurd cc
-read_four true buf bytes at place n m yes_whole long filled is same here = ap (λ p. take 4 (drop p bytes)) (sym here) ∙ ap (λ k. take k (drop at bytes)) (sym long) ∙ sym filled ∙ sym is ∙ ap four (sym same)
+read_four true buf bytes at place n m yes_whole long filled is same here = ap (λ p. take 4 (drop p bytes)) (sym here)
+    ∙ ap (λ k. take k (drop at bytes)) (sym long) ∙ sym filled ∙ sym is ∙ ap four (sym same)
 
 no_four : (whole : Bool) (buf bytes : List ℕ) (at place : ℕ) → whole ≡ false → length buf ≡ 4 → IsFilled whole buf at bytes → at ≡ place → length bytes < place + 4
 no_four true buf bytes at place ends long filled here = absurd cc

@@ -24,28 +24,44 @@ loop-number-preserved g c =
       fits = c.in-Ok-Some.ensures.fits;
       file = record { name = c.in-Ok-Some.ensures.file.name ∙ inv.file.name; part = c.in-Ok-Some.ensures.file.part ∙ inv.file.part };
       looked = looked_twice _ _ _ _ _ _ _ _ _ _ inv.looked (rw inv.file.part at c.in-Ok-Some.ensures.looked);
-      read = on_more _ _ _ _ _ _ _ _ _ inv.file.part inv.read (some_of c.in-Ok-Some.field-0 c.in-Ok-Some.size (λ n. ReadOn c.loop-number.strings c.read_entry.new.feed (g.S.Store.reads c.loop-number.store) (g.S.Store.reads c.read_entry.new.store) c.loop-number.place (c.loop-number.place + n)) c.in-Ok-Some.field-0-is c.in-Ok-Some.ensures.read_on);
+      read = on_more _ _ _ _ _ _ _ _ _ inv.file.part inv.read
+          (some_of c.in-Ok-Some.field-0 c.in-Ok-Some.size
+          (λ n. ReadOn c.loop-number.strings c.read_entry.new.feed (g.S.Store.reads c.loop-number.store) (g.S.Store.reads c.read_entry.new.store)
+          c.loop-number.place (c.loop-number.place + n)) c.in-Ok-Some.field-0-is c.in-Ok-Some.ensures.read_on);
       place = omega (arith, inv.place, if_some c.in-Ok-Some.field-0 c.in-Ok-Some.size 281 c.in-Ok-Some.field-0-is c.in-Ok-Some.ensures.size);
       told = λ told es block is from within.
           let before = inv.told told es block is from within in
-          let read = told_as (λ bytes. read_entry c.args.width c.loop-number.number (string_of c.loop-number.out) (drop c.loop-number.place bytes) ≡ found_of c.args.width c.read_entry.new.out c.in-Ok-Some.field-0) (g.S.Store.files c.args.store.now) _ c.args.strings.now.name _ inv.looked.files inv.file.name c.in-Ok-Some.ensures.told told in
-          let so_far = stepped c.args.width c.loop-number.number c.loop-number.place (c.args.most - 1) c.in-Ok-Some.size c.loop-number.out c.read_entry.new.out _ es _ block is before.0 (omega arith) (omega (arith, c.requires.most)) (omega (arith, within)) c.in-Ok-Some.field-0-is read in
-          (so_far, scanned_more es (4 * block) c.loop-number.number c.args.string.now (entry_of c.args.width c.read_entry.new.out) before.1 (last_read _ _ _ _ es block so_far) (on_false c.is_same.result (string_of c.read_entry.new.out ≢ c.args.string.now) c.is_same.ensures.no c.if-is_same.false));
+          let read = told_as (λ bytes. read_entry c.args.width c.loop-number.number (string_of c.loop-number.out) (drop c.loop-number.place bytes)
+          ≡ found_of c.args.width c.read_entry.new.out c.in-Ok-Some.field-0) (g.S.Store.files c.args.store.now) _ c.args.strings.now.name _ inv.looked.files
+          inv.file.name c.in-Ok-Some.ensures.told told in
+          let so_far = stepped c.args.width c.loop-number.number c.loop-number.place (c.args.most - 1) c.in-Ok-Some.size c.loop-number.out c.read_entry.new.out
+          _ es _ block is before.0 (omega arith) (omega (arith, c.requires.most)) (omega (arith, within)) c.in-Ok-Some.field-0-is read in (
+            so_far,
+            scanned_more es (4 * block) c.loop-number.number c.args.string.now (entry_of c.args.width c.read_entry.new.out) before.1
+                (last_read _ _ _ _ es block so_far) (on_false c.is_same.result (string_of c.read_entry.new.out ≢ c.args.string.now) c.is_same.ensures.no
+                c.if-is_same.false),
+          );
     }
 
 pub returns-in-Ok-None-clause-told : goal.returns-in-Ok-None-clause-told
 returns-in-Ok-None-clause-told g c = λ told es block is from within.
     let inv = c.loop-number.invariant in
     let before = inv.told told es block is from within in
-    let read = told_as (λ bytes. read_entry c.args.width c.loop-number.number (string_of c.loop-number.out) (drop c.loop-number.place bytes) ≡ found_of c.args.width c.read_entry.new.out c.in-Ok-None.field-0) (g.S.Store.files c.args.store.now) _ c.args.strings.now.name _ inv.looked.files inv.file.name c.in-Ok-None.ensures.told told in
-    never_none c.args.width c.loop-number.number c.loop-number.place (c.args.most - 1) c.loop-number.out c.read_entry.new.out _ es _ block is before.0 (omega arith) (omega (arith, c.requires.most)) (omega (arith, within)) c.in-Ok-None.field-0-is read
+    let read = told_as (λ bytes. read_entry c.args.width c.loop-number.number (string_of c.loop-number.out) (drop c.loop-number.place bytes)
+    ≡ found_of c.args.width c.read_entry.new.out c.in-Ok-None.field-0) (g.S.Store.files c.args.store.now) _ c.args.strings.now.name _ inv.looked.files
+    inv.file.name c.in-Ok-None.ensures.told told in
+    never_none c.args.width c.loop-number.number c.loop-number.place (c.args.most - 1) c.loop-number.out c.read_entry.new.out _ es _ block is before.0
+    (omega arith) (omega (arith, c.requires.most)) (omega (arith, within)) c.in-Ok-None.field-0-is read
 
 pub returns-then-is_same-clause-told : goal.returns-then-is_same-clause-told
 returns-then-is_same-clause-told g c = λ told es block is from within.
     let inv = c.loop-number.invariant in
     let before = inv.told told es block is from within in
-    let read = told_as (λ bytes. read_entry c.args.width c.loop-number.number (string_of c.loop-number.out) (drop c.loop-number.place bytes) ≡ found_of c.args.width c.read_entry.new.out c.in-Ok-Some.field-0) (g.S.Store.files c.args.store.now) _ c.args.strings.now.name _ inv.looked.files inv.file.name c.in-Ok-Some.ensures.told told in
-    let so_far = stepped c.args.width c.loop-number.number c.loop-number.place (c.args.most - 1) c.in-Ok-Some.size c.loop-number.out c.read_entry.new.out _ es _ block is before.0 (omega arith) (omega (arith, c.requires.most)) (omega (arith, within)) c.in-Ok-Some.field-0-is read in
+    let read = told_as (λ bytes. read_entry c.args.width c.loop-number.number (string_of c.loop-number.out) (drop c.loop-number.place bytes)
+    ≡ found_of c.args.width c.read_entry.new.out c.in-Ok-Some.field-0) (g.S.Store.files c.args.store.now) _ c.args.strings.now.name _ inv.looked.files
+    inv.file.name c.in-Ok-Some.ensures.told told in
+    let so_far = stepped c.args.width c.loop-number.number c.loop-number.place (c.args.most - 1) c.in-Ok-Some.size c.loop-number.out c.read_entry.new.out _ es _
+    block is before.0 (omega arith) (omega (arith, c.requires.most)) (omega (arith, within)) c.in-Ok-Some.field-0-is read in
     (omega arith, last_read _ _ _ _ es block so_far, on_true c.is_same.result (string_of c.read_entry.new.out ≡ c.args.string.now) c.is_same.ensures.yes c.if-is_same.true)
 
 pub returns-in-Ok-None-clause-read_to : goal.returns-in-Ok-None-clause-read_to
@@ -66,4 +82,13 @@ returns-clause-read_to g c =
 pub returns-then-is_same-clause-read_to : goal.returns-then-is_same-clause-read_to
 returns-then-is_same-clause-read_to g c =
     let inv = c.loop-number.invariant in
-    on_to _ _ _ _ _ _ _ (omega (arith, inv.place, c.requires.most, if_some c.in-Ok-Some.field-0 c.in-Ok-Some.size 281 c.in-Ok-Some.field-0-is c.in-Ok-Some.ensures.size)) (on_more _ _ _ _ _ _ _ _ _ inv.file.part inv.read (some_of c.in-Ok-Some.field-0 c.in-Ok-Some.size (λ n. ReadOn c.loop-number.strings c.read_entry.new.feed (g.S.Store.reads c.loop-number.store) (g.S.Store.reads c.read_entry.new.store) c.loop-number.place (c.loop-number.place + n)) c.in-Ok-Some.field-0-is c.in-Ok-Some.ensures.read_on))
+    on_to _ _ _ _ _ _ _ (omega (
+      arith,
+      inv.place,
+      c.requires.most,
+      if_some c.in-Ok-Some.field-0 c.in-Ok-Some.size 281 c.in-Ok-Some.field-0-is c.in-Ok-Some.ensures.size,
+    ))
+    (on_more _ _ _ _ _ _ _ _ _ inv.file.part inv.read
+    (some_of c.in-Ok-Some.field-0 c.in-Ok-Some.size (λ n.
+    ReadOn c.loop-number.strings c.read_entry.new.feed (g.S.Store.reads c.loop-number.store) (g.S.Store.reads c.read_entry.new.store) c.loop-number.place
+    (c.loop-number.place + n)) c.in-Ok-Some.field-0-is c.in-Ok-Some.ensures.read_on))

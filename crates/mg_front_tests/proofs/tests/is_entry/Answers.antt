@@ -3,7 +3,8 @@ use Rattle.std.specs.Bool.{OnTrue}
 use Rattle.mg_defs.specs.Front.{IsEntry, is_below}
 use Rattle.mg_front_tests.proofs.tests.is_entry.Goals as goal
 
-entry : (b : Bool) (width number : ℕ) (before string field : List ℕ) → b ≡ (number == 0 || is_below before string) → length string ≤ 255 → length field ≡ width → OnTrue b (IsEntry width number before (record { string = string; field = field }))
+entry : (b : Bool) (width number : ℕ) (before string field : List ℕ) → b ≡ (number == 0 || is_below before string) → length string ≤ 255 →
+    length field ≡ width → OnTrue b (IsEntry width number before (record { string = string; field = field }))
 entry true width number before string field is short long = record { short = short; field = long; above = sym is }
 entry false width number before string field is short long = tt
 

@@ -8,8 +8,10 @@ use Rattle.mg_huff.proofs.counted.ranked.Goals as goal
 pub returns-clause-listed : goal.returns-clause-listed
 returns-clause-listed c =
     let e : c.loop-place.place ≡ length c.args.counts.now = omega arith in
-    listed c.args.counts.now c.loop-place.order.items c.sort_unstable_by_key.new.self.items (subst (λ n. IsListing c.args.counts.now c.loop-place.order.items n) e c.loop-place.invariant) (search rules)
+    listed c.args.counts.now c.loop-place.order.items c.sort_unstable_by_key.new.self.items
+    (subst (λ n. IsListing c.args.counts.now c.loop-place.order.items n) e c.loop-place.invariant) (search rules)
 
 pub returns-clause-rising : goal.returns-clause-rising
 returns-clause-rising c =
-    rising_counts c.sort_unstable_by_key.new.self.items (IsNonDecreasingBy-from_sort_by_key (λ (p : Counted). p.count) c.sort_unstable_by_key.new.self.items c.sort_unstable_by_key.ensures.sorted (λ a r q k. search rules))
+    rising_counts c.sort_unstable_by_key.new.self.items (IsNonDecreasingBy-from_sort_by_key (λ (p : Counted). p.count) c.sort_unstable_by_key.new.self.items
+    c.sort_unstable_by_key.ensures.sorted (λ a r q k. search rules))

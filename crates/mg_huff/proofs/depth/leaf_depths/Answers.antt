@@ -13,24 +13,34 @@ loop-at-init c =
 
 pub index-requires : goal.index-requires
 index-requires c =
-    let left : c.loop-at.at < length c.loop-at.inner.items = undone_left c.args.leaves.now c.args.joins.now c.latest-join.result c.loop-at.at c.loop-at.found.items c.loop-at.inner.items c.loop-at.invariant c.loop-at-test.true c.latest-join.ensures in
+    let left : c.loop-at.at < length c.loop-at.inner.items = undone_left c.args.leaves.now c.args.joins.now c.latest-join.result c.loop-at.at
+    c.loop-at.found.items c.loop-at.inner.items c.loop-at.invariant c.loop-at-test.true c.latest-join.ensures in
     search rules
 
 pub overflow_add-depth : goal.overflow_add-depth
 overflow_add-depth c =
-    let left = undone_left c.args.leaves.now c.args.joins.now c.latest-join.result c.loop-at.at c.loop-at.found.items c.loop-at.inner.items c.loop-at.invariant c.loop-at-test.true c.latest-join.ensures in
-    let deep = undone_deep c.args.leaves.now c.args.joins.now c.latest-join.result c.loop-at.at c.loop-at.found.items c.loop-at.inner.items c.loop-at.invariant c.loop-at-test.true c.latest-join.ensures c.requires.total in
+    let left = undone_left c.args.leaves.now c.args.joins.now c.latest-join.result c.loop-at.at c.loop-at.found.items c.loop-at.inner.items c.loop-at.invariant
+    c.loop-at-test.true c.latest-join.ensures in
+    let deep = undone_deep c.args.leaves.now c.args.joins.now c.latest-join.result c.loop-at.at c.loop-at.found.items c.loop-at.inner.items c.loop-at.invariant
+    c.loop-at-test.true c.latest-join.ensures c.requires.total in
     let same : c.index.result.now ≡ get_or c.loop-at.inner.items c.loop-at.at 0 = c.index.ensures ∙ get_or_default c.loop-at.inner.items c.loop-at.at c.index.result.now 0 left in
     omega arith
 
 pub loop-at-preserved : goal.loop-at-preserved
 loop-at-preserved c =
-    let left = undone_left c.args.leaves.now c.args.joins.now c.latest-join.result c.loop-at.at c.loop-at.found.items c.loop-at.inner.items c.loop-at.invariant c.loop-at-test.true c.latest-join.ensures in
+    let left = undone_left c.args.leaves.now c.args.joins.now c.latest-join.result c.loop-at.at c.loop-at.found.items c.loop-at.inner.items c.loop-at.invariant
+    c.loop-at-test.true c.latest-join.ensures in
     let same : c.index.result.now ≡ get_or c.loop-at.inner.items c.loop-at.at 0 = c.index.ensures ∙ get_or_default c.loop-at.inner.items c.loop-at.at c.index.result.now 0 left in
-    let more = undone_more c.args.leaves.now c.args.joins.now c.latest-join.result c.loop-at.at c.loop-at.found.items c.loop-at.inner.items c.loop-at.invariant c.loop-at-test.true c.latest-join.ensures c.requires.total (c.index.result.now + 1) (omega arith) in
-    let e : c.place-in-loop-at.new.leaves.items ≡ push_leaf c.latest-join.result.first (c.index.result.now + 1) (push_leaf c.latest-join.result.second (c.index.result.now + 1) c.loop-at.found.items) = search rules in
-    let f : c.place-in-loop-at.new.inner.items ≡ push_inner c.latest-join.result.first (c.index.result.now + 1) (push_inner c.latest-join.result.second (c.index.result.now + 1) c.loop-at.inner.items) = search rules in
-    subst (λ l. Undone c.args.leaves.now c.args.joins.now (c.loop-at.at + 1) l c.place-in-loop-at.new.inner.items) (sym e) (subst (λ i. Undone c.args.leaves.now c.args.joins.now (c.loop-at.at + 1) (push_leaf c.latest-join.result.first (c.index.result.now + 1) (push_leaf c.latest-join.result.second (c.index.result.now + 1) c.loop-at.found.items)) i) (sym f) more)
+    let more = undone_more c.args.leaves.now c.args.joins.now c.latest-join.result c.loop-at.at c.loop-at.found.items c.loop-at.inner.items c.loop-at.invariant
+    c.loop-at-test.true c.latest-join.ensures c.requires.total (c.index.result.now + 1) (omega arith) in
+    let e : c.place-in-loop-at.new.leaves.items ≡ push_leaf c.latest-join.result.first (c.index.result.now + 1)
+    (push_leaf c.latest-join.result.second (c.index.result.now + 1) c.loop-at.found.items) = search rules in
+    let f : c.place-in-loop-at.new.inner.items ≡ push_inner c.latest-join.result.first (c.index.result.now + 1)
+    (push_inner c.latest-join.result.second (c.index.result.now + 1) c.loop-at.inner.items) = search rules in
+    subst (λ l. Undone c.args.leaves.now c.args.joins.now (c.loop-at.at + 1) l c.place-in-loop-at.new.inner.items) (sym e)
+    (subst (λ i. Undone c.args.leaves.now c.args.joins.now (c.loop-at.at + 1)
+    (push_leaf c.latest-join.result.first (c.index.result.now + 1) (push_leaf c.latest-join.result.second (c.index.result.now + 1) c.loop-at.found.items))
+    i) (sym f) more)
 
 pub returns : goal.returns
 returns c =

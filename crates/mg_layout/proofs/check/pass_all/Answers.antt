@@ -12,4 +12,5 @@ returns-then-is_wrong c = record {
 
 pub loop-check-preserved : goal.loop-check-preserved
 loop-check-preserved c =
-    ap (λ n. find is_wrong (map check_of (take n c.args.checks.now))) (add-one c.loop-check.check-index) ∙ passed_more c.args.checks.now c.loop-check.check-index _ (omega arith) c.loop-check.invariant (sym c.is_wrong.ensures ∙ c.if-is_wrong.false)
+    ap (λ n. find is_wrong (map check_of (take n c.args.checks.now))) (add-one c.loop-check.check-index)
+    ∙ passed_more c.args.checks.now c.loop-check.check-index _ (omega arith) c.loop-check.invariant (sym c.is_wrong.ensures ∙ c.if-is_wrong.false)

@@ -12,13 +12,16 @@ returns-in-Err-clause-told c = λ all is agree. tells_magic c.args.low c.args.hi
 pub returns-then-size-ne-NARROW-clause-told : goal.returns-then-size-ne-NARROW-clause-told
 returns-then-size-ne-NARROW-clause-told c = λ all is agree.
     let same : slice_index c.args.bytes.now 6 ≡ slice_index all 6 = same_index c.args.size c.args.bytes.now all 6 c.requires.size agree (omega arith) in
-    tells_narrow_size all c.args.size c.bad.result _ _ (after_magic c.args.low c.args.high c.args.size c.args.bytes.now all c.requires.size is agree c.in-Ok.ensures.0) (omega (arith, same, c.in-Ok.ensures.1, c.if-version-eq1.true)) is c.if-size-ne-NARROW.true c.exactly.ensures c.bad.ensures
+    tells_narrow_size all c.args.size c.bad.result _ _ (after_magic c.args.low c.args.high c.args.size c.args.bytes.now all c.requires.size is agree
+    c.in-Ok.ensures.0) (omega (arith, same, c.in-Ok.ensures.1, c.if-version-eq1.true)) is c.if-size-ne-NARROW.true c.exactly.ensures c.bad.ensures
 
 pub returns-then-size-ne-WIDE-clause-told : goal.returns-then-size-ne-WIDE-clause-told
 returns-then-size-ne-WIDE-clause-told c = λ all is agree.
     let same : slice_index c.args.bytes.now 6 ≡ slice_index all 6 = same_index c.args.size c.args.bytes.now all 6 c.requires.size agree (omega arith) in
     let other : slice_index all 6 ≢ 49 = λ e. c.if-version-eq1.false (omega (arith, same, c.in-Ok.ensures.1, e)) in
-    tells_wide_size all c.args.size c.bad-then-size-ne-WIDE.result _ _ (after_magic c.args.low c.args.high c.args.size c.args.bytes.now all c.requires.size is agree c.in-Ok.ensures.0) other is c.if-size-ne-WIDE.true c.exactly-then-size-ne-WIDE.ensures c.bad-then-size-ne-WIDE.ensures
+    tells_wide_size all c.args.size c.bad-then-size-ne-WIDE.result _ _
+    (after_magic c.args.low c.args.high c.args.size c.args.bytes.now all c.requires.size is agree c.in-Ok.ensures.0) other is c.if-size-ne-WIDE.true
+    c.exactly-then-size-ne-WIDE.ensures c.bad-then-size-ne-WIDE.ensures
 
 pub returns-else-size-ne-NARROW-clause-told : goal.returns-else-size-ne-NARROW-clause-told
 returns-else-size-ne-NARROW-clause-told c = λ all is agree.
@@ -26,7 +29,9 @@ returns-else-size-ne-NARROW-clause-told c = λ all is agree.
     let same : slice_index c.args.bytes.now 6 ≡ slice_index all 6 = same_index c.args.size c.args.bytes.now all 6 c.requires.size agree (omega arith) in
     let whole : take c.args.size c.args.bytes.now ≡ all = all_is c.args.size c.args.bytes.now all is (omega arith) agree in
     let read : NarrowRead (take 64 c.args.bytes.now) c.read_narrow.result = c.read_narrow.ensures in
-    narrow_answers c.args.low c.args.high all c.read_narrow.result c.requires.first c.requires.high (small_part c.args.size c.args.bytes.now all whole c.fits-bytes) (after_magic c.args.low c.args.high c.args.size c.args.bytes.now all c.requires.size is agree c.in-Ok.ensures.0)
+    narrow_answers c.args.low c.args.high all c.read_narrow.result c.requires.first c.requires.high
+    (small_part c.args.size c.args.bytes.now all whole c.fits-bytes)
+    (after_magic c.args.low c.args.high c.args.size c.args.bytes.now all c.requires.size is agree c.in-Ok.ensures.0)
     (omega (arith, same, c.in-Ok.ensures.1, c.if-version-eq1.true)) (is ∙ size_is) (subst (λ xs. NarrowRead xs c.read_narrow.result) (ap (λ n. take n c.args.bytes.now) (sym size_is) ∙ whole) read)
 
 pub returns-else-size-ne-WIDE-clause-told : goal.returns-else-size-ne-WIDE-clause-told
@@ -37,7 +42,8 @@ returns-else-size-ne-WIDE-clause-told c = λ all is agree.
     let whole : take c.args.size c.args.bytes.now ≡ all = all_is c.args.size c.args.bytes.now all is (omega arith) agree in
     let read : WideRead c.args.bytes.now c.read_wide.result = c.read_wide.ensures in
     let full : c.args.bytes.now ≡ all = sym (take_all c.args.size c.args.bytes.now (omega (arith, size_is, c.told-bytes))) ∙ whole in
-    wide_answers c.args.low c.args.high all c.read_wide.result c.requires.first c.requires.high (small_part c.args.size c.args.bytes.now all whole c.fits-bytes) (after_magic c.args.low c.args.high c.args.size c.args.bytes.now all c.requires.size is agree c.in-Ok.ensures.0)
+    wide_answers c.args.low c.args.high all c.read_wide.result c.requires.first c.requires.high (small_part c.args.size c.args.bytes.now all whole c.fits-bytes)
+    (after_magic c.args.low c.args.high c.args.size c.args.bytes.now all c.requires.size is agree c.in-Ok.ensures.0)
     other (is ∙ size_is) (subst (λ xs. WideRead xs c.read_wide.result) full read)
 
 pub returns-else-size-ne-NARROW-clause-within : goal.returns-else-size-ne-NARROW-clause-within

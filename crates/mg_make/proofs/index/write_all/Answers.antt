@@ -27,7 +27,8 @@ returns-in-Ok-clause-stand g c = λ collection is.
     let bytes =
     c.in-Ok.ensures.bytes (c.write_lists.ensures.step.wrote.told ∙ is.told) ∙ ap (λ sums. flat_map root_bytes sums) c.deref.ensures.value
     ∙ weights_are c.squares_weigh.ensures collection c.write_lists.new.sums.items (c.in_ok-sizes.ensures.sums collection has) in
-    index_stands c.args.base.now collection _ _ (c.in_ok-sizes.ensures.stand collection has) c.write_weights_part.ensures.step.wrote bytes (c.in-Ok.ensures.first (c.write_lists.ensures.step.wrote.told ∙ is.told))
+    index_stands c.args.base.now collection _ _ (c.in_ok-sizes.ensures.stand collection has) c.write_weights_part.ensures.step.wrote bytes
+    (c.in-Ok.ensures.first (c.write_lists.ensures.step.wrote.told ∙ is.told))
     (c.in-Ok.ensures.second (c.write_lists.ensures.step.wrote.told ∙ is.told))
 
 pub returns-in-Ok-clause-post_bytes : goal.returns-in-Ok-clause-post_bytes

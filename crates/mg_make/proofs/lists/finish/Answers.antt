@@ -39,7 +39,8 @@ pub returns-clause-stand : goal.returns-clause-stand
 returns-clause-stand g c = λ collection told all took terms.
     let base = c.args.writer.now.lex.base in
     let still = took_beside c.lists_stay.ensures base c.args.writer.now.lists _ _ (inverted collection) [] c.requires.post c.requires.skip c.finish.ensures.told c.finish.ensures.others took in
-    lists_are_there c.lexicon_has_its_terms.ensures.entries base collection c.args.writer.now.lists _ _ c.requires.post c.requires.skip all (c.in_ok-finish.ensures.finished (terms_of collection) terms told)
+    lists_are_there c.lexicon_has_its_terms.ensures.entries base collection c.args.writer.now.lists _ _ c.requires.post c.requires.skip all
+    (c.in_ok-finish.ensures.finished (terms_of collection) terms told)
     (wrote_lists base _ _ _ _ c.requires.post c.requires.skip c.finish-2.ensures.told c.finish-2.ensures.others)
     (c.in_ok-post_bytes.ensures.bytes (inverted collection) still (c.finish.ensures.told ∙ told))
 

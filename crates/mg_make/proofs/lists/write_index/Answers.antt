@@ -26,7 +26,11 @@ pub finish-requires : goal.finish-requires
 finish-requires g c =
     let can = c.in_ok-write_terms.ensures.can in
     record {
-      lists = (can.list.done, subst (λ x. Took c.write_terms.new.writer.lists x can.list.done []) (sym c.expect_end.ensures.looked.files) (took_between _ _ can.list.done can.list.begun can.between can.list.took));
+      lists = (
+        can.list.done,
+        subst (λ x. Took c.write_terms.new.writer.lists x can.list.done []) (sym c.expect_end.ensures.looked.files)
+            (took_between _ _ can.list.done can.list.begun can.between can.list.took),
+      );
       lex = (can.before, subst (λ x. TookTerms c.write_terms.new.writer.lex x can.before) (sym c.expect_end.ensures.looked.files) can.took);
       post = can.list.post ∙ ap (λ b. full_name b Post) (sym can.base);
       skip = can.list.skip ∙ ap (λ b. full_name b Skip) (sym can.base);

@@ -23,13 +23,16 @@ push-requires-clause-took g c =
 
 pub push-requires-clause-above : goal.push-requires-clause-above
 push-requires-clause-above g c =
-    above c.args.terms.now.table.now.terms c.args.number c.args.writer.now.lex.front.count c.args.writer.now.lex.front.last c.term.result.now c.requires.rising c.requires.can.count c.requires.can.last c.term.ensures.term
+    above c.args.terms.now.table.now.terms c.args.number c.args.writer.now.lex.front.count c.args.writer.now.lex.front.last c.term.result.now c.requires.rising
+    c.requires.can.count c.requires.can.last c.term.ensures.term
 
 pub returns-in-Ok-clause-can : goal.returns-in-Ok-clause-can
 returns-in-Ok-clause-can g c =
     let within : c.args.number < length c.args.terms.now.counts.now.docs = omega (arith, c.requires.number, c.requires.sizes.each) in
-    can_index_more c.runs_stay.ensures.left c.lists_stay.ensures c.terms_stay.ensures c.args.terms.now.table.now.terms c.args.terms.now.counts.now.docs c.args.number c.docs-docs.result _ _ _ _ _ _ _ _ _ _ _ _ _ c.requires.can c.in_ok-post_at.ensures.can
-    c.in_ok-post_at.ensures.listed c.write_list.ensures.step.same c.write_list.ensures.step.wrote within c.docs-docs.ensures c.term.ensures.term c.in-Ok.ensures.took c.in-Ok.ensures.count c.in-Ok.ensures.last c.push.ensures.base
+    can_index_more c.runs_stay.ensures.left c.lists_stay.ensures c.terms_stay.ensures c.args.terms.now.table.now.terms c.args.terms.now.counts.now.docs
+    c.args.number c.docs-docs.result _ _ _ _ _ _ _ _ _ _ _ _ _ c.requires.can c.in_ok-post_at.ensures.can
+    c.in_ok-post_at.ensures.listed c.write_list.ensures.step.same c.write_list.ensures.step.wrote within c.docs-docs.ensures c.term.ensures.term
+    c.in-Ok.ensures.took c.in-Ok.ensures.count c.in-Ok.ensures.last c.push.ensures.base
     c.push.ensures.told c.push.ensures.others
 
 pub returns-in-Ok-clause-indexed : goal.returns-in-Ok-clause-indexed
@@ -48,7 +51,8 @@ returns-in-Ok-clause-indexed g c = λ collection has.
     let more =
     info_is terms docs collection n c.docs-docs.result c.in_ok-post_at.post_at c.in_ok-post_at.skip_at c.args.writer.now.lists.all c.term.result.now has.of lt c.term.ensures.term c.docs-docs.ensures
     (written.post_at has.told done ps rest size next) (written.skip_at has.told done ps rest size next) in
-    indexed_more c.runs_stay.ensures.left c.lists_stay.ensures c.terms_stay.ensures terms docs collection n _ _ _ _ _ _ _ _ _ _ _ _ has lt list c.write_list.ensures.files.all written.can.post written.can.skip c.write_list.ensures.step.same
+    indexed_more c.runs_stay.ensures.left c.lists_stay.ensures c.terms_stay.ensures terms docs collection n _ _ _ _ _ _ _ _ _ _ _ _ has lt list
+    c.write_list.ensures.files.all written.can.post written.can.skip c.write_list.ensures.step.same
     c.write_list.ensures.step.wrote c.requires.can.base c.in-Ok.ensures.took more c.push.ensures.told c.push.ensures.others
 
 pub returns-in-Ok-clause-step : goal.returns-in-Ok-clause-step

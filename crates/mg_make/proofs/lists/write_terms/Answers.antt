@@ -12,9 +12,12 @@ pub returns-in_err-write_term-clause-refused : goal.returns-in_err-write_term-cl
 returns-in_err-write_term-clause-refused g c =
     let inv = c.loop-number.invariant in
     passed_on_each
-    (λ collection. HasIndexed c.args.terms.now.table.now.terms c.args.terms.now.counts.now.docs collection c.loop-number.number c.loop-number.merge c.loop-number.writer.lists c.loop-number.writer.lex c.loop-number.sums.items (g.S.Store.files c.loop-number.store))
-    (λ collection. HasIndexed c.args.terms.now.table.now.terms c.args.terms.now.counts.now.docs collection 0 c.args.merge.now c.args.writer.now.lists c.args.writer.now.lex c.args.sums.now.items (g.S.Store.files c.args.store.now))
-    c.from_residual.result c.in_err-write_term.field-0.0 (err_from_is_err_and c.from_residual.result c.from_residual.ensures.1) (rose_later _ _ _ inv.step.later) inv.indexed c.in_err-write_term.ensures.refused
+    (λ collection. HasIndexed c.args.terms.now.table.now.terms c.args.terms.now.counts.now.docs collection c.loop-number.number c.loop-number.merge
+    c.loop-number.writer.lists c.loop-number.writer.lex c.loop-number.sums.items (g.S.Store.files c.loop-number.store))
+    (λ collection. HasIndexed c.args.terms.now.table.now.terms c.args.terms.now.counts.now.docs collection 0 c.args.merge.now c.args.writer.now.lists
+    c.args.writer.now.lex c.args.sums.now.items (g.S.Store.files c.args.store.now))
+    c.from_residual.result c.in_err-write_term.field-0.0 (err_from_is_err_and c.from_residual.result c.from_residual.ensures.1)
+    (rose_later _ _ _ inv.step.later) inv.indexed c.in_err-write_term.ensures.refused
 
 pub returns-in_err-write_term-clause-step : goal.returns-in_err-write_term-clause-step
 returns-in_err-write_term-clause-step g c = step_then c.loop-number.invariant.step c.write_term.ensures.step

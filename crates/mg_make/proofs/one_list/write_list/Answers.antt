@@ -33,9 +33,11 @@ returns-in-Ok-end_list-clause-told g c = λ told done ps more size is.
     let taken = c.in_ok-take_postings.ensures.told (ap is_some files ∙ told) done [] ps (by_terms (c.args.number + 1) more) enough begun in
     let whole =
     whole_taken
-    (λ qs rest. IsInList c.args.number c.take_postings.new.merge c.take_postings.new.lists c.take_postings.new.sums.items (g.S.Store.files c.take_postings.new.store) done qs rest (by_terms (c.args.number + 1) more))
+    (λ qs rest. IsInList c.args.number c.take_postings.new.merge c.take_postings.new.lists c.take_postings.new.sums.items
+    (g.S.Store.files c.take_postings.new.store) done qs rest (by_terms (c.args.number + 1) more))
     c.args.docs ps size taken in
-    at_list_ended c.runs_stay.ensures.left c.args.number _ _ _ _ _ _ c.args.lists.now.all done ps more whole (sym (c.end_list.ensures.same.all ∙ c.take_postings.ensures.files.all ∙ c.begin.ensures.same.all)) is.rise.1 is.fit wrote
+    at_list_ended c.runs_stay.ensures.left c.args.number _ _ _ _ _ _ c.args.lists.now.all done ps more whole
+    (sym (c.end_list.ensures.same.all ∙ c.take_postings.ensures.files.all ∙ c.begin.ensures.same.all)) is.rise.1 is.fit wrote
     c.in-Ok-end_list.ensures.took
 
 pub returns-in-Ok-end_list-clause-post_at : goal.returns-in-Ok-end_list-clause-post_at

@@ -27,7 +27,8 @@ returns c =
     record {
       met = (
         old.piece ∷ [] ∷ [],
-        read-two_ended old c.turn.new.self c.turn-2.new.self c.offer-3.new.self c.args.byte c.offer-3.result ended.0 (c.turn.ensures.turned ∙ ap turned ended.1) again.0 (c.turn-2.ensures.turned ∙ ap turned again.1) c.offer-3.ensures.offered,
+        read-two_ended old c.turn.new.self c.turn-2.new.self c.offer-3.new.self c.args.byte c.offer-3.result ended.0 (c.turn.ensures.turned ∙ ap turned ended.1)
+            again.0 (c.turn-2.ensures.turned ∙ ap turned again.1) c.offer-3.ensures.offered,
         met-two c.args.met.now _ _ _ c.args.begins _ _ old _ c.restart.ensures c.tell.ensures c.tell_other.ensures c.kind.ensures c.piece.ensures.value ended.1,
       );
     }

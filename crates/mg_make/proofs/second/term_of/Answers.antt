@@ -18,12 +18,15 @@ low terms (b ∷ bytes) term has none is =
     omega arith
 
 abbrev NumbersHold : Type 0
-NumbersHold = (words : List (List ℕ)) (symbol : ℕ) (word : List ℕ) → slice_get words symbol ≡ Some word → slice_get (terms_and_numbers words).numbers symbol ≡ Some (term_in (terms_and_numbers words).terms word)
+NumbersHold = (words : List (List ℕ)) (symbol : ℕ) (word : List ℕ) → slice_get words symbol ≡ Some word →
+    slice_get (terms_and_numbers words).numbers symbol ≡ Some (term_in (terms_and_numbers words).terms word)
 
 abbrev TermsHold : Type 0
 TermsHold = (words : List (List ℕ)) (symbol : ℕ) (word : List ℕ) → slice_get words symbol ≡ Some word → word ≢ [] → HasTerm (terms_and_numbers words).terms word
 
-known : NumbersHold → TermsHold → (p : Plan) (stream : Stream) (symbol : ℕ) (result : Option ℕ) → stream ≡ Words → p.terms ≡ terms_and_numbers p.code.words.pieces → symbol < length (code_of stream p.code).pieces → slice_get p.terms.numbers symbol ≡ Some result → (term : ℕ) → result ≡ Some term → term < length p.terms.terms
+known : NumbersHold → TermsHold → (p : Plan) (stream : Stream) (symbol : ℕ) (result : Option ℕ) → stream ≡ Words →
+    p.terms ≡ terms_and_numbers p.code.words.pieces → symbol < length (code_of stream p.code).pieces → slice_get p.terms.numbers symbol ≡ Some result →
+    (term : ℕ) → result ≡ Some term → term < length p.terms.terms
 known numbers has p stream symbol result is_words made low_symbol there term is =
     let words : List (List ℕ) = p.code.words.pieces in
     let within : symbol < length words = subst (λ (k : Stream). symbol < length (code_of k p.code).pieces) is_words low_symbol in

@@ -12,7 +12,10 @@ take-requires g c =
     let next = marks_of c.met.result.now in
     let whole : ((fed : List ℕ) (met : List Mark) → HasMet c.args.scanner.now fed met → marks fed ≡ met ++ next)
     = λ fed met h. subst (λ (m : Meeting). marks fed ≡ met ++ marks_of m) (sym c.met.ensures) (c.finish.ensures.met fed met h) in
-    record { next = last_marks c.args.pass (g.S.Store.files c.args.store.now) c.requires.put.0 c.requires.put.1 next c.requires.put.3 (whole c.requires.put.0 c.requires.put.1 c.requires.put.2) c.requires.put.4 }
+    record {
+      next = last_marks c.args.pass (g.S.Store.files c.args.store.now) c.requires.put.0 c.requires.put.1 next c.requires.put.3
+          (whole c.requires.put.0 c.requires.put.1 c.requires.put.2) c.requires.put.4;
+    }
 
 pub returns-in-Err-clause-refused : goal.returns-in-Err-clause-refused
 returns-in-Err-clause-refused g c = λ fed met scanned written few.
@@ -28,7 +31,8 @@ finish-requires-2 g c =
     = λ fed met h. subst (λ (m : Meeting). marks fed ≡ met ++ marks_of m) (sym c.met.ensures) (c.finish.ensures.met fed met h) in
     record {
       whole = is_whole c.take.new.self (g.S.Store.files c.take.new.store) c.requires.put.0
-          (all_written c.args.pass c.take.new.self (g.S.Store.files c.args.store.now) (g.S.Store.files c.take.new.store) c.requires.put.0 c.requires.put.1 next c.in-Ok.ensures.written c.requires.put.3 (whole c.requires.put.0 c.requires.put.1 c.requires.put.2));
+          (all_written c.args.pass c.take.new.self (g.S.Store.files c.args.store.now) (g.S.Store.files c.take.new.store) c.requires.put.0 c.requires.put.1 next
+          c.in-Ok.ensures.written c.requires.put.3 (whole c.requires.put.0 c.requires.put.1 c.requires.put.2));
     }
 
 pub returns-clause-handed : goal.returns-clause-handed
@@ -38,7 +42,8 @@ returns-clause-handed g c = λ fed met scanned written few.
     = λ fed met h. subst (λ (m : Meeting). marks fed ≡ met ++ marks_of m) (sym c.met.ensures) (c.finish.ensures.met fed met h) in
     let all : HasWritten c.take.new.self (g.S.Store.files c.take.new.store) (marks fed)
     = all_written c.args.pass c.take.new.self (g.S.Store.files c.args.store.now) (g.S.Store.files c.take.new.store) fed met next c.in-Ok.ensures.written written (whole fed met scanned) in
-    handed_all c.finish-2.result c.args.pass c.take.new.self (g.S.Store.files c.args.store.now) (g.S.Store.files c.take.new.store) (g.S.Store.files c.finish-2.new.store) fed c.in-Ok.ensures.same c.in-Ok.ensures.wrote.told few all
+    handed_all c.finish-2.result c.args.pass c.take.new.self (g.S.Store.files c.args.store.now) (g.S.Store.files c.take.new.store)
+    (g.S.Store.files c.finish-2.new.store) fed c.in-Ok.ensures.same c.in-Ok.ensures.wrote.told few all
     (c.finish-2.ensures.ends (marks fed) all)
 
 pub returns-in-Err-clause-step : goal.returns-in-Err-clause-step

@@ -7,7 +7,8 @@ use Rattle.mg_make.proofs.StepLaws.{put_err, put_more, put_wider}
 use Rattle.mg_make.proofs.set_parts.open_parts.Goals as goal
 
 pub returns-clause-models : goal.returns-clause-models
-returns-clause-models g c = λ told. models_of_pass c.start.result _ _ c.args.base.now c.args.plan.now.code c.start.ensures.step.wrote (subst (λ (p : Plan). PartsHold (g.S.Store.files c.write.new.store) c.args.base.now p.code) c.plan.view_is (c.in_ok-write.ensures.hold told))
+returns-clause-models g c = λ told. models_of_pass c.start.result _ _ c.args.base.now c.args.plan.now.code c.start.ensures.step.wrote
+    (subst (λ (p : Plan). PartsHold (g.S.Store.files c.write.new.store) c.args.base.now p.code) c.plan.view_is (c.in_ok-write.ensures.hold told))
 
 pub returns-in_err-write-clause-step : goal.returns-in_err-write-clause-step
 returns-in_err-write-clause-step g c =

@@ -28,7 +28,8 @@ returns-clause-within g c =
     let handed = c.requires.handed.2 in
     let fed = c.requires.handed.0 in
     let pairs : c.documents.result ≡ length plan.pairs = c.documents.ensures in
-    let words : c.count.result ≡ length plan.code.words.pieces = c.count.ensures.count ∙ ap length c.canon.ensures.lengths ∙ ap (λ (p : Plan). length p.code.words.lengths) c.plan.view_is ∙ c.requires.plan.model.words.each in
+    let words : c.count.result ≡ length plan.code.words.pieces = c.count.ensures.count ∙ ap length c.canon.ensures.lengths
+    ∙ ap (λ (p : Plan). length p.code.words.lengths) c.plan.view_is ∙ c.requires.plan.model.words.each in
     let terms : c.count-3.result ≡ length plan.terms.terms = c.count-3.ensures.count ∙ ap (λ (p : Plan). length p.terms.terms) c.plan.view_is in
     let count = handed_count plan c.args.limit c.args.base.now fed c.requires.handed.1 _ c.args.inverted handed in
     let low : 4096 ≤ c.args.limit = handed_low plan c.args.limit c.args.base.now fed c.requires.handed.1 _ c.args.inverted handed in
@@ -55,20 +56,25 @@ returns-clause-head g c = λ fed before handed size told plan_of.
     let plan : Plan = c.args.plan.now in
     let lists = handed_lists plan c.args.limit c.args.base.now fed before _ c.args.inverted handed told plan_of in
     let documents : c.documents.result ≡ length (documents fed) = c.documents.ensures ∙ ap length plan_of.pairs ∙ length-map (documents fed) (λ doc. length (parse doc)) in
-    let words : c.count.result ≡ length (sorted_pieces Words fed) = c.count.ensures.count ∙ ap length c.canon.ensures.lengths ∙ ap (λ (p : Plan). length p.code.words.lengths) c.plan.view_is ∙ c.requires.plan.model.words.each ∙ ap length plan_of.code.0.pieces in
-    let others : c.count-2.result ≡ length (sorted_pieces Others fed) = c.count-2.ensures.count ∙ ap length c.canon-2.ensures.lengths ∙ ap (λ (p : Plan). length p.code.others.lengths) c.plan.view_is ∙ c.requires.plan.model.others.each ∙ ap length plan_of.code.1.pieces in
+    let words : c.count.result ≡ length (sorted_pieces Words fed) = c.count.ensures.count ∙ ap length c.canon.ensures.lengths
+    ∙ ap (λ (p : Plan). length p.code.words.lengths) c.plan.view_is ∙ c.requires.plan.model.words.each ∙ ap length plan_of.code.0.pieces in
+    let others : c.count-2.result ≡ length (sorted_pieces Others fed) = c.count-2.ensures.count ∙ ap length c.canon-2.ensures.lengths
+    ∙ ap (λ (p : Plan). length p.code.others.lengths) c.plan.view_is ∙ c.requires.plan.model.others.each ∙ ap length plan_of.code.1.pieces in
     let terms : c.count-3.result ≡ length (dictionary fed) = c.count-3.ensures.count ∙ ap (λ (p : Plan). length p.terms.terms) c.plan.view_is ∙ ap length plan_of.terms in
     let end : c.plan.inside.open_end ≡ has_open_end fed = ap (λ (p : Plan). p.open_end) c.plan.view_is ∙ plan_of.open_end in
-    let count : c.args.inverted.occurrences ≡ length (occurrences fed) = handed_count plan c.args.limit c.args.base.now fed before _ c.args.inverted handed ∙ ap length (planned_occurrences plan fed plan_of) in
+    let count : c.args.inverted.occurrences ≡ length (occurrences fed) = handed_count plan c.args.limit c.args.base.now fed before _ c.args.inverted handed
+    ∙ ap length (planned_occurrences plan fed plan_of) in
     let runs : c.runs.result ≡ run_count (length (occurrences fed)) (run_cap c.args.limit)
     = c.runs.ensures ∙ c.in-Ok.ensures.step.same.runs ∙ handed_runs plan c.args.limit c.args.base.now fed before _ c.args.inverted handed ∙ ap (λ n. run_count n (run_cap c.args.limit)) count in
-    let text : c.args.inverted.text_bytes ≡ length (text_part plan.code fed) = handed_text plan c.args.limit c.args.base.now fed before _ c.args.inverted handed c.text_has_its_documents.ensures.text plan_of in
+    let text : c.args.inverted.text_bytes ≡ length (text_part plan.code fed) = handed_text plan c.args.limit c.args.base.now fed before _ c.args.inverted handed
+    c.text_has_its_documents.ensures.text plan_of in
     let post : c.in-Ok.sizes.post_bytes ≡ length (post_part fed) = c.in-Ok.ensures.post_bytes fed lists in
     let skip : c.in-Ok.sizes.skip_count ≡ skip_count fed = c.in-Ok.ensures.skip_count fed lists in
     same_heads _ _ refl documents words others terms refl end size count runs text post skip
 
 pub returns-clause-peak : goal.returns-clause-peak
-returns-clause-peak g c = λ fed before handed plan_of. c.peak.ensures ∙ c.in-Ok.ensures.step.same.peak ∙ handed_peak c.args.plan.now c.args.limit c.args.base.now fed before _ c.args.inverted handed plan_of
+returns-clause-peak g c = λ fed before handed plan_of. c.peak.ensures ∙ c.in-Ok.ensures.step.same.peak
+    ∙ handed_peak c.args.plan.now c.args.limit c.args.base.now fed before _ c.args.inverted handed plan_of
 
 pub returns-clause-stand : goal.returns-clause-stand
 returns-clause-stand g c = λ fed before handed told plan_of. c.in-Ok.ensures.stand fed (handed_lists c.args.plan.now c.args.limit c.args.base.now fed before _ c.args.inverted handed told plan_of)

@@ -10,7 +10,8 @@ pub finish-requires-clause-given : goal.finish-requires-clause-given
 finish-requires-clause-given g c = (c.in-Ok.ensures.counted.0, c.in-Ok.ensures.counted.2, omega (arith, c.in-Ok.ensures.counted.1.size, c.requires.fits.few))
 
 pub returns-clause-refused : goal.returns-clause-refused
-returns-clause-refused g c = end_stops_all c.finish.result (λ fed. HasCounted c.count_documents.new.count fed) _ (TextsStand (g.D.Documents.texts c.args.texts.now) (g.S.Store.files c.args.store.now)) c.in-Ok.ensures.counted.0
+returns-clause-refused g c = end_stops_all c.finish.result (λ fed. HasCounted c.count_documents.new.count fed) _
+    (TextsStand (g.D.Documents.texts c.args.texts.now) (g.S.Store.files c.args.store.now)) c.in-Ok.ensures.counted.0
     c.in-Ok.ensures.counted.1.told c.in-Ok.ensures.counted.2 c.finish.ensures.refused
 
 pub returns-clause-of : goal.returns-clause-of

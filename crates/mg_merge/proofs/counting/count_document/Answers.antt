@@ -12,7 +12,13 @@ pub take-requires : goal.take-requires
 take-requires c =
     let given = c.requires.given in
     let front = take c.loop-byte.byte-index c.args.bytes.now in
-    record { given = (given.0 ++ front, c.loop-byte.invariant given.0 given.1, omega (arith, length-append given.0 front, length-take c.loop-byte.byte-index c.args.bytes.now, given.2, c.loop-byte-test.true)) }
+    record {
+      given = (
+        given.0 ++ front,
+        c.loop-byte.invariant given.0 given.1,
+        omega (arith, length-append given.0 front, length-take c.loop-byte.byte-index c.args.bytes.now, given.2, c.loop-byte-test.true),
+      );
+    }
 
 pub returns-in-Err-clause-refused : goal.returns-in-Err-clause-refused
 returns-in-Err-clause-refused c = λ fed has.
@@ -30,4 +36,5 @@ loop-byte-preserved c = λ fed has.
     (c.in-Ok.ensures.given (fed ++ take i bytes) (c.loop-byte.invariant fed has))
 
 pub returns-clause-given : goal.returns-clause-given
-returns-clause-given c = λ fed has. subst (λ t. HasCounted c.loop-byte.count (fed ++ t)) (take_all c.loop-byte.byte-index c.args.bytes.now (omega (arith, c.loop-byte-test.false))) (c.loop-byte.invariant fed has)
+returns-clause-given c = λ fed has. subst (λ t. HasCounted c.loop-byte.count (fed ++ t))
+    (take_all c.loop-byte.byte-index c.args.bytes.now (omega (arith, c.loop-byte-test.false))) (c.loop-byte.invariant fed has)

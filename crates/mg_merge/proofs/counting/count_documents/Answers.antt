@@ -24,8 +24,10 @@ returns-in-Err-clause-refused g c =
     (λ collection stand. (
       collection,
       record {
-        stands = texts_stand_on (g.D.Documents.texts c.args.texts.now) (g.D.Documents.texts c.loop-index.texts) (g.S.Store.files c.args.store.now) (g.S.Store.files c.loop-index.store) collection so_far.same so_far.files stand;
-        short = short_next (g.D.Documents.texts c.args.texts.now) (g.S.Store.files c.args.store.now) collection so_far.counted.0 c.loop-index.index c.loop-index.left c.requires.fits (omega (arith, c.loop-index-test.true, c.documents-index-end.ensures)) so_far.counted.1 stand;
+        stands = texts_stand_on (g.D.Documents.texts c.args.texts.now) (g.D.Documents.texts c.loop-index.texts) (g.S.Store.files c.args.store.now)
+            (g.S.Store.files c.loop-index.store) collection so_far.same so_far.files stand;
+        short = short_next (g.D.Documents.texts c.args.texts.now) (g.S.Store.files c.args.store.now) collection so_far.counted.0 c.loop-index.index
+            c.loop-index.left c.requires.fits (omega (arith, c.loop-index-test.true, c.documents-index-end.ensures)) so_far.counted.1 stand;
       },
     ))
     c.in-Err.ensures.refused
@@ -43,7 +45,11 @@ returns-then-found-left-clause-refused g c = λ collection stand.
     let held = c.bytes.result.now in
     let more : c.loop-index.index < texts.all = omega (arith, c.loop-index-test.true, c.documents-index-end.ensures) in
     let is : ((collection : List ℕ) → TextsStand texts before collection → held ≡ closed_document (c.loop-index.index + 1) collection)
-    = λ collection stand. c.bytes.ensures ∙ c.in-Ok.ensures.held collection (record { stands = texts_stand_on texts (g.D.Documents.texts c.loop-index.texts) before middle collection so_far.same so_far.files stand; short = short_next texts before collection fed c.loop-index.index c.loop-index.left c.requires.fits more given stand }) in
+    = λ collection stand. c.bytes.ensures ∙ c.in-Ok.ensures.held collection
+    (record {
+      stands = texts_stand_on texts (g.D.Documents.texts c.loop-index.texts) before middle collection so_far.same so_far.files stand;
+      short = short_next texts before collection fed c.loop-index.index c.loop-index.left c.requires.fits more given stand;
+    }) in
     too_much texts before collection fed held c.loop-index.index c.loop-index.left c.requires.fits more given stand (is collection stand) (omega (arith, c.if-found-left.true))
 
 -- ---- a document is counted
@@ -59,7 +65,11 @@ count_document-requires g c =
     let held = c.bytes-in-loop-index.result.now in
     let more : c.loop-index.index < texts.all = omega (arith, c.loop-index-test.true, c.documents-index-end.ensures) in
     let is : ((collection : List ℕ) → TextsStand texts before collection → held ≡ closed_document (c.loop-index.index + 1) collection)
-    = λ collection stand. c.bytes-in-loop-index.ensures ∙ c.in-Ok.ensures.held collection (record { stands = texts_stand_on texts (g.D.Documents.texts c.loop-index.texts) before middle collection so_far.same so_far.files stand; short = short_next texts before collection fed c.loop-index.index c.loop-index.left c.requires.fits more given stand }) in
+    = λ collection stand. c.bytes-in-loop-index.ensures ∙ c.in-Ok.ensures.held collection
+    (record {
+      stands = texts_stand_on texts (g.D.Documents.texts c.loop-index.texts) before middle collection so_far.same so_far.files stand;
+      short = short_next texts before collection fed c.loop-index.index c.loop-index.left c.requires.fits more given stand;
+    }) in
     let count : length c.bytes.result.now ≡ length held = ap (λ (bytes : List ℕ). length bytes) (c.bytes.ensures ∙ sym c.bytes-in-loop-index.ensures) in
     let within : length c.bytes.result.now ≤ c.loop-index.left = omega (arith, c.if-found-left.false) in
     record { given = (fed, so_far.counted.2, omega (arith, given.size, c.requires.fits.few, count, within)) }
@@ -75,9 +85,16 @@ returns-in-Err-count_document-clause-refused g c =
     let held = c.bytes-in-loop-index.result.now in
     let more : c.loop-index.index < texts.all = omega (arith, c.loop-index-test.true, c.documents-index-end.ensures) in
     let is : ((collection : List ℕ) → TextsStand texts before collection → held ≡ closed_document (c.loop-index.index + 1) collection)
-    = λ collection stand. c.bytes-in-loop-index.ensures ∙ c.in-Ok.ensures.held collection (record { stands = texts_stand_on texts (g.D.Documents.texts c.loop-index.texts) before middle collection so_far.same so_far.files stand; short = short_next texts before collection fed c.loop-index.index c.loop-index.left c.requires.fits more given stand }) in
+    = λ collection stand. c.bytes-in-loop-index.ensures ∙ c.in-Ok.ensures.held collection
+    (record {
+      stands = texts_stand_on texts (g.D.Documents.texts c.loop-index.texts) before middle collection so_far.same so_far.files stand;
+      short = short_next texts before collection fed c.loop-index.index c.loop-index.left c.requires.fits more given stand;
+    }) in
     counting_stops _ _ (fed ++ held) c.in-Err-count_document.refusal
-    (λ collection stand. (joined (drop (c.loop-index.index + 1) (documents collection)) (has_open_end collection), first_next texts before collection fed held c.loop-index.index c.loop-index.left c.requires.fits more given stand (is collection stand)))
+    (λ collection stand. (
+      joined (drop (c.loop-index.index + 1) (documents collection)) (has_open_end collection),
+      first_next texts before collection fed held c.loop-index.index c.loop-index.left c.requires.fits more given stand (is collection stand),
+    ))
     (c.in-Err-count_document.ensures.refused fed so_far.counted.2)
 
 pub loop-index-preserved : goal.loop-index-preserved
@@ -91,7 +108,11 @@ loop-index-preserved g c =
     let held = c.bytes-in-loop-index.result.now in
     let more : c.loop-index.index < texts.all = omega (arith, c.loop-index-test.true, c.documents-index-end.ensures) in
     let is : ((collection : List ℕ) → TextsStand texts before collection → held ≡ closed_document (c.loop-index.index + 1) collection)
-    = λ collection stand. c.bytes-in-loop-index.ensures ∙ c.in-Ok.ensures.held collection (record { stands = texts_stand_on texts (g.D.Documents.texts c.loop-index.texts) before middle collection so_far.same so_far.files stand; short = short_next texts before collection fed c.loop-index.index c.loop-index.left c.requires.fits more given stand }) in
+    = λ collection stand. c.bytes-in-loop-index.ensures ∙ c.in-Ok.ensures.held collection
+    (record {
+      stands = texts_stand_on texts (g.D.Documents.texts c.loop-index.texts) before middle collection so_far.same so_far.files stand;
+      short = short_next texts before collection fed c.loop-index.index c.loop-index.left c.requires.fits more given stand;
+    }) in
     let count : length c.bytes.result.now ≡ length held = ap (λ (bytes : List ℕ). length bytes) (c.bytes.ensures ∙ sym c.bytes-in-loop-index.ensures) in
     let within : length c.bytes.result.now ≤ c.loop-index.left = omega (arith, c.if-found-left.false) in
     record {
@@ -111,10 +132,15 @@ loop-index-preserved g c =
 pub returns-then-left-gt0-clause-refused : goal.returns-then-left-gt0-clause-refused
 returns-then-left-gt0-clause-refused g c = λ collection stand.
     let so_far = c.loop-index.invariant in
-    too_little (g.D.Documents.texts c.args.texts.now) (g.S.Store.files c.args.store.now) collection so_far.counted.0 c.loop-index.index c.loop-index.left c.requires.fits (omega (arith, c.loop-index-test.false, c.documents-index-end.ensures)) so_far.counted.1 stand
+    too_little (g.D.Documents.texts c.args.texts.now) (g.S.Store.files c.args.store.now) collection so_far.counted.0 c.loop-index.index c.loop-index.left
+    c.requires.fits (omega (arith, c.loop-index-test.false, c.documents-index-end.ensures)) so_far.counted.1 stand
     (omega (arith, c.if-left-gt0.true))
 
 pub returns-clause-counted : goal.returns-clause-counted
 returns-clause-counted g c =
-    let so_far = c.loop-index.invariant in
-    (so_far.counted.0, given_each (g.D.Documents.texts c.args.texts.now) (g.S.Store.files c.args.store.now) so_far.counted.0 c.loop-index.index c.loop-index.left c.requires.fits (omega (arith, c.loop-index-test.false, c.documents-index-end.ensures)) so_far.counted.1, so_far.counted.2)
+    let so_far = c.loop-index.invariant in (
+      so_far.counted.0,
+      given_each (g.D.Documents.texts c.args.texts.now) (g.S.Store.files c.args.store.now) so_far.counted.0 c.loop-index.index
+          c.loop-index.left c.requires.fits (omega (arith, c.loop-index-test.false, c.documents-index-end.ensures)) so_far.counted.1,
+      so_far.counted.2,
+    )

@@ -147,5 +147,6 @@ returns-clause-summary g c = λ version cap a b is two.
 
 pub merge_texts-requires : goal.merge_texts-requires
 merge_texts-requires g c =
-    let apart = apart_of c.args.new.now c.args.first.now c.args.second.now (g.D.Documents.texts c.in-Ok-load.texts) c.names_apart.ensures.bases c.requires.one c.requires.other c.in-Ok-load.ensures.of in
+    let apart = apart_of c.args.new.now c.args.first.now c.args.second.now (g.D.Documents.texts c.in-Ok-load.texts) c.names_apart.ensures.bases c.requires.one
+    c.requires.other c.in-Ok-load.ensures.of in
     λ k. ((refl, tt), (search rules, (search rules, (c.in-Ok-load.ensures.fits, apart))))

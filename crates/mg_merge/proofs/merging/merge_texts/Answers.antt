@@ -15,13 +15,15 @@ use Rattle.mg_merge.proofs.merging.merge_texts.Goals as goal
 
 pub returns-clause-stands : goal.returns-clause-stands
 returns-clause-stands g c = λ collection stand.
-    let later = texts_stand_on (g.D.Documents.texts c.args.texts.now) (g.D.Documents.texts c.count_all.new.texts) (g.S.Store.files c.args.store.now) (g.S.Store.files c.count_all.new.store) collection c.in-Ok.ensures.same c.in-Ok.ensures.files stand in
+    let later = texts_stand_on (g.D.Documents.texts c.args.texts.now) (g.D.Documents.texts c.count_all.new.texts) (g.S.Store.files c.args.store.now)
+    (g.S.Store.files c.count_all.new.store) collection c.in-Ok.ensures.same c.in-Ok.ensures.files stand in
     subst (λ limit. OnOk c.write_set.result (StandsIn 2 (run_cap limit) (g.S.Store.files c.write_set.new.store) c.args.new.now collection)) (ap (λ pool. pool.limit) c.in-Ok.ensures.room.pool)
     (c.write_set.ensures.stands collection later (c.in-Ok.ensures.of collection stand))
 
 pub returns-clause-summary : goal.returns-clause-summary
 returns-clause-summary g c = λ collection stand.
-    let later = texts_stand_on (g.D.Documents.texts c.args.texts.now) (g.D.Documents.texts c.count_all.new.texts) (g.S.Store.files c.args.store.now) (g.S.Store.files c.count_all.new.store) collection c.in-Ok.ensures.same c.in-Ok.ensures.files stand in
+    let later = texts_stand_on (g.D.Documents.texts c.args.texts.now) (g.D.Documents.texts c.count_all.new.texts) (g.S.Store.files c.args.store.now)
+    (g.S.Store.files c.count_all.new.store) collection c.in-Ok.ensures.same c.in-Ok.ensures.files stand in
     subst (λ limit. IfOk c.write_set.result (λ summary. summary ≡ summary_of limit collection)) (ap (λ pool. pool.limit) c.in-Ok.ensures.room.pool)
     (c.write_set.ensures.summary collection later (c.in-Ok.ensures.of collection stand))
 
@@ -30,17 +32,20 @@ returns-clause-limits g c = λ collection stand. on_ok c.write_set.result (IsWit
 
 pub returns-clause-merge_a : goal.returns-clause-merge_a
 returns-clause-merge_a g c = λ some.
-    let later = texts_stand_on (g.D.Documents.texts c.args.texts.now) (g.D.Documents.texts c.count_all.new.texts) (g.S.Store.files c.args.store.now) (g.S.Store.files c.count_all.new.store) some.0 c.in-Ok.ensures.same c.in-Ok.ensures.files some.1 in
+    let later = texts_stand_on (g.D.Documents.texts c.args.texts.now) (g.D.Documents.texts c.count_all.new.texts) (g.S.Store.files c.args.store.now)
+    (g.S.Store.files c.count_all.new.store) some.0 c.in-Ok.ensures.same c.in-Ok.ensures.files some.1 in
     c.write_set.ensures.merge_a (some.0, later, c.in-Ok.ensures.of some.0 some.1)
 
 pub returns-clause-merge_b : goal.returns-clause-merge_b
 returns-clause-merge_b g c = λ some.
-    let later = texts_stand_on (g.D.Documents.texts c.args.texts.now) (g.D.Documents.texts c.count_all.new.texts) (g.S.Store.files c.args.store.now) (g.S.Store.files c.count_all.new.store) some.0 c.in-Ok.ensures.same c.in-Ok.ensures.files some.1 in
+    let later = texts_stand_on (g.D.Documents.texts c.args.texts.now) (g.D.Documents.texts c.count_all.new.texts) (g.S.Store.files c.args.store.now)
+    (g.S.Store.files c.count_all.new.store) some.0 c.in-Ok.ensures.same c.in-Ok.ensures.files some.1 in
     c.write_set.ensures.merge_b (some.0, later, c.in-Ok.ensures.of some.0 some.1)
 
 pub returns-clause-left : goal.returns-clause-left
 returns-clause-left g c = λ collection stand.
-    let later = texts_stand_on (g.D.Documents.texts c.args.texts.now) (g.D.Documents.texts c.count_all.new.texts) (g.S.Store.files c.args.store.now) (g.S.Store.files c.count_all.new.store) collection c.in-Ok.ensures.same c.in-Ok.ensures.files stand in
+    let later = texts_stand_on (g.D.Documents.texts c.args.texts.now) (g.D.Documents.texts c.count_all.new.texts) (g.S.Store.files c.args.store.now)
+    (g.S.Store.files c.count_all.new.store) collection c.in-Ok.ensures.same c.in-Ok.ensures.files stand in
     subst (λ f. Left c.args.new.now f (g.S.Store.files c.write_set.new.store) collection) c.in-Ok.ensures.files (c.write_set.ensures.left collection later (c.in-Ok.ensures.of collection stand))
 
 pub returns-clause-others : goal.returns-clause-others
@@ -53,7 +58,8 @@ pub returns-clause-refused : goal.returns-clause-refused
 returns-clause-refused g c = counts_all c.write_set.result _ _ _ _ (λ rose. rose_behind _ _ _ c.in-Ok.ensures.later rose)
     (λ collection stand. (
       collection,
-      texts_stand_on (g.D.Documents.texts c.args.texts.now) (g.D.Documents.texts c.count_all.new.texts) (g.S.Store.files c.args.store.now) (g.S.Store.files c.count_all.new.store) collection c.in-Ok.ensures.same c.in-Ok.ensures.files stand,
+      texts_stand_on (g.D.Documents.texts c.args.texts.now) (g.D.Documents.texts c.count_all.new.texts) (g.S.Store.files c.args.store.now)
+          (g.S.Store.files c.count_all.new.store) collection c.in-Ok.ensures.same c.in-Ok.ensures.files stand,
       c.in-Ok.ensures.of collection stand,
     )) c.write_set.ensures.refused
 

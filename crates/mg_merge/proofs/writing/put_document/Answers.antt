@@ -26,7 +26,13 @@ pub take-requires : goal.take-requires
 take-requires g c =
     let given = c.requires.put in
     let front = take c.loop-byte.byte-index c.args.bytes.now in
-    record { put = (given.0 ++ front, c.loop-byte.invariant.put given.0 given.1, omega (arith, length-append given.0 front, length-take c.loop-byte.byte-index c.args.bytes.now, given.2, c.loop-byte-test.true)) }
+    record {
+      put = (
+        given.0 ++ front,
+        c.loop-byte.invariant.put given.0 given.1,
+        omega (arith, length-append given.0 front, length-take c.loop-byte.byte-index c.args.bytes.now, given.2, c.loop-byte-test.true),
+      );
+    }
 
 pub returns-in-Err-clause-refused : goal.returns-in-Err-clause-refused
 returns-in-Err-clause-refused g c = λ fed more has few.
@@ -77,4 +83,5 @@ returns-in-Err-clause-head g c = λ told.
     subst (λ base. file_at now (full_name base Head) ≡ Some []) so_far.base (c.in-Err.ensures.head (still_told before middle so_far.others.told told))
 
 pub returns-clause-put : goal.returns-clause-put
-returns-clause-put g c = λ fed has. subst (λ t. HasPut c.loop-byte.writer (g.S.Store.files c.loop-byte.store) (fed ++ t)) (take_all c.loop-byte.byte-index c.args.bytes.now (omega (arith, c.loop-byte-test.false))) (c.loop-byte.invariant.put fed has)
+returns-clause-put g c = λ fed has. subst (λ t. HasPut c.loop-byte.writer (g.S.Store.files c.loop-byte.store) (fed ++ t))
+    (take_all c.loop-byte.byte-index c.args.bytes.now (omega (arith, c.loop-byte-test.false))) (c.loop-byte.invariant.put fed has)

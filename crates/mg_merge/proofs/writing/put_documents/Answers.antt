@@ -41,8 +41,10 @@ returns-in-Err-clause-refused g c =
     (λ some. (
       some.0,
       record {
-        stands = texts_stay c.args.writer.now.base (g.D.Documents.texts c.args.texts.now) (g.D.Documents.texts c.loop-index.texts) before middle some.0 c.requires.apart so_far.same so_far.others some.1;
-        short = short_next (g.D.Documents.texts c.args.texts.now) before some.0 so_far.put.0 c.loop-index.index c.loop-index.left c.requires.fits (omega (arith, c.loop-index-test.true, c.documents-index-end.ensures)) so_far.put.1 some.1;
+        stands = texts_stay c.args.writer.now.base (g.D.Documents.texts c.args.texts.now) (g.D.Documents.texts c.loop-index.texts) before middle some.0
+            c.requires.apart so_far.same so_far.others some.1;
+        short = short_next (g.D.Documents.texts c.args.texts.now) before some.0 so_far.put.0 c.loop-index.index c.loop-index.left c.requires.fits
+            (omega (arith, c.loop-index-test.true, c.documents-index-end.ensures)) so_far.put.1 some.1;
       },
     ))
     c.in-Err.ensures.refused
@@ -68,7 +70,12 @@ returns-then-found-left-clause-refused g c = λ some.
     let held = c.bytes.result.now in
     let more : c.loop-index.index < texts.all = omega (arith, c.loop-index-test.true, c.documents-index-end.ensures) in
     let is : ((collection : List ℕ) → TextsStand texts before collection → held ≡ closed_document (c.loop-index.index + 1) collection)
-    = λ collection stand. c.bytes.ensures ∙ c.in-Ok.ensures.held collection (record { stands = texts_stay base texts (g.D.Documents.texts c.loop-index.texts) before middle collection c.requires.apart so_far.same so_far.others stand; short = short_next texts before collection fed c.loop-index.index c.loop-index.left c.requires.fits more given stand }) in
+    = λ collection stand. c.bytes.ensures ∙ c.in-Ok.ensures.held collection
+    (record {
+      stands = texts_stay base texts (g.D.Documents.texts c.loop-index.texts) before middle collection c.requires.apart so_far.same so_far.others
+          stand;
+      short = short_next texts before collection fed c.loop-index.index c.loop-index.left c.requires.fits more given stand;
+    }) in
     too_much texts before some.0 fed held c.loop-index.index c.loop-index.left c.requires.fits more given some.1 (is some.0 some.1) (omega (arith, c.if-found-left.true))
 
 pub returns-then-found-left-clause-others : goal.returns-then-found-left-clause-others
@@ -92,7 +99,12 @@ put_document-requires g c =
     let held = c.bytes-in-loop-index.result.now in
     let more : c.loop-index.index < texts.all = omega (arith, c.loop-index-test.true, c.documents-index-end.ensures) in
     let is : ((collection : List ℕ) → TextsStand texts before collection → held ≡ closed_document (c.loop-index.index + 1) collection)
-    = λ collection stand. c.bytes-in-loop-index.ensures ∙ c.in-Ok.ensures.held collection (record { stands = texts_stay base texts (g.D.Documents.texts c.loop-index.texts) before middle collection c.requires.apart so_far.same so_far.others stand; short = short_next texts before collection fed c.loop-index.index c.loop-index.left c.requires.fits more given stand }) in
+    = λ collection stand. c.bytes-in-loop-index.ensures ∙ c.in-Ok.ensures.held collection
+    (record {
+      stands = texts_stay base texts (g.D.Documents.texts c.loop-index.texts) before middle collection c.requires.apart so_far.same so_far.others
+          stand;
+      short = short_next texts before collection fed c.loop-index.index c.loop-index.left c.requires.fits more given stand;
+    }) in
     let count : length c.bytes.result.now ≡ length held = ap (λ (bytes : List ℕ). length bytes) (c.bytes.ensures ∙ sym c.bytes-in-loop-index.ensures) in
     let within : length c.bytes.result.now ≤ c.loop-index.left = omega (arith, c.if-found-left.false) in
     let has : HasPut c.loop-index.writer read fed = still_put c.loop-index.writer middle read fed c.in-Ok.ensures.files so_far.put.2 in
@@ -116,7 +128,12 @@ retold-requires g c =
     let held = c.bytes-in-loop-index.result.now in
     let more : c.loop-index.index < texts.all = omega (arith, c.loop-index-test.true, c.documents-index-end.ensures) in
     let is : ((collection : List ℕ) → TextsStand texts before collection → held ≡ closed_document (c.loop-index.index + 1) collection)
-    = λ collection stand. c.bytes-in-loop-index.ensures ∙ c.in-Ok.ensures.held collection (record { stands = texts_stay base texts (g.D.Documents.texts c.loop-index.texts) before middle collection c.requires.apart so_far.same so_far.others stand; short = short_next texts before collection fed c.loop-index.index c.loop-index.left c.requires.fits more given stand }) in
+    = λ collection stand. c.bytes-in-loop-index.ensures ∙ c.in-Ok.ensures.held collection
+    (record {
+      stands = texts_stay base texts (g.D.Documents.texts c.loop-index.texts) before middle collection c.requires.apart so_far.same so_far.others
+          stand;
+      short = short_next texts before collection fed c.loop-index.index c.loop-index.left c.requires.fits more given stand;
+    }) in
     let count : length c.bytes.result.now ≡ length held = ap (λ (bytes : List ℕ). length bytes) (c.bytes.ensures ∙ sym c.bytes-in-loop-index.ensures) in
     let within : length c.bytes.result.now ≤ c.loop-index.left = omega (arith, c.if-found-left.false) in
     let has : HasPut c.loop-index.writer read fed = still_put c.loop-index.writer middle read fed c.in-Ok.ensures.files so_far.put.2 in
@@ -136,13 +153,19 @@ returns-in-Err-put_document-clause-refused g c =
     let held = c.bytes-in-loop-index.result.now in
     let more : c.loop-index.index < texts.all = omega (arith, c.loop-index-test.true, c.documents-index-end.ensures) in
     let is : ((collection : List ℕ) → TextsStand texts before collection → held ≡ closed_document (c.loop-index.index + 1) collection)
-    = λ collection stand. c.bytes-in-loop-index.ensures ∙ c.in-Ok.ensures.held collection (record { stands = texts_stay base texts (g.D.Documents.texts c.loop-index.texts) before middle collection c.requires.apart so_far.same so_far.others stand; short = short_next texts before collection fed c.loop-index.index c.loop-index.left c.requires.fits more given stand }) in
+    = λ collection stand. c.bytes-in-loop-index.ensures ∙ c.in-Ok.ensures.held collection
+    (record {
+      stands = texts_stay base texts (g.D.Documents.texts c.loop-index.texts) before middle collection c.requires.apart so_far.same so_far.others
+          stand;
+      short = short_next texts before collection fed c.loop-index.index c.loop-index.left c.requires.fits more given stand;
+    }) in
     let count : length c.bytes.result.now ≡ length held = ap (λ (bytes : List ℕ). length bytes) (c.bytes.ensures ∙ sym c.bytes-in-loop-index.ensures) in
     let within : length c.bytes.result.now ≤ c.loop-index.left = omega (arith, c.if-found-left.false) in
     let has : HasPut c.loop-index.writer read fed = still_put c.loop-index.writer middle read fed c.in-Ok.ensures.files so_far.put.2 in
     let short : length (fed ++ (held ++ [])) < 2 ^ 32 = omega (arith, length-append fed (held ++ []), length-append held [], given.size, c.requires.fits.few, count, within) in
     let rose = Rose (g.S.Store.faults c.read.new.store) (g.S.Store.faults c.put_document.new.store) in
-    put_stops rose _ _ c.args.writer.now.plan (λ more. fed ++ (held ++ more)) c.in-Err-put_document.refusal c.retold.result (λ rises. rose_behind _ _ _ (omega (arith, so_far.later, c.in-Ok.ensures.later)) rises) short
+    put_stops rose _ _ c.args.writer.now.plan (λ more. fed ++ (held ++ more)) c.in-Err-put_document.refusal c.retold.result
+    (λ rises. rose_behind _ _ _ (omega (arith, so_far.later, c.in-Ok.ensures.later)) rises) short
     (λ some.
     let rest = joined (drop (c.loop-index.index + 1) (documents some.0)) (has_open_end some.0) in
     let whole : fed ++ (held ++ rest) ≡ some.0
@@ -192,7 +215,12 @@ loop-index-preserved g c =
     let held = c.bytes-in-loop-index.result.now in
     let more : c.loop-index.index < texts.all = omega (arith, c.loop-index-test.true, c.documents-index-end.ensures) in
     let is : ((collection : List ℕ) → TextsStand texts before collection → held ≡ closed_document (c.loop-index.index + 1) collection)
-    = λ collection stand. c.bytes-in-loop-index.ensures ∙ c.in-Ok.ensures.held collection (record { stands = texts_stay base texts (g.D.Documents.texts c.loop-index.texts) before middle collection c.requires.apart so_far.same so_far.others stand; short = short_next texts before collection fed c.loop-index.index c.loop-index.left c.requires.fits more given stand }) in
+    = λ collection stand. c.bytes-in-loop-index.ensures ∙ c.in-Ok.ensures.held collection
+    (record {
+      stands = texts_stay base texts (g.D.Documents.texts c.loop-index.texts) before middle collection c.requires.apart so_far.same so_far.others
+          stand;
+      short = short_next texts before collection fed c.loop-index.index c.loop-index.left c.requires.fits more given stand;
+    }) in
     let count : length c.bytes.result.now ≡ length held = ap (λ (bytes : List ℕ). length bytes) (c.bytes.ensures ∙ sym c.bytes-in-loop-index.ensures) in
     let within : length c.bytes.result.now ≤ c.loop-index.left = omega (arith, c.if-found-left.false) in
     let has : HasPut c.loop-index.writer read fed = still_put c.loop-index.writer middle read fed c.in-Ok.ensures.files so_far.put.2 in
@@ -220,5 +248,9 @@ loop-index-preserved g c =
 
 pub returns-clause-put : goal.returns-clause-put
 returns-clause-put g c =
-    let so_far = c.loop-index.invariant in
-    (so_far.put.0, given_each (g.D.Documents.texts c.args.texts.now) (g.S.Store.files c.args.store.now) so_far.put.0 c.loop-index.index c.loop-index.left c.requires.fits (omega (arith, c.loop-index-test.false, c.documents-index-end.ensures)) so_far.put.1, so_far.put.2)
+    let so_far = c.loop-index.invariant in (
+      so_far.put.0,
+      given_each (g.D.Documents.texts c.args.texts.now) (g.S.Store.files c.args.store.now) so_far.put.0 c.loop-index.index c.loop-index.left
+          c.requires.fits (omega (arith, c.loop-index-test.false, c.documents-index-end.ensures)) so_far.put.1,
+      so_far.put.2,
+    )

@@ -47,7 +47,8 @@ pub returns-in-Err-put_documents-clause-refused : goal.returns-in-Err-put_docume
 returns-in-Err-put_documents-clause-refused g c = read_wider _ _ _ _ c.in-Err-put_documents.refusal (λ rose. rose_behind _ _ _ c.in-Ok.ensures.cause.later rose)
     (λ some. (
       some.0,
-      texts_stay c.args.base.now (g.D.Documents.texts c.args.texts.now) (g.D.Documents.texts c.args.texts.now) (g.S.Store.files c.args.store.now) (g.S.Store.files c.start.new.store) some.0 c.requires.apart (texts_none (g.D.Documents.texts c.args.texts.now)) c.in-Ok.ensures.others some.1,
+      texts_stay c.args.base.now (g.D.Documents.texts c.args.texts.now) (g.D.Documents.texts c.args.texts.now) (g.S.Store.files c.args.store.now)
+          (g.S.Store.files c.start.new.store) some.0 c.requires.apart (texts_none (g.D.Documents.texts c.args.texts.now)) c.in-Ok.ensures.others some.1,
       subst (λ plan. IsPlanOf plan some.0) (sym c.in-Ok.ensures.plan) some.2,
     ))
     c.in-Err-put_documents.ensures.refused
@@ -60,7 +61,8 @@ returns-in-Ok-finish-clause-stands g c = λ collection stand is.
     let given : AreAllGiven (g.D.Documents.texts c.args.texts.now) (g.S.Store.files c.start.new.store) fed = c.in-Ok-put_documents.ensures.put.1 in
     let has : HasPut c.put_documents.new.writer (g.S.Store.files c.put_documents.new.store) fed = c.in-Ok-put_documents.ensures.put.2 in
     let later : TextsStand (g.D.Documents.texts c.args.texts.now) (g.S.Store.files c.start.new.store) collection
-    = texts_stay c.args.base.now (g.D.Documents.texts c.args.texts.now) (g.D.Documents.texts c.args.texts.now) (g.S.Store.files c.args.store.now) (g.S.Store.files c.start.new.store) collection c.requires.apart (texts_none (g.D.Documents.texts c.args.texts.now)) c.in-Ok.ensures.others stand in
+    = texts_stay c.args.base.now (g.D.Documents.texts c.args.texts.now) (g.D.Documents.texts c.args.texts.now) (g.S.Store.files c.args.store.now)
+    (g.S.Store.files c.start.new.store) collection c.requires.apart (texts_none (g.D.Documents.texts c.args.texts.now)) c.in-Ok.ensures.others stand in
     let all : fed ≡ collection = given.told collection later in
     let told : IsSome (g.S.Store.files c.put_documents.new.store)
     = still_told (g.S.Store.files c.start.new.store) _ c.in-Ok-put_documents.ensures.others.told (still_told (g.S.Store.files c.args.store.now) _ c.in-Ok.ensures.others.told stand.first.told) in
@@ -78,7 +80,8 @@ returns-in-Ok-finish-clause-summary g c = λ collection stand is.
     let given : AreAllGiven (g.D.Documents.texts c.args.texts.now) (g.S.Store.files c.start.new.store) fed = c.in-Ok-put_documents.ensures.put.1 in
     let has : HasPut c.put_documents.new.writer (g.S.Store.files c.put_documents.new.store) fed = c.in-Ok-put_documents.ensures.put.2 in
     let later : TextsStand (g.D.Documents.texts c.args.texts.now) (g.S.Store.files c.start.new.store) collection
-    = texts_stay c.args.base.now (g.D.Documents.texts c.args.texts.now) (g.D.Documents.texts c.args.texts.now) (g.S.Store.files c.args.store.now) (g.S.Store.files c.start.new.store) collection c.requires.apart (texts_none (g.D.Documents.texts c.args.texts.now)) c.in-Ok.ensures.others stand in
+    = texts_stay c.args.base.now (g.D.Documents.texts c.args.texts.now) (g.D.Documents.texts c.args.texts.now) (g.S.Store.files c.args.store.now)
+    (g.S.Store.files c.start.new.store) collection c.requires.apart (texts_none (g.D.Documents.texts c.args.texts.now)) c.in-Ok.ensures.others stand in
     let all : fed ≡ collection = given.told collection later in
     let told : IsSome (g.S.Store.files c.put_documents.new.store)
     = still_told (g.S.Store.files c.start.new.store) _ c.in-Ok-put_documents.ensures.others.told (still_told (g.S.Store.files c.args.store.now) _ c.in-Ok.ensures.others.told stand.first.told) in
@@ -94,7 +97,8 @@ returns-in-Ok-finish-clause-merge_a g c = λ some.
     let given : AreAllGiven (g.D.Documents.texts c.args.texts.now) (g.S.Store.files c.start.new.store) fed = c.in-Ok-put_documents.ensures.put.1 in
     let has : HasPut c.put_documents.new.writer (g.S.Store.files c.put_documents.new.store) fed = c.in-Ok-put_documents.ensures.put.2 in
     let later : TextsStand (g.D.Documents.texts c.args.texts.now) (g.S.Store.files c.start.new.store) some.0
-    = texts_stay c.args.base.now (g.D.Documents.texts c.args.texts.now) (g.D.Documents.texts c.args.texts.now) (g.S.Store.files c.args.store.now) (g.S.Store.files c.start.new.store) some.0 c.requires.apart (texts_none (g.D.Documents.texts c.args.texts.now)) c.in-Ok.ensures.others some.1 in
+    = texts_stay c.args.base.now (g.D.Documents.texts c.args.texts.now) (g.D.Documents.texts c.args.texts.now) (g.S.Store.files c.args.store.now)
+    (g.S.Store.files c.start.new.store) some.0 c.requires.apart (texts_none (g.D.Documents.texts c.args.texts.now)) c.in-Ok.ensures.others some.1 in
     let all : fed ≡ some.0 = given.told some.0 later in
     let told : IsSome (g.S.Store.files c.put_documents.new.store)
     = still_told (g.S.Store.files c.start.new.store) _ c.in-Ok-put_documents.ensures.others.told (still_told (g.S.Store.files c.args.store.now) _ c.in-Ok.ensures.others.told some.1.first.told) in
@@ -110,7 +114,8 @@ returns-in-Ok-finish-clause-merge_b g c = λ some.
     let given : AreAllGiven (g.D.Documents.texts c.args.texts.now) (g.S.Store.files c.start.new.store) fed = c.in-Ok-put_documents.ensures.put.1 in
     let has : HasPut c.put_documents.new.writer (g.S.Store.files c.put_documents.new.store) fed = c.in-Ok-put_documents.ensures.put.2 in
     let later : TextsStand (g.D.Documents.texts c.args.texts.now) (g.S.Store.files c.start.new.store) some.0
-    = texts_stay c.args.base.now (g.D.Documents.texts c.args.texts.now) (g.D.Documents.texts c.args.texts.now) (g.S.Store.files c.args.store.now) (g.S.Store.files c.start.new.store) some.0 c.requires.apart (texts_none (g.D.Documents.texts c.args.texts.now)) c.in-Ok.ensures.others some.1 in
+    = texts_stay c.args.base.now (g.D.Documents.texts c.args.texts.now) (g.D.Documents.texts c.args.texts.now) (g.S.Store.files c.args.store.now)
+    (g.S.Store.files c.start.new.store) some.0 c.requires.apart (texts_none (g.D.Documents.texts c.args.texts.now)) c.in-Ok.ensures.others some.1 in
     let all : fed ≡ some.0 = given.told some.0 later in
     let told : IsSome (g.S.Store.files c.put_documents.new.store)
     = still_told (g.S.Store.files c.start.new.store) _ c.in-Ok-put_documents.ensures.others.told (still_told (g.S.Store.files c.args.store.now) _ c.in-Ok.ensures.others.told some.1.first.told) in
@@ -126,7 +131,8 @@ returns-in-Ok-finish-clause-left g c = λ collection stand is.
     let given : AreAllGiven (g.D.Documents.texts c.args.texts.now) (g.S.Store.files c.start.new.store) fed = c.in-Ok-put_documents.ensures.put.1 in
     let has : HasPut c.put_documents.new.writer (g.S.Store.files c.put_documents.new.store) fed = c.in-Ok-put_documents.ensures.put.2 in
     let later : TextsStand (g.D.Documents.texts c.args.texts.now) (g.S.Store.files c.start.new.store) collection
-    = texts_stay c.args.base.now (g.D.Documents.texts c.args.texts.now) (g.D.Documents.texts c.args.texts.now) (g.S.Store.files c.args.store.now) (g.S.Store.files c.start.new.store) collection c.requires.apart (texts_none (g.D.Documents.texts c.args.texts.now)) c.in-Ok.ensures.others stand in
+    = texts_stay c.args.base.now (g.D.Documents.texts c.args.texts.now) (g.D.Documents.texts c.args.texts.now) (g.S.Store.files c.args.store.now)
+    (g.S.Store.files c.start.new.store) collection c.requires.apart (texts_none (g.D.Documents.texts c.args.texts.now)) c.in-Ok.ensures.others stand in
     let all : fed ≡ collection = given.told collection later in
     let told : IsSome (g.S.Store.files c.put_documents.new.store)
     = still_told (g.S.Store.files c.start.new.store) _ c.in-Ok-put_documents.ensures.others.told (still_told (g.S.Store.files c.args.store.now) _ c.in-Ok.ensures.others.told stand.first.told) in
@@ -140,8 +146,10 @@ returns-in-Ok-finish-clause-left g c = λ collection stand is.
 pub returns-in-Ok-finish-clause-others : goal.returns-in-Ok-finish-clause-others
 returns-in-Ok-finish-clause-others g c =
     others_more c.args.base.now _ _ _ c.in-Ok.ensures.others
-    (others_more c.args.base.now _ _ _ (subst (λ base. OthersSame base (g.S.Store.files c.start.new.store) (g.S.Store.files c.put_documents.new.store)) c.in-Ok.ensures.base c.in-Ok-put_documents.ensures.others)
-    (subst (λ base. OthersSame base (g.S.Store.files c.put_documents.new.store) (g.S.Store.files c.finish.new.store)) (c.in-Ok-put_documents.ensures.base ∙ c.in-Ok.ensures.base) c.in-Ok-finish.ensures.others))
+    (others_more c.args.base.now _ _ _ (subst (λ base. OthersSame base (g.S.Store.files c.start.new.store) (g.S.Store.files c.put_documents.new.store))
+    c.in-Ok.ensures.base c.in-Ok-put_documents.ensures.others)
+    (subst (λ base. OthersSame base (g.S.Store.files c.put_documents.new.store) (g.S.Store.files c.finish.new.store))
+    (c.in-Ok-put_documents.ensures.base ∙ c.in-Ok.ensures.base) c.in-Ok-finish.ensures.others))
 
 -- ---- the set was not finished
 
@@ -155,7 +163,8 @@ returns-in-Err-finish-clause-left g c = λ collection stand is.
     let given : AreAllGiven (g.D.Documents.texts c.args.texts.now) (g.S.Store.files c.start.new.store) fed = c.in-Ok-put_documents.ensures.put.1 in
     let has : HasPut c.put_documents.new.writer (g.S.Store.files c.put_documents.new.store) fed = c.in-Ok-put_documents.ensures.put.2 in
     let later : TextsStand (g.D.Documents.texts c.args.texts.now) (g.S.Store.files c.start.new.store) collection
-    = texts_stay c.args.base.now (g.D.Documents.texts c.args.texts.now) (g.D.Documents.texts c.args.texts.now) (g.S.Store.files c.args.store.now) (g.S.Store.files c.start.new.store) collection c.requires.apart (texts_none (g.D.Documents.texts c.args.texts.now)) c.in-Ok.ensures.others stand in
+    = texts_stay c.args.base.now (g.D.Documents.texts c.args.texts.now) (g.D.Documents.texts c.args.texts.now) (g.S.Store.files c.args.store.now)
+    (g.S.Store.files c.start.new.store) collection c.requires.apart (texts_none (g.D.Documents.texts c.args.texts.now)) c.in-Ok.ensures.others stand in
     let all : fed ≡ collection = given.told collection later in
     let told : IsSome (g.S.Store.files c.put_documents.new.store)
     = still_told (g.S.Store.files c.start.new.store) _ c.in-Ok-put_documents.ensures.others.told (still_told (g.S.Store.files c.args.store.now) _ c.in-Ok.ensures.others.told stand.first.told) in
@@ -169,8 +178,10 @@ returns-in-Err-finish-clause-left g c = λ collection stand is.
 pub returns-in-Err-finish-clause-others : goal.returns-in-Err-finish-clause-others
 returns-in-Err-finish-clause-others g c =
     others_more c.args.base.now _ _ _ c.in-Ok.ensures.others
-    (others_more c.args.base.now _ _ _ (subst (λ base. OthersSame base (g.S.Store.files c.start.new.store) (g.S.Store.files c.put_documents.new.store)) c.in-Ok.ensures.base c.in-Ok-put_documents.ensures.others)
-    (subst (λ base. OthersSame base (g.S.Store.files c.put_documents.new.store) (g.S.Store.files c.finish.new.store)) (c.in-Ok-put_documents.ensures.base ∙ c.in-Ok.ensures.base) c.in-Err-finish.ensures.others))
+    (others_more c.args.base.now _ _ _ (subst (λ base. OthersSame base (g.S.Store.files c.start.new.store) (g.S.Store.files c.put_documents.new.store))
+    c.in-Ok.ensures.base c.in-Ok-put_documents.ensures.others)
+    (subst (λ base. OthersSame base (g.S.Store.files c.put_documents.new.store) (g.S.Store.files c.finish.new.store))
+    (c.in-Ok-put_documents.ensures.base ∙ c.in-Ok.ensures.base) c.in-Err-finish.ensures.others))
 
 pub returns-in-Err-finish-clause-refused : goal.returns-in-Err-finish-clause-refused
 returns-in-Err-finish-clause-refused g c =
@@ -181,7 +192,8 @@ returns-in-Err-finish-clause-refused g c =
     let given : AreAllGiven (g.D.Documents.texts c.args.texts.now) (g.S.Store.files c.start.new.store) fed = c.in-Ok-put_documents.ensures.put.1 in
     let has : HasPut c.put_documents.new.writer (g.S.Store.files c.put_documents.new.store) fed = c.in-Ok-put_documents.ensures.put.2 in
     let later : TextsStand (g.D.Documents.texts c.args.texts.now) (g.S.Store.files c.start.new.store) some.0
-    = texts_stay c.args.base.now (g.D.Documents.texts c.args.texts.now) (g.D.Documents.texts c.args.texts.now) (g.S.Store.files c.args.store.now) (g.S.Store.files c.start.new.store) some.0 c.requires.apart (texts_none (g.D.Documents.texts c.args.texts.now)) c.in-Ok.ensures.others some.1 in
+    = texts_stay c.args.base.now (g.D.Documents.texts c.args.texts.now) (g.D.Documents.texts c.args.texts.now) (g.S.Store.files c.args.store.now)
+    (g.S.Store.files c.start.new.store) some.0 c.requires.apart (texts_none (g.D.Documents.texts c.args.texts.now)) c.in-Ok.ensures.others some.1 in
     let all : fed ≡ some.0 = given.told some.0 later in
     let told : IsSome (g.S.Store.files c.put_documents.new.store)
     = still_told (g.S.Store.files c.start.new.store) _ c.in-Ok-put_documents.ensures.others.told (still_told (g.S.Store.files c.args.store.now) _ c.in-Ok.ensures.others.told some.1.first.told) in

@@ -28,7 +28,12 @@ returns-then-count-eq0-clause-refused g c = λ told.
     let loop = g.S.Store.files c.loop-at.store in
     let apart : from ≢ to = bases_apart c.args.name.now c.args.new.now c.args.part c.requires.apart in
     let long : length (bytes_at loop from) ≡ length (bytes_at before from) = ap length (from_here from to before loop loop c.loop-at.at so_far.alone apart) in
-    omega (arith, c.if-count-eq0.true, c.in-Ok-copy_block.ensures.some (told_here from to before loop loop c.loop-at.at so_far.alone apart told) (omega (arith, long, so_far.size told, c.loop-at-test.true)))
+    omega (
+      arith,
+      c.if-count-eq0.true,
+      c.in-Ok-copy_block.ensures.some (told_here from to before loop loop c.loop-at.at so_far.alone apart told)
+          (omega (arith, long, so_far.size told, c.loop-at-test.true)),
+    )
 
 pub loop-at-preserved : goal.loop-at-preserved
 loop-at-preserved g c =

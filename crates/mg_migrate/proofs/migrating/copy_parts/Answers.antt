@@ -5,7 +5,8 @@ use Rattle.mg_migrate.proofs.migrating.copy_parts.Goals as goal
 
 pub returns-in-Err-clause-kept : goal.returns-in-Err-clause-kept
 returns-in-Err-clause-kept g c = λ p is.
-    part_stays c.args.new.now (copied_part c.loop-index.index) p (g.S.Store.files c.loop-index.store) (g.S.Store.files c.copy_part.new.store) (not_anew c.loop-index.index p c.loop-index-test.true is) c.in-Err.ensures.alone
+    part_stays c.args.new.now (copied_part c.loop-index.index) p (g.S.Store.files c.loop-index.store) (g.S.Store.files c.copy_part.new.store)
+    (not_anew c.loop-index.index p c.loop-index-test.true is) c.in-Err.ensures.alone
     ∙ c.loop-index.invariant.kept p is
 
 pub loop-index-preserved : goal.loop-index-preserved
@@ -16,7 +17,8 @@ loop-index-preserved g c =
     let now = g.S.Store.files c.copy_part.new.store in
     let index = c.loop-index.index in
     record {
-      copied = λ told. copied_one_more c.args.name.now c.args.new.now before loop now index c.loop-index-test.true c.names_apart.ensures.bases c.requires.apart so_far.others c.in-Ok.ensures.alone (c.in-Ok.ensures.copied (so_far.others.told ∙ told)) (so_far.copied told);
+      copied = λ told. copied_one_more c.args.name.now c.args.new.now before loop now index c.loop-index-test.true c.names_apart.ensures.bases c.requires.apart
+          so_far.others c.in-Ok.ensures.alone (c.in-Ok.ensures.copied (so_far.others.told ∙ told)) (so_far.copied told);
       others = others_of_part c.args.new.now (copied_part index) before loop now (own_part index c.loop-index-test.true) so_far.others c.in-Ok.ensures.alone;
       kept = λ p is. part_stays c.args.new.now (copied_part index) p loop now (not_anew index p c.loop-index-test.true is) c.in-Ok.ensures.alone ∙ so_far.kept p is;
       room = c.in-Ok.ensures.room ∙ so_far.room;

@@ -6,7 +6,8 @@ use Rattle.mg_migrate.proofs.migrating.copy_places.Goals as goal
 
 pub returns-then-head-eq1-clause-places : goal.returns-then-head-eq1-clause-places
 returns-then-head-eq1-clause-places g c = λ code collection stands.
-    c.widen_places.ensures.widened stands.told (places code collection) (narrow_places c.args.head.now code collection c.args.name.now (g.S.Store.files c.args.store.now) c.if-head-eq1.true c.requires.within stands)
+    c.widen_places.ensures.widened stands.told (places code collection)
+    (narrow_places c.args.head.now code collection c.args.name.now (g.S.Store.files c.args.store.now) c.if-head-eq1.true c.requires.within stands)
 
 pub returns-then-head-eq1-clause-refused : goal.returns-then-head-eq1-clause-refused
 returns-then-head-eq1-clause-refused g c = refused_more c.widen_places.result _ _ _

@@ -15,7 +15,13 @@ returns-in-Err-copy_places-clause-refused g c =
     let name = c.args.name.now in
     let new = c.args.new.now in
     stops_more c.in-Err-copy_places.refusal _ _ _ _ (λ rose. rose_behind _ _ _ c.in-Ok.ensures.later rose)
-    (λ is. (is.0, is.1, stands_too c.args.head.now is.0 name is.1 before emptied c.in-Ok.ensures.others.told (c.sets_stand.ensures.parts before emptied name (same_set name new before emptied c.names_apart.ensures.bases c.requires.apart c.in-Ok.ensures.others)) is.2))
+    (λ is. (
+      is.0,
+      is.1,
+      stands_too c.args.head.now is.0 name is.1 before emptied c.in-Ok.ensures.others.told
+          (c.sets_stand.ensures.parts before emptied name (same_set name new before emptied c.names_apart.ensures.bases c.requires.apart c.in-Ok.ensures.others))
+          is.2,
+    ))
     c.in-Err-copy_places.ensures.refused
 
 pub returns-clause-ready : goal.returns-clause-ready
@@ -27,17 +33,22 @@ returns-clause-ready g c = λ code collection stands.
     let name = c.args.name.now in
     let new = c.args.new.now in
     let bases = c.names_apart.ensures.bases in
-    let one = stands_too c.args.head.now code name collection before emptied c.in-Ok.ensures.others.told (c.sets_stand.ensures.parts before emptied name (same_set name new before emptied bases c.requires.apart c.in-Ok.ensures.others)) stands in
-    let placed_others : OthersSame new before placed = others_of_part new Places before emptied placed (λ same. omega (arith, ap number same)) c.in-Ok.ensures.others c.in-Ok-copy_places.ensures.alone in
-    let two = stands_too c.args.head.now code name collection before placed placed_others.told (c.sets_stand.ensures.parts before placed name (same_set name new before placed bases c.requires.apart placed_others)) stands in
+    let one = stands_too c.args.head.now code name collection before emptied c.in-Ok.ensures.others.told
+    (c.sets_stand.ensures.parts before emptied name (same_set name new before emptied bases c.requires.apart c.in-Ok.ensures.others)) stands in
+    let placed_others : OthersSame new before placed = others_of_part new Places before emptied placed (λ same. omega (arith, ap number same))
+    c.in-Ok.ensures.others c.in-Ok-copy_places.ensures.alone in
+    let two = stands_too c.args.head.now code name collection before placed placed_others.told
+    (c.sets_stand.ensures.parts before placed name (same_set name new before placed bases c.requires.apart placed_others)) stands in
     ok_more c.copy_parts.result _ _
-    (λ copied. parts_ready name new c.args.head.now code collection emptied placed now two (c.copy_parts.ensures.others.told ∙ two.told) (c.in-Ok.ensures.emptied stands.told) c.in-Ok-copy_places.ensures.alone
+    (λ copied. parts_ready name new c.args.head.now code collection emptied placed now two (c.copy_parts.ensures.others.told ∙ two.told)
+    (c.in-Ok.ensures.emptied stands.told) c.in-Ok-copy_places.ensures.alone
     (c.in-Ok-copy_places.ensures.places code collection one) copied c.copy_parts.ensures.kept)
     (c.copy_parts.ensures.copied two.told)
 
 pub returns-clause-others : goal.returns-clause-others
 returns-clause-others g c = others_more c.args.new.now _ _ _
-    (others_of_part c.args.new.now Places (g.S.Store.files c.args.store.now) (g.S.Store.files c.empty_parts.new.store) (g.S.Store.files c.copy_places.new.store) (λ same. omega (arith, ap number same)) c.in-Ok.ensures.others c.in-Ok-copy_places.ensures.alone)
+    (others_of_part c.args.new.now Places (g.S.Store.files c.args.store.now) (g.S.Store.files c.empty_parts.new.store) (g.S.Store.files c.copy_places.new.store)
+    (λ same. omega (arith, ap number same)) c.in-Ok.ensures.others c.in-Ok-copy_places.ensures.alone)
     c.copy_parts.ensures.others
 
 pub returns-clause-lacks : goal.returns-clause-lacks

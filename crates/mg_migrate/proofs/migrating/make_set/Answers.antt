@@ -30,4 +30,5 @@ pub returns-clause-refused : goal.returns-clause-refused
 returns-clause-refused g c =
     let whole = IsSetBy c.args.head.now (g.S.Store.files c.args.store.now) c.args.name.now in
     subst (λ f. ReadStops (Rose (g.S.Store.faults c.args.store.now) (g.S.Store.faults c.write.new.store)) whole f) (sym c.of_store.ensures)
-    (head_stops (g.S.Store.faults c.args.store.now) (g.S.Store.faults c.make_parts.new.store) (g.S.Store.faults c.write.new.store) c.in-Err-write.refusal whole c.in-Ok-make_parts.ensures.later c.in-Err-write.ensures.cause)
+    (head_stops (g.S.Store.faults c.args.store.now) (g.S.Store.faults c.make_parts.new.store) (g.S.Store.faults c.write.new.store) c.in-Err-write.refusal whole
+    c.in-Ok-make_parts.ensures.later c.in-Err-write.ensures.cause)

@@ -40,7 +40,8 @@ returns-in-Err-make_set-clause-made_anew g c =
     let apart : c.args.new.now ≢ c.args.name.now = search rules in
     set_made _ _ _ _ c.in-Ok.head loaded (Err failed) c.in-Ok.ensures.files c.in-Ok.ensures.sized
     apart c.in-Err-make_set.ensures.made
-    (λ h first end. never_first {T = ℕ} (Err failed) (Rose (g.S.Store.faults c.load_sized.new.store) (g.S.Store.faults c.make_set.new.store)) (IsSetBy c.in-Ok.head loaded c.args.name.now) h c.in-Err-make_set.ensures.refused first end)
+    (λ h first end. never_first {T = ℕ} (Err failed) (Rose (g.S.Store.faults c.load_sized.new.store) (g.S.Store.faults c.make_set.new.store))
+    (IsSetBy c.in-Ok.head loaded c.args.name.now) h c.in-Err-make_set.ensures.refused first end)
     (set_refused failed c.in-Ok.head _ _ _ before loaded c.args.name.now c.args.new.now c.in-Ok.ensures.later
     (λ collection stands.
     let by = loaded_set before c.args.name.now collection c.in-Ok.head stands (c.in-Ok.ensures.sized stands.told).has in

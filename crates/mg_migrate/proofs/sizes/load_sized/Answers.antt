@@ -37,7 +37,8 @@ returns-in-Err-expect_sizes-clause-cause g c =
     let loaded = g.S.Store.files c.load.new.store in
     let rose = Rose (g.S.Store.faults c.args.store.now) (g.S.Store.faults c.expect_sizes.new.store) in
     subst (λ f. DecodeStops rose ⊥ before c.args.base.now f) (sym c.from-in-Err-expect_sizes.ensures)
-    (size_refused c.in-Err-expect_sizes.refusal c.in-Some.head _ _ _ before loaded c.args.base.now c.in-Ok.ensures.cause.later c.in-Ok.ensures.files c.in-Err-expect_sizes.ensures.cause c.in-Err-expect_sizes.ensures.answer
+    (size_refused c.in-Err-expect_sizes.refusal c.in-Some.head _ _ _ before loaded c.args.base.now c.in-Ok.ensures.cause.later c.in-Ok.ensures.files
+    c.in-Err-expect_sizes.ensures.cause c.in-Err-expect_sizes.ensures.answer
     (λ collection stands. stands_loaded before loaded c.args.base.now collection c.in-Ok.loaded c.in-Some.head c.in-Some.is c.in-Ok.ensures.files c.in-Ok.ensures.answer stands))
 
 pub returns-in-Err-expect_sizes-clause-not_built : goal.returns-in-Err-expect_sizes-clause-not_built

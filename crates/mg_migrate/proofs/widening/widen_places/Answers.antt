@@ -18,7 +18,8 @@ pub returns-in-Err-clause-refused : goal.returns-in-Err-clause-refused
 returns-in-Err-clause-refused g c =
     let whole = IsSome (g.S.Store.files c.args.store.now) × (numbers : List ℕ) × AreNarrow numbers (bytes_at (g.S.Store.files c.args.store.now) (full_name c.args.name.now Places)) c.args.count in
     subst (λ f. ReadStops (Rose (g.S.Store.faults c.args.store.now) (g.S.Store.faults c.expect_size.new.store)) whole f) (sym c.from-in-Err.ensures)
-    (size_stops c.in-Err.refusal (g.S.Store.faults c.args.store.now) (g.S.Store.faults c.expect_size.new.store) c.from.result c.args.count (bytes_at (g.S.Store.files c.args.store.now) (full_name c.args.name.now Places)) (IsSome (g.S.Store.files c.args.store.now)) c.from.ensures
+    (size_stops c.in-Err.refusal (g.S.Store.faults c.args.store.now) (g.S.Store.faults c.expect_size.new.store) c.from.result c.args.count
+    (bytes_at (g.S.Store.files c.args.store.now) (full_name c.args.name.now Places)) (IsSome (g.S.Store.files c.args.store.now)) c.from.ensures
     c.in-Err.ensures.answer c.in-Err.ensures.cause.device)
 
 pub widen_one-requires-clause-apart : goal.widen_one-requires-clause-apart
@@ -34,7 +35,12 @@ returns-in-Err-widen_one-clause-refused g c =
     let apart : from ≢ to = bases_apart c.args.name.now c.args.new.now Places c.requires.apart in
     let same : bytes_at loop c.loop-index.places.name ≡ bytes_at before from = ap (bytes_at loop) so_far.file ∙ from_here from to before loop loop 0 so_far.alone apart in
     stops_more c.in-Err-widen_one.refusal _ _ _ _ (λ rose. rose_behind _ _ _ so_far.later rose)
-    (λ is. (told_here from to before loop loop 0 so_far.alone apart is.0, get_or is.1 c.loop-index.index 0, subst (λ bytes. HasFour bytes c.loop-index.index (get_or is.1 c.loop-index.index 0)) (sym same) (has_four is.1 (bytes_at before from) c.args.count c.loop-index.index is.2 c.loop-index-test.true)))
+    (λ is. (
+      told_here from to before loop loop 0 so_far.alone apart is.0,
+      get_or is.1 c.loop-index.index 0,
+      subst (λ bytes. HasFour bytes c.loop-index.index (get_or is.1 c.loop-index.index 0)) (sym same)
+          (has_four is.1 (bytes_at before from) c.args.count c.loop-index.index is.2 c.loop-index-test.true),
+    ))
     c.in-Err-widen_one.ensures.refused
 
 pub loop-index-preserved : goal.loop-index-preserved
@@ -55,7 +61,8 @@ loop-index-preserved g c =
       written = λ told numbers are.
           let inside : c.loop-index.index < length numbers = omega (arith, c.loop-index-test.true, are.count_is) in
           c.in-Ok-widen_one.ensures.written (told_here from to before loop loop 0 so_far.alone apart told) (get_or numbers c.loop-index.index 0)
-          (subst (λ bytes. HasFour bytes c.loop-index.index (get_or numbers c.loop-index.index 0)) (sym same) (has_four numbers (bytes_at before from) c.args.count c.loop-index.index are c.loop-index-test.true))
+          (subst (λ bytes. HasFour bytes c.loop-index.index (get_or numbers c.loop-index.index 0)) (sym same)
+          (has_four numbers (bytes_at before from) c.args.count c.loop-index.index are c.loop-index-test.true))
           ∙ ap (λ x. x ++ eight (get_or numbers c.loop-index.index 0)) (so_far.written told numbers are) ∙ one_more eight numbers c.loop-index.index inside;
       later = omega (arith, so_far.later, c.in-Ok-widen_one.ensures.later);
     }

@@ -3,7 +3,8 @@ use Rattle.mg_defs.specs.Numbers.{four, four_at}
 use Rattle.mg_defs.proofs.NumberLaws.{four_back}
 use Rattle.mg_model.proofs.block.long_entry.Goals as goal
 
-place_back : (first place : ℕ) (bytes rest : List ℕ) → bytes ≡ four place → place < 2 ^ 32 → four_at (first ∷ get_or bytes 0 0 ∷ get_or bytes 1 0 ∷ get_or bytes 2 0 ∷ get_or bytes 3 0 ∷ rest) 1 ≡ place
+place_back : (first place : ℕ) (bytes rest : List ℕ) → bytes ≡ four place → place < 2 ^ 32 →
+    four_at (first ∷ get_or bytes 0 0 ∷ get_or bytes 1 0 ∷ get_or bytes 2 0 ∷ get_or bytes 3 0 ∷ rest) 1 ≡ place
 unfolding four four_at
 place_back first place bytes rest e small = ap (λ (b : List ℕ). four_at (first ∷ get_or b 0 0 ∷ get_or b 1 0 ∷ get_or b 2 0 ∷ get_or b 3 0 ∷ rest) 1) e ∙ four_back place small []
 

@@ -5,7 +5,8 @@ use Rattle.mg_defs.specs.Terms.{folded, fold_byte}
 use Rattle.mg_parse.proofs.bytes.fold.Goals as goal
 
 -- the next byte written
-fold_step : (word out : List ℕ) (i b : ℕ) → i < length word → i < length out → b ≡ fold_byte (get_or word i 0) → set (folded (take i word) ++ drop i out) i b ≡ folded (take (i + 1) word) ++ drop (i + 1) out
+fold_step : (word out : List ℕ) (i b : ℕ) → i < length word → i < length out → b ≡ fold_byte (get_or word i 0) →
+    set (folded (take i word) ++ drop i out) i b ≡ folded (take (i + 1) word) ++ drop (i + 1) out
 fold_step word out i b h k is =
     let front = folded (take i word) in
     let long : length front ≡ i = length-map (take i word) fold_byte ∙ length-take-le i word (omega arith) in

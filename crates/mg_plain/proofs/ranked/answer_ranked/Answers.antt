@@ -21,5 +21,8 @@ pub returns-in-Ok-clause-content : goal.returns-in-Ok-clause-content
 returns-in-Ok-clause-content g c =
     let line = c.args.line.now in
     let bytes = c.args.bytes.now in
-    let once : hits_over bytes c.in-Ok.terms ≡ hits bytes c.in-Ok.terms = sym (hits_of_distinct bytes c.in-Ok.terms (terms-apart line c.in-Ok.terms (reads-list line c.in-Ok.terms c.in-Ok.ensures.reads))) in
-    subst (λ text. AfterPut (g.O.Sink.written c.args.out.now) (g.O.Sink.written c.answer_terms.new.out) text c.answer_terms.result) (ap (λ hs. answer_text bytes c.args.now.now (ranked_as hs)) once ∙ ap (ranked_reply bytes c.args.now.now) (sym c.in-Ok.ensures.reads)) c.answer_terms.ensures.content
+    let once : hits_over bytes c.in-Ok.terms ≡ hits bytes c.in-Ok.terms =
+    sym (hits_of_distinct bytes c.in-Ok.terms (terms-apart line c.in-Ok.terms (reads-list line c.in-Ok.terms c.in-Ok.ensures.reads))) in
+    subst (λ text. AfterPut (g.O.Sink.written c.args.out.now) (g.O.Sink.written c.answer_terms.new.out) text c.answer_terms.result)
+    (ap (λ hs. answer_text bytes c.args.now.now (ranked_as hs)) once ∙ ap (ranked_reply bytes c.args.now.now) (sym c.in-Ok.ensures.reads))
+    c.answer_terms.ensures.content

@@ -16,18 +16,26 @@ sort_rows-requires g c = subst AreRisingByNumber (sym c.in_ok-rows.ensures.hits)
 
 pub put_answer-requires-clause-few : goal.put_answer-requires-clause-few
 put_answer-requires-clause-few g c =
-    subst (λ (rows : List Row). length rows ≤ 2 ^ 28) (sym c.deref.ensures.value) (few_rows c.args.bytes.now c.args.terms.now c.in_ok-rows.rows.items c.sort_rows.new.rows.items c.in_ok-rows.ensures.hits c.sort_rows.ensures.same c.requires.small)
+    subst (λ (rows : List Row). length rows ≤ 2 ^ 28) (sym c.deref.ensures.value)
+    (few_rows c.args.bytes.now c.args.terms.now c.in_ok-rows.rows.items c.sort_rows.new.rows.items c.in_ok-rows.ensures.hits c.sort_rows.ensures.same
+    c.requires.small)
 
 pub put_answer-requires-clause-placed : goal.put_answer-requires-clause-placed
 put_answer-requires-clause-placed g c =
-    subst (All (IsPlaced c.args.bytes.now)) (sym c.deref.ensures.value) (All-permutation (IsPlaced c.args.bytes.now) c.in_ok-rows.rows.items c.sort_rows.new.rows.items c.sort_rows.ensures.same c.in_ok-rows.ensures.placed)
+    subst (All (IsPlaced c.args.bytes.now)) (sym c.deref.ensures.value)
+    (All-permutation (IsPlaced c.args.bytes.now) c.in_ok-rows.rows.items c.sort_rows.new.rows.items c.sort_rows.ensures.same c.in_ok-rows.ensures.placed)
 
 pub returns-in-Ok-clause-content : goal.returns-in-Ok-clause-content
 returns-in-Ok-clause-content g c =
-    let is : shown_rows c.deref.result.now ≡ ranked_as (hits_over c.args.bytes.now c.args.terms.now) = ranking-is c.args.bytes.now c.args.terms.now c.deref.result.now (ap hits_of c.deref.ensures.value ∙ c.sort_rows.ensures.sorted ∙ ap by_score c.in_ok-rows.ensures.hits) in
+    let is : shown_rows c.deref.result.now ≡ ranked_as (hits_over c.args.bytes.now c.args.terms.now) =
+    ranking-is c.args.bytes.now c.args.terms.now c.deref.result.now (ap hits_of c.deref.ensures.value ∙ c.sort_rows.ensures.sorted
+    ∙ ap by_score c.in_ok-rows.ensures.hits) in
     c.in-Ok.ensures.content ∙ ap (λ (answer : List Shown). appended (g.O.Sink.written c.args.out.now) (answer_text c.args.bytes.now c.args.now.now answer)) is
 
 pub returns-clause-content : goal.returns-clause-content
 returns-clause-content g c =
-    let is : shown_rows c.deref.result.now ≡ ranked_as (hits_over c.args.bytes.now c.args.terms.now) = ranking-is c.args.bytes.now c.args.terms.now c.deref.result.now (ap hits_of c.deref.ensures.value ∙ c.sort_rows.ensures.sorted ∙ ap by_score c.in_ok-rows.ensures.hits) in
-    subst (λ (answer : List Shown). GrewByPrefix (g.O.Sink.written c.args.out.now) (g.O.Sink.written c.put_answer.new.out) (answer_text c.args.bytes.now c.args.now.now answer)) is c.in-Err.ensures.content
+    let is : shown_rows c.deref.result.now ≡ ranked_as (hits_over c.args.bytes.now c.args.terms.now) =
+    ranking-is c.args.bytes.now c.args.terms.now c.deref.result.now (ap hits_of c.deref.ensures.value ∙ c.sort_rows.ensures.sorted
+    ∙ ap by_score c.in_ok-rows.ensures.hits) in
+    subst (λ (answer : List Shown). GrewByPrefix (g.O.Sink.written c.args.out.now) (g.O.Sink.written c.put_answer.new.out)
+    (answer_text c.args.bytes.now c.args.now.now answer)) is c.in-Err.ensures.content

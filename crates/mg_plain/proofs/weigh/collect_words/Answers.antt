@@ -6,7 +6,8 @@ pub loop-pair-init : goal.loop-pair-init
 loop-pair-init c = none_taken c.args.doc.now _ _ (c.into_iter-pair-iterator.ensures.into_iter_gives ∙ c.new-pair-items.ensures.pairs) c.clear.ensures.items
 
 pub loop-pair-preserved-in-Continue-1 : goal.loop-pair-preserved-in-Continue-1
-loop-pair-preserved-in-Continue-1 c = word_taken _ _ c.in-Some.pair.word _ _ _ _ _ c.in-Some.ensures.steps refl c.is_empty.ensures c.if-not-is_empty.true c.in_ok-push.ensures.items c.loop-pair.invariant
+loop-pair-preserved-in-Continue-1 c = word_taken _ _ c.in-Some.pair.word _ _ _ _ _ c.in-Some.ensures.steps refl c.is_empty.ensures c.if-not-is_empty.true
+    c.in_ok-push.ensures.items c.loop-pair.invariant
 
 pub loop-pair-preserved : goal.loop-pair-preserved
 loop-pair-preserved c = empty_passed _ _ _ _ _ _ c.in-Some.ensures.steps c.is_empty.ensures c.if-not-is_empty.false c.loop-pair.invariant

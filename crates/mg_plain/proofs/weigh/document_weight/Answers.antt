@@ -11,7 +11,15 @@ use Rattle.mg_plain.proofs.weigh.document_weight.Goals as goal
 pub sum_of_squares-requires : goal.sum_of_squares-requires
 sum_of_squares-requires c =
     let words = c.collect_words.new.words.items in
-    omega (arith, ap length c.deref.ensures.value, length_permutation _ _ c.sort_words.ensures.same, length-terms_of words, ap length c.in_ok-collect_words.ensures, terms_short c.args.doc.now, c.requires)
+    omega (
+      arith,
+      ap length c.deref.ensures.value,
+      length_permutation _ _ c.sort_words.ensures.same,
+      length-terms_of words,
+      ap length c.in_ok-collect_words.ensures,
+      terms_short c.args.doc.now,
+      c.requires,
+    )
 
 pub returns : goal.returns
 returns c =

@@ -8,4 +8,5 @@ use Rattle.mg_plain.proofs.WordLaws.{by_term, ascends}
 use Rattle.mg_plain.proofs.weigh.sort_words.Goals as goal
 
 pub returns-clause-sorted : goal.returns-clause-sorted
-returns-clause-sorted c = ascends _ (c.sort_unstable_by.ensures.sorted by_term (ranks_by nat_list_cmp_total (λ x. folded x.now)) (always_returns_same _ (λ a r. is_lt r ≡ by_term a.0.now a.1.0.now) _ (λ a r f' k. search rules)))
+returns-clause-sorted c = ascends _ (c.sort_unstable_by.ensures.sorted by_term (ranks_by nat_list_cmp_total (λ x. folded x.now))
+    (always_returns_same _ (λ a r. is_lt r ≡ by_term a.0.now a.1.0.now) _ (λ a r f' k. search rules)))

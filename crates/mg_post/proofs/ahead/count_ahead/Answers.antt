@@ -8,8 +8,10 @@ returns-then-ahead-eq0-clause-takes c = one_takes c.args.ahead.bits c.args.ahead
 pub returns-clause-takes : goal.returns-clause-takes
 returns-clause-takes c =
     rw c.power-2.ensures
-    ((gamma_takes c.args.ahead.bits c.args.ahead.count c.in-Some.lead.left.bits c.in-Some.lead.left.count c.in-Some.lead.value (c.in-Some.lead.left.count - c.in-Some.lead.value) c.power.result c.requires.few c.if-lead-more.false refl c.power.ensures c.in-Some.ensures.takes).0)
+    ((gamma_takes c.args.ahead.bits c.args.ahead.count c.in-Some.lead.left.bits c.in-Some.lead.left.count c.in-Some.lead.value
+    (c.in-Some.lead.left.count - c.in-Some.lead.value) c.power.result c.requires.few c.if-lead-more.false refl c.power.ensures c.in-Some.ensures.takes).0)
 
 pub returns-clause-small : goal.returns-clause-small
 returns-clause-small c =
-    (gamma_takes c.args.ahead.bits c.args.ahead.count c.in-Some.lead.left.bits c.in-Some.lead.left.count c.in-Some.lead.value (c.in-Some.lead.left.count - c.in-Some.lead.value) c.power.result c.requires.few c.if-lead-more.false refl c.power.ensures c.in-Some.ensures.takes).1
+    (gamma_takes c.args.ahead.bits c.args.ahead.count c.in-Some.lead.left.bits c.in-Some.lead.left.count c.in-Some.lead.value
+    (c.in-Some.lead.left.count - c.in-Some.lead.value) c.power.result c.requires.few c.if-lead-more.false refl c.power.ensures c.in-Some.ensures.takes).1

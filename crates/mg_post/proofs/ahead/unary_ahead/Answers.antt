@@ -16,7 +16,8 @@ pub returns-clause-takes : goal.returns-clause-takes
 returns-clause-takes c =
     let is : c.power.result - 1 - c.args.ahead.bits ≡ 2 ^ c.args.ahead.count - 1 - c.args.ahead.bits = omega (arith, c.power.ensures) in
     rw c.power-2.ensures
-    (unary_takes c.args.ahead.count c.args.ahead.bits (c.power.result - 1 - c.args.ahead.bits) c.ilog2-count.result c.from.result c.requires.below is c.ilog2-count.ensures.power_le c.ilog2-count.ensures.next_power_gt c.from.ensures)
+    (unary_takes c.args.ahead.count c.args.ahead.bits (c.power.result - 1 - c.args.ahead.bits) c.ilog2-count.result c.from.result c.requires.below is
+    c.ilog2-count.ensures.power_le c.ilog2-count.ensures.next_power_gt c.from.ensures)
 
 pub returns-clause-fewer : goal.returns-clause-fewer
 returns-clause-fewer c = below_count c.ilog2-count.result c.args.ahead.count c.args.ahead.bits _ (omega (arith, c.power.ensures)) c.ilog2-count.ensures.power_le

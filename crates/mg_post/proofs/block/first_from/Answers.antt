@@ -24,5 +24,6 @@ loop-i-preserved c =
 pub returns-clause-left : goal.returns-clause-left
 returns-clause-left c =
     let e : c.loop-i.i ≡ c.args.len = (let l : c.loop-i.i ≤ c.args.len = c.loop-i.auto.i-end c.requires.from in omega arith) in
-    let n : drop c.args.len (take c.args.len c.args.postings.now.items) ≡ [] = drop_all c.args.len (take c.args.len c.args.postings.now.items) (omega (arith, length-take-le c.args.len c.args.postings.now.items c.requires.len)) in
+    let n : drop c.args.len (take c.args.len c.args.postings.now.items) ≡ [] = drop_all c.args.len (take c.args.len c.args.postings.now.items)
+    (omega (arith, length-take-le c.args.len c.args.postings.now.items c.requires.len)) in
     n ∙ sym (forward_nothing c.args.doc) ∙ ap (forward_to c.args.doc) (sym (ap (λ i. drop i (take c.args.len c.args.postings.now.items)) e ∙ n)) ∙ c.loop-i.invariant

@@ -46,15 +46,18 @@ returns-then-last-found g c =
         told = λ ps blocks rises whole shows small found.
             let at : c.seek.new.self.place ≡ 8 * list.post_at + bits_before list.parameter (64 * f.block) ps = place ∙ ap (λ n. 8 * list.post_at + n) found.bits in
             let got : c.fill.new.self ≡ block_of f.block ps =
-            block_answer _ (8 * list.post_at) list.all list.parameter c.seek.new.self.place f.before _ list.docs f.block ps c.fill.new.self (Ok c.in-Ok.last) c.min.ensures whole found.from at rises (rw (← c.seek.ensures.feed) at shows) small e.told in
+            block_answer _ (8 * list.post_at) list.all list.parameter c.seek.new.self.place f.before _ list.docs f.block ps c.fill.new.self (Ok c.in-Ok.last)
+            c.min.ensures whole found.from at rises (rw (← c.seek.ensures.feed) at shows) small e.told in
             absurd (c.if-last-found.true (block_ends list.parameter blocks c.args.doc f.block f.before f.last f.at c.in-Ok.last ps c.fill.new.self found got e.last));
         most = λ ps blocks rises whole shows small found.
             let at : c.seek.new.self.place ≡ 8 * list.post_at + bits_before list.parameter (64 * f.block) ps = place ∙ ap (λ n. 8 * list.post_at + n) found.bits in
             let got : c.fill.new.self ≡ block_of f.block ps =
-            block_answer _ (8 * list.post_at) list.all list.parameter c.seek.new.self.place f.before _ list.docs f.block ps c.fill.new.self (Ok c.in-Ok.last) c.min.ensures whole found.from at rises (rw (← c.seek.ensures.feed) at shows) small e.told in
+            block_answer _ (8 * list.post_at) list.all list.parameter c.seek.new.self.place f.before _ list.docs f.block ps c.fill.new.self (Ok c.in-Ok.last)
+            c.min.ensures whole found.from at rises (rw (← c.seek.ensures.feed) at shows) small e.told in
             absurd (c.if-last-found.true (block_ends list.parameter blocks c.args.doc f.block f.before f.last f.at c.in-Ok.last ps c.fill.new.self found got e.last));
         block = λ ps after within stands.
-            let got : c.fill.new.self ≡ ps = block_filled _ list.all list.parameter (8 * list.post_at + f.at) c.min.result f.before f.last c.seek.new.self.place ps c.fill.new.self (Ok c.in-Ok.last) (rw (c.min.ensures, c.seek.ensures.feed) stands) place e.told in
+            let got : c.fill.new.self ≡ ps = block_filled _ list.all list.parameter (8 * list.post_at + f.at) c.min.result f.before f.last c.seek.new.self.place
+            ps c.fill.new.self (Ok c.in-Ok.last) (rw (c.min.ensures, c.seek.ensures.feed) stands) place e.told in
             absurd (c.if-last-found.true (e.last ∙ ap (last_doc f.before) got ∙ stands.last_is));
         lacks = λ after within. inr
             (inl record {
@@ -78,7 +81,8 @@ returns-in-Some-current g c =
     let f = c.args.found in
     let e = c.in-Ok.ensures in
     let place : c.seek.new.self.place ≡ 8 * list.post_at + f.at = c.seek.ensures.place ∙ c.in-Some.ensures in
-    let sound : HeldRises list.all f.last c.forward.new.self = block_held list.all f.before f.last c.in-Ok.last c.args.doc c.fill.new.self c.forward.new.self e.rises e.last (omega (arith, c.if-last-found.false)) c.forward.ensures in
+    let sound : HeldRises list.all f.last c.forward.new.self = block_held list.all f.before f.last c.in-Ok.last c.args.doc c.fill.new.self c.forward.new.self
+    e.rises e.last (omega (arith, c.if-last-found.false)) c.forward.ensures in
     let read = rw (← e.place) at e.read in
     let most = count_most _ _ _ _ c.seek.new.self.place c.fill.new.r.place (rw c.seek.ensures.feed c.requires.feed.page) read.pages in
     record {
@@ -90,14 +94,18 @@ returns-in-Some-current g c =
         told = λ ps blocks rises whole shows small found.
             let at : c.seek.new.self.place ≡ 8 * list.post_at + bits_before list.parameter (64 * f.block) ps = place ∙ ap (λ n. 8 * list.post_at + n) found.bits in
             let got : c.fill.new.self ≡ block_of f.block ps =
-            block_answer _ (8 * list.post_at) list.all list.parameter c.seek.new.self.place f.before _ list.docs f.block ps c.fill.new.self (Ok c.in-Ok.last) c.min.ensures whole found.from at rises (rw (← c.seek.ensures.feed) at shows) small e.told in
-            entered list.parameter (8 * list.post_at) c.seek.new.self.place c.fill.new.r.place f.block c.args.doc f.before _ ps c.fill.new.self c.forward.new.self c.in-Some-current.posting got c.forward.ensures (sym c.in-Some-current.ensures) found.from at e.place
+            block_answer _ (8 * list.post_at) list.all list.parameter c.seek.new.self.place f.before _ list.docs f.block ps c.fill.new.self (Ok c.in-Ok.last)
+            c.min.ensures whole found.from at rises (rw (← c.seek.ensures.feed) at shows) small e.told in
+            entered list.parameter (8 * list.post_at) c.seek.new.self.place c.fill.new.r.place f.block c.args.doc f.before _ ps c.fill.new.self
+            c.forward.new.self c.in-Some-current.posting got c.forward.ensures (sym c.in-Some-current.ensures) found.from at e.place
             (rw (c.place.ensures, ← c.seek.ensures.place) at c.pages_of-pages.ensures);
         most = λ ps blocks rises whole shows small found.
             let at : c.seek.new.self.place ≡ 8 * list.post_at + bits_before list.parameter (64 * f.block) ps = place ∙ ap (λ n. 8 * list.post_at + n) found.bits in
             let got : c.fill.new.self ≡ block_of f.block ps =
-            block_answer _ (8 * list.post_at) list.all list.parameter c.seek.new.self.place f.before _ list.docs f.block ps c.fill.new.self (Ok c.in-Ok.last) c.min.ensures whole found.from at rises (rw (← c.seek.ensures.feed) at shows) small e.told in
-            let told = entered list.parameter (8 * list.post_at) c.seek.new.self.place c.fill.new.r.place f.block c.args.doc f.before c.pages_of-pages.result ps c.fill.new.self c.forward.new.self c.in-Some-current.posting got c.forward.ensures (sym c.in-Some-current.ensures) found.from at e.place
+            block_answer _ (8 * list.post_at) list.all list.parameter c.seek.new.self.place f.before _ list.docs f.block ps c.fill.new.self (Ok c.in-Ok.last)
+            c.min.ensures whole found.from at rises (rw (← c.seek.ensures.feed) at shows) small e.told in
+            let told = entered list.parameter (8 * list.post_at) c.seek.new.self.place c.fill.new.r.place f.block c.args.doc f.before c.pages_of-pages.result ps
+            c.fill.new.self c.forward.new.self c.in-Some-current.posting got c.forward.ensures (sym c.in-Some-current.ensures) found.from at e.place
             (rw (c.place.ensures, ← c.seek.ensures.place) at c.pages_of-pages.ensures) in
             rw (← told.pages, c.pages_of-pages.ensures, c.place.ensures, ← c.seek.ensures.place, ← c.seek.ensures.feed) most;
         block = λ ps after within stands. tt;
@@ -125,17 +133,20 @@ returns-in-None g c =
         told = λ ps blocks rises whole shows small found.
             let at : c.seek.new.self.place ≡ 8 * list.post_at + bits_before list.parameter (64 * f.block) ps = place ∙ ap (λ n. 8 * list.post_at + n) found.bits in
             let got : c.fill.new.self ≡ block_of f.block ps =
-            block_answer _ (8 * list.post_at) list.all list.parameter c.seek.new.self.place f.before _ list.docs f.block ps c.fill.new.self (Ok c.in-Ok.last) c.min.ensures whole found.from at rises (rw (← c.seek.ensures.feed) at shows) small e.told in
+            block_answer _ (8 * list.post_at) list.all list.parameter c.seek.new.self.place f.before _ list.docs f.block ps c.fill.new.self (Ok c.in-Ok.last)
+            c.min.ensures whole found.from at rises (rw (← c.seek.ensures.feed) at shows) small e.told in
             let same : length c.forward.new.self ≡ length (forward_to c.args.doc (block_of f.block ps)) = ap length (c.forward.ensures ∙ ap (forward_to c.args.doc) got) in
             absurd (omega (arith, none, same, found_some list.all list.parameter blocks c.args.doc f.block f.before f.last f.at ps rises found));
         most = λ ps blocks rises whole shows small found.
             let at : c.seek.new.self.place ≡ 8 * list.post_at + bits_before list.parameter (64 * f.block) ps = place ∙ ap (λ n. 8 * list.post_at + n) found.bits in
             let got : c.fill.new.self ≡ block_of f.block ps =
-            block_answer _ (8 * list.post_at) list.all list.parameter c.seek.new.self.place f.before _ list.docs f.block ps c.fill.new.self (Ok c.in-Ok.last) c.min.ensures whole found.from at rises (rw (← c.seek.ensures.feed) at shows) small e.told in
+            block_answer _ (8 * list.post_at) list.all list.parameter c.seek.new.self.place f.before _ list.docs f.block ps c.fill.new.self (Ok c.in-Ok.last)
+            c.min.ensures whole found.from at rises (rw (← c.seek.ensures.feed) at shows) small e.told in
             let same : length c.forward.new.self ≡ length (forward_to c.args.doc (block_of f.block ps)) = ap length (c.forward.ensures ∙ ap (forward_to c.args.doc) got) in
             absurd (omega (arith, none, same, found_some list.all list.parameter blocks c.args.doc f.block f.before f.last f.at ps rises found));
         block = λ ps after within stands.
-            let got : c.fill.new.self ≡ ps = block_filled _ list.all list.parameter (8 * list.post_at + f.at) c.min.result f.before f.last c.seek.new.self.place ps c.fill.new.self (Ok c.in-Ok.last) (rw (c.min.ensures, c.seek.ensures.feed) stands) place e.told in
+            let got : c.fill.new.self ≡ ps = block_filled _ list.all list.parameter (8 * list.post_at + f.at) c.min.result f.before f.last c.seek.new.self.place
+            ps c.fill.new.self (Ok c.in-Ok.last) (rw (c.min.ensures, c.seek.ensures.feed) stands) place e.told in
             let same : length c.forward.new.self ≡ length (forward_to c.args.doc ps) = ap length (c.forward.ensures ∙ ap (forward_to c.args.doc) got) in
             absurd (omega (arith, none, same, filled_some _ list.all list.parameter _ _ f.before f.last c.args.doc ps after within stands));
         lacks = λ after within.
@@ -164,13 +175,16 @@ returns-in-Err g c =
         told = λ ps blocks rises whole shows small found.
             let at : c.seek.new.self.place ≡ 8 * list.post_at + bits_before list.parameter (64 * f.block) ps = place ∙ ap (λ n. 8 * list.post_at + n) found.bits in
             any_refused c.in-Err.refusal _ _
-            (block_answer _ (8 * list.post_at) list.all list.parameter c.seek.new.self.place f.before _ list.docs f.block ps c.fill.new.self (Err c.in-Err.refusal) c.min.ensures whole found.from at rises (rw (← c.seek.ensures.feed) at shows) small e.told);
+            (block_answer _ (8 * list.post_at) list.all list.parameter c.seek.new.self.place f.before _ list.docs f.block ps c.fill.new.self
+            (Err c.in-Err.refusal) c.min.ensures whole found.from at rises (rw (← c.seek.ensures.feed) at shows) small e.told);
         most = λ ps blocks rises whole shows small found.
             let at : c.seek.new.self.place ≡ 8 * list.post_at + bits_before list.parameter (64 * f.block) ps = place ∙ ap (λ n. 8 * list.post_at + n) found.bits in
-            let most = refused_pages _ _ _ _ _ (8 * list.post_at) list.all list.parameter c.seek.new.self.place f.before _ list.docs f.block ps (rw c.seek.ensures.feed c.requires.feed.page) c.min.ensures whole found.from at rises (rw (← c.seek.ensures.feed) at shows) small e.pages in
+            let most = refused_pages _ _ _ _ _ (8 * list.post_at) list.all list.parameter c.seek.new.self.place f.before _ list.docs f.block ps
+            (rw c.seek.ensures.feed c.requires.feed.page) c.min.ensures whole found.from at rises (rw (← c.seek.ensures.feed) at shows) small e.pages in
             rw (← c.seek.ensures.feed) most;
         block = λ ps after within stands.
-            any_refused c.in-Err.refusal _ _ (block_filled _ list.all list.parameter (8 * list.post_at + f.at) c.min.result f.before f.last c.seek.new.self.place ps c.fill.new.self (Err c.in-Err.refusal) (rw (c.min.ensures, c.seek.ensures.feed) stands) place e.told);
+            any_refused c.in-Err.refusal _ _ (block_filled _ list.all list.parameter (8 * list.post_at + f.at) c.min.result f.before f.last
+            c.seek.new.self.place ps c.fill.new.self (Err c.in-Err.refusal) (rw (c.min.ensures, c.seek.ensures.feed) stands) place e.told);
         lacks = damaged_weaker c.in-Err.refusal _ _ (λ bad lacks after within. inl lacks) (rw (c.seek.ensures.feed, place, c.min.ensures) at e.lacks);
       };
       fits = e.fits;

@@ -35,7 +35,8 @@ returns-in-Err g c =
     record {
       does = record {
         reads = tt;
-        most = within_entries s.skip_at c.page_end-high.result s.blocks _ c.page_end-high.ensures.there (reads_to s.skip_at c.loop-low.low c.page_end-high.result _ _ _ i.reads c.page_end-high.ensures.from e.does.page.count);
+        most = within_entries s.skip_at c.page_end-high.result s.blocks _ c.page_end-high.ensures.there
+            (reads_to s.skip_at c.loop-low.low c.page_end-high.result _ _ _ i.reads c.page_end-high.ensures.from e.does.page.count);
         found = tt;
         tells = tt;
         lacks = damaged_weaker c.in-Err.refusal (LacksLast ((g.F.Feed.feeding c.args.r.now.feed).source (g.F.Feed.device c.args.dev.now).files) s.skip_at s.all c.page_end-high.result) _
@@ -58,8 +59,10 @@ returns-in-Ok-search_page g c =
     let calm = calm_more _ _ _ _ _ _ i.calm c.in-Ok.ensures.calm in
     let now = reads_now s.skip_at c.loop-low.low high _ _ _ _ i.reads c.page_end-high.ensures.from c.in-Ok.ensures.does.page.count c.in-Ok.ensures.does.page.held in
     let page = page_between s.skip_at c.loop-low.low c.in-Ok-search_page.found.block high (sym c.page_end-high.ensures.page) e.does.found.from (omega (arith, e.does.found.there)) in
-    let end : TellsLast ((g.F.Feed.feeding c.args.r.now.feed).source (g.F.Feed.device c.args.dev.now).files) s.skip_at high c.in-Ok.last = rw (same_told _ _ _ _ i.calm) at c.in-Ok.ensures.does.tells in
-    let found : TellsBlock ((g.F.Feed.feeding c.args.r.now.feed).source (g.F.Feed.device c.args.dev.now).files) s.skip_at c.loop-low.low c.loop-low.before c.in-Ok-search_page.found.block c.in-Ok-search_page.found.before c.in-Ok-search_page.found.last c.in-Ok-search_page.found.at =
+    let end : TellsLast ((g.F.Feed.feeding c.args.r.now.feed).source (g.F.Feed.device c.args.dev.now).files) s.skip_at high c.in-Ok.last =
+    rw (same_told _ _ _ _ i.calm) at c.in-Ok.ensures.does.tells in
+    let found : TellsBlock ((g.F.Feed.feeding c.args.r.now.feed).source (g.F.Feed.device c.args.dev.now).files) s.skip_at c.loop-low.low c.loop-low.before
+    c.in-Ok-search_page.found.block c.in-Ok-search_page.found.before c.in-Ok-search_page.found.last c.in-Ok-search_page.found.at =
     (rw (same_told _ _ _ _ calm) at e.does.tells) end in
     record {
       does = record {
@@ -106,7 +109,8 @@ returns-in-Err-search_page g c =
         );
         found = tt;
         tells = tt;
-        lacks = damaged_weaker c.in-Err-search_page.refusal (LacksAnEntry ((g.F.Feed.feeding c.args.r.now.feed).source (g.F.Feed.device c.args.dev.now).files) s.skip_at s.all c.loop-low.low (high + 1)) _
+        lacks = damaged_weaker c.in-Err-search_page.refusal
+            (LacksAnEntry ((g.F.Feed.feeding c.args.r.now.feed).source (g.F.Feed.device c.args.dev.now).files) s.skip_at s.all c.loop-low.low (high + 1)) _
             (λ at. lacks_wider _ s.skip_at s.all c.loop-low.low (high + 1) s.reached s.blocks at i.from (omega (arith, c.page_end-high.ensures.there)))
             (rw (same_told _ _ _ _ calm) at e.does.lacks);
         told = λ ps b stands last.

@@ -12,9 +12,11 @@ pub loop-from-preserved : goal.loop-from-preserved
 loop-from-preserved g c =
     let inside = c.loop-from.invariant.before_to c.loop-from-test.true in
     let page : entry_page (c.args.search.now.skip_at + c.loop-from.middle) ≡ entry_page (c.args.search.now.skip_at + c.args.page.high) =
-    page_between c.args.search.now.skip_at c.args.page.low c.loop-from.middle c.args.page.high c.requires.one_page (omega (arith, c.loop-from.invariant.low, c.loop-from.invariant.middle)) (omega (arith, inside, c.loop-from.invariant.high)) in
+    page_between c.args.search.now.skip_at c.args.page.low c.loop-from.middle c.args.page.high c.requires.one_page
+    (omega (arith, c.loop-from.invariant.low, c.loop-from.invariant.middle)) (omega (arith, inside, c.loop-from.invariant.high)) in
     let step = count_same _ _ _ _ _ c.loop-from.invariant.held page c.in-Ok.ensures.does.page.count in
-    let here : TellsLast ((g.F.Feed.feeding c.args.r.now.feed).source (g.F.Feed.device c.args.dev.now).files) c.args.search.now.skip_at c.loop-from.middle c.in-Ok.here = rw (same_told _ _ _ _ c.loop-from.invariant.calm) at c.in-Ok.ensures.does.tells in
+    let here : TellsLast ((g.F.Feed.feeding c.args.r.now.feed).source (g.F.Feed.device c.args.dev.now).files) c.args.search.now.skip_at c.loop-from.middle
+    c.in-Ok.here = rw (same_told _ _ _ _ c.loop-from.invariant.calm) at c.in-Ok.ensures.does.tells in
     elim c.if-search-here.branch [
       | then-search-here w ↦ record {
         fits = c.in-Ok.ensures.fits;
@@ -35,7 +37,8 @@ loop-from-preserved g c =
         told = λ ps b blocks stands lt before last.
             let old = c.loop-from.invariant.told ps b blocks stands lt before last in
             let got : c.in-Ok.here ≡ doc_before (64 * (c.loop-from.middle + 1)) ps =
-            last_answer c.args.search.now.all b _ _ c.args.search.now.skip_at blocks c.loop-from.middle ps (Ok c.in-Ok.here) (same_told _ _ _ _ c.loop-from.invariant.calm) stands (omega (arith, inside, c.loop-from.invariant.high, lt)) c.in-Ok.ensures.does.told in
+            last_answer c.args.search.now.all b _ _ c.args.search.now.skip_at blocks c.loop-from.middle ps (Ok c.in-Ok.here)
+            (same_told _ _ _ _ c.loop-from.invariant.calm) stands (omega (arith, inside, c.loop-from.invariant.high, lt)) c.in-Ok.ensures.does.told in
             (rw (w.passed-is, w.from-is) old.0, rw (w.end-is, w.to-is) got);
       }
       | else-search-here w ↦ record {
@@ -52,12 +55,14 @@ loop-from-preserved g c =
         below = omega (arith, w.passed-is, w.if-search-here.false);
         within = omega (arith, w.end-is, c.loop-from.invariant.within);
         most = omega (arith, w.end-is, c.loop-from.invariant.most);
-        passed_is = rw (w.from-is, w.passed-is) (tells_next _ c.args.search.now.skip_at c.args.page.low c.args.page.before c.loop-from.middle c.in-Ok.here (omega (arith, c.loop-from.invariant.low, c.loop-from.invariant.middle)) here);
+        passed_is = rw (w.from-is, w.passed-is) (tells_next _ c.args.search.now.skip_at c.args.page.low c.args.page.before c.loop-from.middle c.in-Ok.here
+            (omega (arith, c.loop-from.invariant.low, c.loop-from.invariant.middle)) here);
         end_is = λ last. rw (w.to-is, w.end-is) (c.loop-from.invariant.end_is last);
         told = λ ps b blocks stands lt before last.
             let old = c.loop-from.invariant.told ps b blocks stands lt before last in
             let got : c.in-Ok.here ≡ doc_before (64 * (c.loop-from.middle + 1)) ps =
-            last_answer c.args.search.now.all b _ _ c.args.search.now.skip_at blocks c.loop-from.middle ps (Ok c.in-Ok.here) (same_told _ _ _ _ c.loop-from.invariant.calm) stands (omega (arith, inside, c.loop-from.invariant.high, lt)) c.in-Ok.ensures.does.told in
+            last_answer c.args.search.now.all b _ _ c.args.search.now.skip_at blocks c.loop-from.middle ps (Ok c.in-Ok.here)
+            (same_told _ _ _ _ c.loop-from.invariant.calm) stands (omega (arith, inside, c.loop-from.invariant.high, lt)) c.in-Ok.ensures.does.told in
             (rw (w.passed-is, w.from-is) got, rw (w.end-is, w.to-is) old.1);
       }
     ]
@@ -104,7 +109,8 @@ returns-in-Ok-bits_of g c =
         held = e.does.page.held ∙ ap Some page;
         found = record { from = low; there = omega (arith, i.high); known = i.known; below = i.below; within = i.within; most = i.most };
         tells = λ last. record {
-          before_is = subst (λ k. TellsBefore ((g.F.Feed.feeding c.args.r.now.feed).source (g.F.Feed.device c.args.dev.now).files) s.skip_at c.args.page.low c.args.page.before k c.loop-from.passed) same i.passed_is;
+          before_is = subst (λ k. TellsBefore ((g.F.Feed.feeding c.args.r.now.feed).source (g.F.Feed.device c.args.dev.now).files) s.skip_at c.args.page.low
+              c.args.page.before k c.loop-from.passed) same i.passed_is;
           last_is = i.end_is last;
           at_is = rw (same_told _ _ _ _ i.calm) at e.does.tells;
         };

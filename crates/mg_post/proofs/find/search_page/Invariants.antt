@@ -25,7 +25,8 @@ invariant-loop-from g l = record {
   end_is : TellsLast ((g.F.Feed.feeding l.fn.r.feed).source (g.F.Feed.device l.fn.dev).files) l.search.skip_at l.fn.page.high l.fn.page.last →
       TellsLast ((g.F.Feed.feeding l.fn.r.feed).source (g.F.Feed.device l.fn.dev).files) l.search.skip_at l.to l.end;
   told : (ps : List Posting) (b blocks : ℕ) → SkipStands l.search.all b ((g.F.Feed.feeding l.fn.r.feed).source (g.F.Feed.device l.fn.dev).files) l.search.skip_at blocks ps → l.fn.page.high < blocks →
-      l.fn.page.before ≡ doc_before (64 * l.fn.page.low) ps → l.fn.page.last ≡ doc_before (64 * (l.fn.page.high + 1)) ps → (l.passed ≡ doc_before (64 * l.from) ps) × (l.end ≡ doc_before (64 * (l.to + 1)) ps);
+      l.fn.page.before ≡ doc_before (64 * l.fn.page.low) ps → l.fn.page.last ≡ doc_before (64 * (l.fn.page.high + 1)) ps →
+      (l.passed ≡ doc_before (64 * l.from) ps) × (l.end ≡ doc_before (64 * (l.to + 1)) ps);
 }
 
 abbrev pub decreases-loop-from : goal.decreases-loop-from

@@ -8,12 +8,15 @@ returns-in-Some-clause-ahead g c =
     let at : c.seek.new.self.place ≡ c.args.r.now.place + length (posting_bits c.args.parameter c.args.before c.in-Some.passed.posting) =
     omega (arith, c.seek.ensures.place, c.from.ensures, c.place.ensures, c.in-Some.ensures.takes.fewer, c.in-Some.ensures.fewer) in
     rw c.seek.ensures.feed
-    (next_ahead (g.F.Feed.feeding c.args.r.now.feed) (g.F.Feed.fits c.args.r.now.feed) c.args.r.now.place c.seek.new.self.place _ _ _ _ _ (g.met.F.Feed.whole_pages c.args.r.now.feed).some at c.in-Some.ensures.takes c.look-seen.ensures)
+    (next_ahead (g.F.Feed.feeding c.args.r.now.feed) (g.F.Feed.fits c.args.r.now.feed) c.args.r.now.place c.seek.new.self.place _ _ _ _ _
+    (g.met.F.Feed.whole_pages c.args.r.now.feed).some at c.in-Some.ensures.takes c.look-seen.ensures)
 
 -- the posting is among the bits that were looked at
 pub returns-in-Some-clause-posting : goal.returns-in-Some-clause-posting
 returns-in-Some-clause-posting g c =
-    let read = code_held (g.F.Feed.feeding c.args.r.now.feed) (g.F.Feed.fits c.args.r.now.feed) c.args.r.now.place _ _ _ _ _ (g.met.F.Feed.whole_pages c.args.r.now.feed).some c.in-Some.ensures.takes c.in-Some.ensures.fewer c.look-seen.ensures (g.F.Feed.device c.args.dev.now) in
+    let read = code_held (g.F.Feed.feeding c.args.r.now.feed) (g.F.Feed.fits c.args.r.now.feed) c.args.r.now.place _ _ _ _ _
+    (g.met.F.Feed.whole_pages c.args.r.now.feed).some c.in-Some.ensures.takes c.in-Some.ensures.fewer c.look-seen.ensures
+    (g.F.Feed.device c.args.dev.now) in
     record {
       fits = rw c.seek.ensures.feed c.requires.fits;
       calm = rw c.seek.ensures.feed read.calm;
@@ -24,7 +27,8 @@ returns-in-Some-clause-posting g c =
       follows = c.in-Some.ensures.follows;
       at = tt;
       told = λ p follows small shows.
-          one_posting _ c.args.r.now.place c.args.parameter c.args.before c.args.all _ _ _ _ c.in-Some.passed.posting p c.requires.code.some c.requires.code.small c.in-Some.ensures.takes (c.look-seen.ensures.told _ c.requires.fits) c.in-Some.ensures.follows follows shows;
+          one_posting _ c.args.r.now.place c.args.parameter c.args.before c.args.all _ _ _ _ c.in-Some.passed.posting p c.requires.code.some
+          c.requires.code.small c.in-Some.ensures.takes (c.look-seen.ensures.told _ c.requires.fits) c.in-Some.ensures.follows follows shows;
       cause = tt;
     }
 

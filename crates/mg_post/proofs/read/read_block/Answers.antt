@@ -26,29 +26,38 @@ pub returns-in-Err-clause-told : goal.returns-in-Err-clause-told
 returns-in-Err-clause-told g c = λ ps rises le small shows.
     let at : c.loop-i.r.place ≡ c.args.r.now.place + length (bits_after c.args.parameter c.args.before (take c.loop-i.i c.loop-i.out.items)) = omega (arith, c.loop-i.invariant.place) in
     let same : take c.loop-i.i c.loop-i.out.items ≡ take c.loop-i.i ps = c.loop-i.invariant.told ps rises le (rw c.place-start.ensures small) (rw c.place-start.ensures shows) in
-    let next = next_here _ c.args.r.now.place c.loop-i.r.place c.args.all c.args.parameter c.args.before c.loop-i.last c.loop-i.i c.loop-i.out.items ps (omega arith) same c.loop-i.invariant.last at rises small shows in
-    any_refused c.in-Err.refusal _ _ (next_answer _ _ c.loop-i.r.place c.args.all c.args.parameter c.loop-i.last c.loop-i.i ps (Err c.in-Err.refusal) (same_told _ _ _ _ c.loop-i.invariant.read.calm) next c.in-Err.ensures.posting.told)
+    let next = next_here _ c.args.r.now.place c.loop-i.r.place c.args.all c.args.parameter c.args.before c.loop-i.last c.loop-i.i c.loop-i.out.items ps
+    (omega arith) same c.loop-i.invariant.last at rises small shows in
+    any_refused c.in-Err.refusal _ _ (next_answer _ _ c.loop-i.r.place c.args.all c.args.parameter c.loop-i.last c.loop-i.i ps (Err c.in-Err.refusal)
+    (same_told _ _ _ _ c.loop-i.invariant.read.calm) next c.in-Err.ensures.posting.told)
 
 pub returns-in-Err-clause-pages : goal.returns-in-Err-clause-pages
 returns-in-Err-clause-pages g c = λ ps rises le small shows.
     let at : c.loop-i.r.place ≡ c.args.r.now.place + length (bits_after c.args.parameter c.args.before (take c.loop-i.i c.loop-i.out.items)) = omega (arith, c.loop-i.invariant.place) in
     let same : take c.loop-i.i c.loop-i.out.items ≡ take c.loop-i.i ps = c.loop-i.invariant.told ps rises le (rw c.place-start.ensures small) (rw c.place-start.ensures shows) in
-    let next = next_here _ c.args.r.now.place c.loop-i.r.place c.args.all c.args.parameter c.args.before c.loop-i.last c.loop-i.i c.loop-i.out.items ps (omega arith) same c.loop-i.invariant.last at rises small shows in
+    let next = next_here _ c.args.r.now.place c.loop-i.r.place c.args.all c.args.parameter c.args.before c.loop-i.last c.loop-i.i c.loop-i.out.items ps
+    (omega arith) same c.loop-i.invariant.last at rises small shows in
     rw c.seek.ensures.feed
-    (block_pages_more _ _ _ _ _ _ _ _ c.args.r.now.place c.loop-i.r.place c.args.all c.args.parameter c.args.before c.loop-i.last c.loop-i.i c.args.count ps c.loop-i.out.items (g.met.F.Feed.whole_pages c.args.r.now.feed).some (same_told _ _ _ _ c.loop-i.invariant.read.calm) next same c.loop-i.invariant.last c.loop-i-test.true at
+    (block_pages_more _ _ _ _ _ _ _ _ c.args.r.now.place c.loop-i.r.place c.args.all c.args.parameter c.args.before c.loop-i.last c.loop-i.i c.args.count ps
+    c.loop-i.out.items (g.met.F.Feed.whole_pages c.args.r.now.feed).some (same_told _ _ _ _ c.loop-i.invariant.read.calm) next same c.loop-i.invariant.last
+    c.loop-i-test.true at
     (rw c.place-start.ensures at c.loop-i.invariant.read) c.in-Err.ensures.posting.pages)
 
 pub returns-in-Err-clause-lacks : goal.returns-in-Err-clause-lacks
 returns-in-Err-clause-lacks g c =
     let at : c.loop-i.r.place ≡ c.args.r.now.place + length (bits_after c.args.parameter c.args.before (take c.loop-i.i c.loop-i.out.items)) = omega (arith, c.loop-i.invariant.place) in
-    lacks_next _ _ c.in-Err.refusal c.args.all c.args.parameter c.args.before c.args.r.now.place c.loop-i.last c.loop-i.r.place c.loop-i.i c.args.count c.loop-i.out.items (same_told _ _ _ _ c.loop-i.invariant.read.calm) c.loop-i-test.true c.loop-i.invariant.last at
+    lacks_next _ _ c.in-Err.refusal c.args.all c.args.parameter c.args.before c.args.r.now.place c.loop-i.last c.loop-i.r.place c.loop-i.i c.args.count
+    c.loop-i.out.items (same_told _ _ _ _ c.loop-i.invariant.read.calm) c.loop-i-test.true c.loop-i.invariant.last at
     c.loop-i.invariant.rises (rw c.place-start.ensures at c.loop-i.invariant.shows) c.in-Err.ensures.posting.told c.in-Err.ensures.posting.at
 
 pub loop-i-preserved : goal.loop-i-preserved
 loop-i-preserved g c =
     let room : c.loop-i.i < length c.loop-i.out.items = omega arith in
-    let t : take (c.loop-i.i + 1) (slice_set c.loop-i.out.items c.loop-i.i c.in-Ok.posting) ≡ take c.loop-i.i c.loop-i.out.items ++ c.in-Ok.posting ∷ [] = take_more_set c.loop-i.out.items c.loop-i.i c.in-Ok.posting room in
-    let b : length (bits_after c.args.parameter c.args.before (take c.loop-i.i c.loop-i.out.items ++ c.in-Ok.posting ∷ [])) ≡ length (bits_after c.args.parameter c.args.before (take c.loop-i.i c.loop-i.out.items)) + length (posting_bits c.args.parameter c.loop-i.last c.in-Ok.posting) =
+    let t : take (c.loop-i.i + 1) (slice_set c.loop-i.out.items c.loop-i.i c.in-Ok.posting) ≡ take c.loop-i.i c.loop-i.out.items ++ c.in-Ok.posting ∷
+    [] = take_more_set c.loop-i.out.items c.loop-i.i c.in-Ok.posting room in
+    let b : length (bits_after c.args.parameter c.args.before (take c.loop-i.i c.loop-i.out.items ++ c.in-Ok.posting ∷ []))
+    ≡ length (bits_after c.args.parameter c.args.before (take c.loop-i.i c.loop-i.out.items))
+    + length (posting_bits c.args.parameter c.loop-i.last c.in-Ok.posting) =
     bits_more c.args.parameter c.args.before c.loop-i.last (take c.loop-i.i c.loop-i.out.items) c.in-Ok.posting c.loop-i.invariant.last in
     record {
       fits = c.in-Ok.ensures.posting.fits;
@@ -56,17 +65,28 @@ loop-i-preserved g c =
       len = grind (arith, common_steps, c.loop-i.invariant.len);
       last = rw t (sym (last_more c.args.before (take c.loop-i.i c.loop-i.out.items) c.in-Ok.posting));
       most = c.in-Ok.ensures.posting.follows.within;
-      rises = rw t (rises_more c.args.all c.args.before c.loop-i.last (take c.loop-i.i c.loop-i.out.items) c.in-Ok.posting c.loop-i.invariant.last c.loop-i.invariant.rises c.in-Ok.ensures.posting.follows);
+      rises = rw t (rises_more c.args.all c.args.before c.loop-i.last (take c.loop-i.i c.loop-i.out.items) c.in-Ok.posting c.loop-i.invariant.last
+          c.loop-i.invariant.rises c.in-Ok.ensures.posting.follows);
       place = rw t (omega (arith, c.loop-i.invariant.place, c.in-Ok.ensures.posting.place));
-      read = rw (t, b, ← add_assoc c.place-start.result (length (bits_after c.args.parameter c.args.before (take c.loop-i.i c.loop-i.out.items))) (length (posting_bits c.args.parameter c.loop-i.last c.in-Ok.posting)))
-          (read_more _ _ _ _ _ _ c.place-start.result (c.place-start.result + length (bits_after c.args.parameter c.args.before (take c.loop-i.i c.loop-i.out.items))) _ (g.met.F.Feed.whole_pages c.args.r.now.feed).some (omega arith) (omega arith)
+      read = rw (
+        t,
+        b,
+        ← add_assoc c.place-start.result (length (bits_after c.args.parameter c.args.before (take c.loop-i.i c.loop-i.out.items)))
+            (length (posting_bits c.args.parameter c.loop-i.last c.in-Ok.posting)),
+      )
+          (read_more _ _ _ _ _ _ c.place-start.result (c.place-start.result
+          + length (bits_after c.args.parameter c.args.before (take c.loop-i.i c.loop-i.out.items))) _ (g.met.F.Feed.whole_pages c.args.r.now.feed).some
+          (omega arith) (omega arith)
           c.loop-i.invariant.read (rw c.loop-i.invariant.place at c.in-Ok.ensures.posting.read));
       shows = rw t
-          (postings_stand _ c.place-start.result c.loop-i.r.place c.args.parameter c.args.before c.loop-i.last (take c.loop-i.i c.loop-i.out.items) c.in-Ok.posting c.loop-i.invariant.last c.loop-i.invariant.place
+          (postings_stand _ c.place-start.result c.loop-i.r.place c.args.parameter c.args.before c.loop-i.last (take c.loop-i.i c.loop-i.out.items)
+          c.in-Ok.posting c.loop-i.invariant.last c.loop-i.invariant.place
           c.loop-i.invariant.shows (rw (same_told _ _ _ _ c.loop-i.invariant.read.calm) at c.in-Ok.ensures.posting.shows));
       told = λ ps rises le small shows.
           let same : take c.loop-i.i c.loop-i.out.items ≡ take c.loop-i.i ps = c.loop-i.invariant.told ps rises le small shows in
-          let next = next_here _ c.place-start.result c.loop-i.r.place c.args.all c.args.parameter c.args.before c.loop-i.last c.loop-i.i c.loop-i.out.items ps (omega arith) same c.loop-i.invariant.last c.loop-i.invariant.place rises small shows in
-          let got : c.in-Ok.posting ≡ next.posting = next_answer _ _ c.loop-i.r.place c.args.all c.args.parameter c.loop-i.last c.loop-i.i ps (Ok c.in-Ok.posting) (same_told _ _ _ _ c.loop-i.invariant.read.calm) next c.in-Ok.ensures.posting.told in
+          let next = next_here _ c.place-start.result c.loop-i.r.place c.args.all c.args.parameter c.args.before c.loop-i.last c.loop-i.i c.loop-i.out.items ps
+          (omega arith) same c.loop-i.invariant.last c.loop-i.invariant.place rises small shows in
+          let got : c.in-Ok.posting ≡ next.posting = next_answer _ _ c.loop-i.r.place c.args.all c.args.parameter c.loop-i.last c.loop-i.i ps
+          (Ok c.in-Ok.posting) (same_told _ _ _ _ c.loop-i.invariant.read.calm) next c.in-Ok.ensures.posting.told in
           t ∙ ap (λ l. l ++ c.in-Ok.posting ∷ []) same ∙ ap (λ q. take c.loop-i.i ps ++ q ∷ []) got ∙ sym next.more;
     }

@@ -15,7 +15,8 @@ invariant-loop-i g l = record {
   most : l.last ≤ l.all;
   rises : Rises l.all l.before (take l.i l.out.items);
   place : l.r.place ≡ l.start + length (bits_after l.parameter l.before (take l.i l.out.items));
-  read : Read (g.F.Feed.feeding l.fn.r.feed) (g.F.Feed.feeding l.r.feed) (g.F.Feed.device l.fn.dev) (g.F.Feed.device l.dev) l.start (l.start + length (bits_after l.parameter l.before (take l.i l.out.items)));
+  read : Read (g.F.Feed.feeding l.fn.r.feed) (g.F.Feed.feeding l.r.feed) (g.F.Feed.device l.fn.dev) (g.F.Feed.device l.dev) l.start
+      (l.start + length (bits_after l.parameter l.before (take l.i l.out.items)));
   shows : FromPlace ((g.F.Feed.feeding l.fn.r.feed).source (g.F.Feed.device l.fn.dev).files) l.start (Begins (bits_after l.parameter l.before (take l.i l.out.items)));
   told : (ps : List Posting) → Rises l.all l.before ps → l.count ≤ length ps → l.start + length (bits_after l.parameter l.before ps) ≤ 2 ^ 63 →
       Shows ((g.F.Feed.feeding l.fn.r.feed).source (g.F.Feed.device l.fn.dev).files) l.start (bits_after l.parameter l.before ps) → take l.i l.out.items ≡ take l.i ps;

@@ -39,13 +39,19 @@ returns-in-Ok-None-clause-answer g c = λ collection t done stand i all_is s.
     let stand2 = subst (λ fs. ListsStand c.args.base.now fs collection) (sym c.loop-last.invariant.files) stand in
     let f = c.loop-last.invariant.list collection t stand i all_is in
     let a = (rw c.in-Ok-None.field-0-is at c.in-Ok-None.ensures.answer) c.args.base.now collection t stand2 f in
-    walk_end collection done t c.loop-last.last c.loop-last.sums (c.loop-last.invariant.walk collection t done stand i all_is s) (λ d low le. none_at collection t c.loop-last.last d (sym a.found_is) low le)
+    walk_end collection done t c.loop-last.last c.loop-last.sums (c.loop-last.invariant.walk collection t done stand i all_is s)
+    (λ d low le. none_at collection t c.loop-last.last d (sym a.found_is) low le)
 
 pub returns-in-Ok-None-clause-pages : goal.returns-in-Ok-None-clause-pages
 returns-in-Ok-None-clause-pages g c = λ collection t stand i all_is.
     let stand2 = subst (λ fs. ListsStand c.args.base.now fs collection) (sym c.loop-last.invariant.files) stand in
     let f = c.loop-last.invariant.list collection t stand i all_is in
-    omega (arith, c.loop-last.invariant.post collection t stand i all_is, c.next_behind.ensures.post c.args.base.now collection t stand2 f, c.next_behind.ensures.within c.args.base.now collection t stand2 f)
+    omega (
+      arith,
+      c.loop-last.invariant.post collection t stand i all_is,
+      c.next_behind.ensures.post c.args.base.now collection t stand2 f,
+      c.next_behind.ensures.within c.args.base.now collection t stand2 f,
+    )
 
 pub returns-in-Err-next_behind-clause-small : goal.returns-in-Err-next_behind-clause-small
 returns-in-Err-next_behind-clause-small g c = λ n small d. (c.loop-last.invariant.bounded n small).each d
@@ -60,7 +66,12 @@ pub returns-in-Err-next_behind-clause-pages : goal.returns-in-Err-next_behind-cl
 returns-in-Err-next_behind-clause-pages g c = λ collection t stand i all_is.
     let stand2 = subst (λ fs. ListsStand c.args.base.now fs collection) (sym c.loop-last.invariant.files) stand in
     let f = c.loop-last.invariant.list collection t stand i all_is in
-    omega (arith, c.loop-last.invariant.post collection t stand i all_is, c.next_behind.ensures.post c.args.base.now collection t stand2 f, c.next_behind.ensures.within c.args.base.now collection t stand2 f)
+    omega (
+      arith,
+      c.loop-last.invariant.post collection t stand i all_is,
+      c.next_behind.ensures.post c.args.base.now collection t stand2 f,
+      c.next_behind.ensures.within c.args.base.now collection t stand2 f,
+    )
 
 pub add_posting-requires-clause-small : goal.add_posting-requires-clause-small
 add_posting-requires-clause-small g c = omega (arith, (c.loop-last.invariant.bounded (2 ^ 40) c.requires.small).each c.in-Ok-Some.posting.doc)
@@ -78,7 +89,12 @@ pub returns-in-Err-add_posting-clause-pages : goal.returns-in-Err-add_posting-cl
 returns-in-Err-add_posting-clause-pages g c = λ collection t stand i all_is.
     let stand2 = subst (λ fs. ListsStand c.args.base.now fs collection) (sym c.loop-last.invariant.files) stand in
     let f = c.loop-last.invariant.list collection t stand i all_is in
-    omega (arith, c.loop-last.invariant.post collection t stand i all_is, c.next_behind.ensures.post c.args.base.now collection t stand2 f, c.next_behind.ensures.within c.args.base.now collection t stand2 f)
+    omega (
+      arith,
+      c.loop-last.invariant.post collection t stand i all_is,
+      c.next_behind.ensures.post c.args.base.now collection t stand2 f,
+      c.next_behind.ensures.within c.args.base.now collection t stand2 f,
+    )
 
 pub loop-last-preserved : goal.loop-last-preserved
 loop-last-preserved g c =
@@ -94,7 +110,8 @@ loop-last-preserved g c =
         others = λ p a b. c.next_behind.ensures.reads.others p a b ∙ c.loop-last.invariant.reads.others p a b;
       };
       faults = omega (arith, c.loop-last.invariant.faults, c.next_behind.ensures.cause.later);
-      bounded = λ n small. rw c.in-Ok-add_posting.ensures.added (bounded_next n c.loop-last.last c.in-Ok-Some.posting.doc _ c.loop-last.sums (c.loop-last.invariant.bounded n small) later c.add_posting.ensures.few);
+      bounded = λ n small. rw c.in-Ok-add_posting.ensures.added
+          (bounded_next n c.loop-last.last c.in-Ok-Some.posting.doc _ c.loop-last.sums (c.loop-last.invariant.bounded n small) later c.add_posting.ensures.few);
       within = λ h. rw c.in-Ok-add_posting.ensures.added (within_more c.args.all c.in-Ok-Some.posting.doc _ c.loop-last.sums (omega (arith, later)) within (c.loop-last.invariant.within h));
       apart = λ h. rw c.in-Ok-add_posting.ensures.added (apart_more c.in-Ok-Some.posting.doc _ c.loop-last.sums (c.loop-last.invariant.apart h));
       walk = λ collection t done stand i all_is s.
@@ -105,7 +122,8 @@ loop-last-preserved g c =
           let k = told collection t c.args.info.now c.args.all i all_is in
           let w = c.in-Ok.ensures.is k.some k.within in
           let weight : c.in-Ok.weight ≡ wt collection t = weight_of w ∙ k.weight in
-          rw c.in-Ok-add_posting.ensures.added (walk_next collection done t c.loop-last.last c.loop-last.sums c.in-Ok-Some.posting c.in-Ok.weight (c.loop-last.invariant.walk collection t done stand i all_is s) (sym a.found_is) (omega (arith, h.0)) h.1 weight);
+          rw c.in-Ok-add_posting.ensures.added (walk_next collection done t c.loop-last.last c.loop-last.sums c.in-Ok-Some.posting c.in-Ok.weight
+          (c.loop-last.invariant.walk collection t done stand i all_is s) (sym a.found_is) (omega (arith, h.0)) h.1 weight);
       list = λ collection t stand i all_is.
           let stand2 = subst (λ fs. ListsStand c.args.base.now fs collection) (sym c.loop-last.invariant.files) stand in
           let f = c.loop-last.invariant.list collection t stand i all_is in
@@ -123,8 +141,15 @@ returns-clause-small g c = λ n small d. (c.loop-last.invariant.bounded n small)
 
 pub returns-clause-answer : goal.returns-clause-answer
 returns-clause-answer g c = λ collection t done stand i all_is s.
-    walk_end collection done t c.loop-last.last c.loop-last.sums (c.loop-last.invariant.walk collection t done stand i all_is s) (λ d low le. absurd (omega (arith, c.loop-last-test.false, all_is, low, le)))
+    walk_end collection done t c.loop-last.last c.loop-last.sums (c.loop-last.invariant.walk collection t done stand i all_is s)
+    (λ d low le. absurd (omega (arith, c.loop-last-test.false, all_is, low, le)))
 
 pub returns-clause-pages : goal.returns-clause-pages
 returns-clause-pages g c = λ collection t stand i all_is.
-    omega (arith, c.loop-last.invariant.post collection t stand i all_is, c.cursor_pages_are_within.ensures c.args.base.now collection (numbers_in (postings collection t)) t c.loop-last.last _ (c.loop-last.invariant.list collection t stand i all_is), pages_in_list collection (numbers_in (postings collection t)) t)
+    omega (
+      arith,
+      c.loop-last.invariant.post collection t stand i all_is,
+      c.cursor_pages_are_within.ensures c.args.base.now collection (numbers_in (postings collection t)) t c.loop-last.last _
+          (c.loop-last.invariant.list collection t stand i all_is),
+      pages_in_list collection (numbers_in (postings collection t)) t,
+    )

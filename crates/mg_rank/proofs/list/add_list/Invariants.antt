@@ -20,9 +20,12 @@ invariant-loop-last g l = record {
   bounded : (n : ℕ) → ((d : ℕ) → sum_of d l.fn.sums ≤ n) → Bounded n l.last l.sums;
   within : AreWithin l.all l.fn.sums → AreWithin l.all l.sums;
   apart : AreApart l.fn.sums → AreApart l.sums;
-  walk : (collection t : List ℕ) (done : List (List ℕ)) → ListsStand l.base (g.S.Store.files l.fn.store) collection → IsInfoOf collection t l.info → l.all ≡ length (documents collection) → SumsFor collection done l.fn.sums → Walking collection done t l.last l.sums;
-  list : (collection t : List ℕ) → ListsStand l.base (g.S.Store.files l.fn.store) collection → IsInfoOf collection t l.info → l.all ≡ length (documents collection) → ListFor l.base collection t l.last l.cursor;
-  post : (collection t : List ℕ) → ListsStand l.base (g.S.Store.files l.fn.store) collection → IsInfoOf collection t l.info → l.all ≡ length (documents collection) → g.S.Store.reads l.store part.Post ≤ g.S.Store.reads l.fn.store part.Post + post_pages l.cursor;
+  walk : (collection t : List ℕ) (done : List (List ℕ)) → ListsStand l.base (g.S.Store.files l.fn.store) collection → IsInfoOf collection t l.info →
+      l.all ≡ length (documents collection) → SumsFor collection done l.fn.sums → Walking collection done t l.last l.sums;
+  list : (collection t : List ℕ) → ListsStand l.base (g.S.Store.files l.fn.store) collection → IsInfoOf collection t l.info →
+      l.all ≡ length (documents collection) → ListFor l.base collection t l.last l.cursor;
+  post : (collection t : List ℕ) → ListsStand l.base (g.S.Store.files l.fn.store) collection → IsInfoOf collection t l.info →
+      l.all ≡ length (documents collection) → g.S.Store.reads l.store part.Post ≤ g.S.Store.reads l.fn.store part.Post + post_pages l.cursor;
 }
 
 abbrev pub decreases-loop-last : goal.decreases-loop-last

@@ -8,13 +8,16 @@ pub returns-in-Err-clause-answer : goal.returns-in-Err-clause-answer
 returns-in-Err-clause-answer g c = λ collection ts stand told all_is.
     let stand2 = subst (λ fs. ListsStand c.args.base.now fs collection) (sym c.loop-info.invariant.files) stand in
     let i = info_at collection ts c.args.terms.now c.loop-info.info-index _ told (omega arith) in
-    or_or c.in-Err.refusal _ _ (c.in-Err.ensures.answer collection (get_or ts c.loop-info.info-index []) (take c.loop-info.info-index ts) stand2 i.1 all_is (c.loop-info.invariant.sums collection ts stand told all_is))
+    or_or c.in-Err.refusal _ _ (c.in-Err.ensures.answer collection (get_or ts c.loop-info.info-index []) (take c.loop-info.info-index ts) stand2 i.1 all_is
+    (c.loop-info.invariant.sums collection ts stand told all_is))
 
 pub returns-in-Err-clause-pages : goal.returns-in-Err-clause-pages
 returns-in-Err-clause-pages g c = λ collection ts stand told all_is.
     let stand2 = subst (λ fs. ListsStand c.args.base.now fs collection) (sym c.loop-info.invariant.files) stand in
     let i = info_at collection ts c.args.terms.now c.loop-info.info-index _ told (omega arith) in
-    post_end collection ts (c.loop-info.info-index + 1) _ _ (post_next collection ts c.loop-info.info-index _ _ _ i.0 (c.loop-info.invariant.post collection ts stand told all_is) (c.add_list.ensures.pages collection (get_or ts c.loop-info.info-index []) stand2 i.1 all_is))
+    post_end collection ts (c.loop-info.info-index + 1) _ _
+    (post_next collection ts c.loop-info.info-index _ _ _ i.0 (c.loop-info.invariant.post collection ts stand told all_is)
+    (c.add_list.ensures.pages collection (get_or ts c.loop-info.info-index []) stand2 i.1 all_is))
 
 pub loop-info-preserved : goal.loop-info-preserved
 loop-info-preserved g c = record {
@@ -27,11 +30,14 @@ loop-info-preserved g c = record {
   sums = λ collection ts stand told all_is.
       let stand2 = subst (λ fs. ListsStand c.args.base.now fs collection) (sym c.loop-info.invariant.files) stand in
       let i = info_at collection ts c.args.terms.now c.loop-info.info-index _ told (omega arith) in
-      sums_next collection ts c.loop-info.info-index _ i.0 (c.in-Ok.ensures.answer collection (get_or ts c.loop-info.info-index []) (take c.loop-info.info-index ts) stand2 i.1 all_is (c.loop-info.invariant.sums collection ts stand told all_is));
+      sums_next collection ts c.loop-info.info-index _ i.0
+      (c.in-Ok.ensures.answer collection (get_or ts c.loop-info.info-index []) (take c.loop-info.info-index ts) stand2 i.1 all_is
+      (c.loop-info.invariant.sums collection ts stand told all_is));
   post = λ collection ts stand told all_is.
       let stand2 = subst (λ fs. ListsStand c.args.base.now fs collection) (sym c.loop-info.invariant.files) stand in
       let i = info_at collection ts c.args.terms.now c.loop-info.info-index _ told (omega arith) in
-      post_next collection ts c.loop-info.info-index _ _ _ i.0 (c.loop-info.invariant.post collection ts stand told all_is) (c.add_list.ensures.pages collection (get_or ts c.loop-info.info-index []) stand2 i.1 all_is);
+      post_next collection ts c.loop-info.info-index _ _ _ i.0 (c.loop-info.invariant.post collection ts stand told all_is)
+      (c.add_list.ensures.pages collection (get_or ts c.loop-info.info-index []) stand2 i.1 all_is);
 }
 
 pub returns-clause-pages : goal.returns-clause-pages

@@ -15,6 +15,9 @@ invariant-loop-info g l = record {
   small : (d : ℕ) → sum_of d l.sums ≤ l.info-index * 2 ^ 29;
   within : AreWithin l.all l.sums;
   apart : AreApart l.sums;
-  sums : (collection : List ℕ) (ts : List (List ℕ)) → ListsStand l.base (g.S.Store.files l.fn.store) collection → AreTold collection ts l.terms → l.all ≡ length (documents collection) → SumsFor collection (take l.info-index ts) l.sums;
-  post : (collection : List ℕ) (ts : List (List ℕ)) → ListsStand l.base (g.S.Store.files l.fn.store) collection → AreTold collection ts l.terms → l.all ≡ length (documents collection) → g.S.Store.reads l.store part.Post ≤ g.S.Store.reads l.fn.store part.Post + sum_by (list_pages collection) (take l.info-index ts);
+  sums : (collection : List ℕ) (ts : List (List ℕ)) → ListsStand l.base (g.S.Store.files l.fn.store) collection → AreTold collection ts l.terms →
+      l.all ≡ length (documents collection) → SumsFor collection (take l.info-index ts) l.sums;
+  post : (collection : List ℕ) (ts : List (List ℕ)) → ListsStand l.base (g.S.Store.files l.fn.store) collection → AreTold collection ts l.terms →
+      l.all ≡ length (documents collection) → g.S.Store.reads l.store part.Post ≤ g.S.Store.reads l.fn.store part.Post
+      + sum_by (list_pages collection) (take l.info-index ts);
 }

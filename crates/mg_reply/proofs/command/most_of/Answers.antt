@@ -15,7 +15,8 @@ overflow_add-so_far c = omega (arith, power_within c.loop-byte.byte-index (omega
 
 pub loop-byte-preserved : goal.loop-byte-preserved
 loop-byte-preserved c = record {
-  value_is = ap (λ d. value (10 * c.loop-byte.so_far + d) (drop (c.loop-byte.byte-index + 1) c.args.word.now)) c.in-Some.ensures.some.1 ∙ sym (value_step _ _ _ c.loop-byte-test.true) ∙ c.loop-byte.invariant.value_is;
+  value_is = ap (λ d. value (10 * c.loop-byte.so_far + d) (drop (c.loop-byte.byte-index + 1) c.args.word.now)) c.in-Some.ensures.some.1
+      ∙ sym (value_step _ _ _ c.loop-byte-test.true) ∙ c.loop-byte.invariant.value_is;
   digits = sym (digits_step c.args.word.now c.loop-byte.byte-index c.loop-byte-test.true ∙ rw c.in-Some.ensures.some.0) ∙ c.loop-byte.invariant.digits;
   small = power_more c.loop-byte.byte-index c.loop-byte.so_far c.in-Some.digit c.loop-byte.invariant.small c.in-Some.ensures.some.2;
 }

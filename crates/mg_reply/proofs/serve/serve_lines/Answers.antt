@@ -59,8 +59,10 @@ lines-preserved-in-Ok-put_too_long g c =
     let line = rw c.in-TooLong.is at c.in-Ok.ensures.line in
     record {
       fits = c.lines.invariant.fits;
-      asked = served_line _ _ _ _ _ _ _ _ _ None None None _ _ _ _ _ _ g.met.A.Answerer.after_more c.lines.invariant.asked line.2 (gives_long _ _ _ line.0 line.3) (g.met.A.Answerer.after_none (g.A.Answerer.state c.lines.answerer c.lines.dev)) (none_appended _);
-      served = λ reply answers. served_line _ _ _ _ _ _ _ _ _ _ _ _ _ _ _ _ _ _ g.met.A.Answerer.after_more (c.lines.invariant.served reply answers) line.2 (gives_long _ _ _ line.0 line.3) (g.met.A.Answerer.after_none (g.A.Answerer.state c.lines.answerer c.lines.dev)) c.in-Ok-put_too_long.ensures.content;
+      asked = served_line _ _ _ _ _ _ _ _ _ None None None _ _ _ _ _ _ g.met.A.Answerer.after_more c.lines.invariant.asked line.2
+          (gives_long _ _ _ line.0 line.3) (g.met.A.Answerer.after_none (g.A.Answerer.state c.lines.answerer c.lines.dev)) (none_appended _);
+      served = λ reply answers. served_line _ _ _ _ _ _ _ _ _ _ _ _ _ _ _ _ _ _ g.met.A.Answerer.after_more (c.lines.invariant.served reply answers) line.2
+          (gives_long _ _ _ line.0 line.3) (g.met.A.Answerer.after_none (g.A.Answerer.state c.lines.answerer c.lines.dev)) c.in-Ok-put_too_long.ensures.content;
       counted = counted_line _ _ _ _ _ _ _ c.lines.invariant.counted line.2 (goes_long line.0 line.3) line.4;
       used = line.5;
       faults = omega arith;
@@ -84,13 +86,15 @@ pub returns-in-Ok-true-clause-all : goal.returns-in-Ok-true-clause-all
 returns-in-Ok-true-clause-all g c = λ reply answers all told.
     let line = rw c.in-Line.is at c.in-Ok.ensures.line in
     answered_quits _ _ _ _ _ _ _ _ _ _ _ _ _ _ _ _ (c.lines.invariant.served reply answers) line.1 (record { same = refl; cut_is = c.line.ensures; short = line.2 })
-    (sym c.in-Ok-true.ensures.stops ∙ c.in-Ok-true.field-0-test) (c.in-Ok-true.ensures.text reply (g.met.A.Answerer.same_reply _ _ _ reply (c.lines.invariant.served reply answers).after answers)) all told
+    (sym c.in-Ok-true.ensures.stops ∙ c.in-Ok-true.field-0-test)
+    (c.in-Ok-true.ensures.text reply (g.met.A.Answerer.same_reply _ _ _ reply (c.lines.invariant.served reply answers).after answers)) all told
 
 pub returns-in-Ok-true-clause-prefix : goal.returns-in-Ok-true-clause-prefix
 returns-in-Ok-true-clause-prefix g c = λ reply answers all told.
     let line = rw c.in-Line.is at c.in-Ok.ensures.line in
     all_grew _ _ _ (answered_quits _ _ _ _ _ _ _ _ _ _ _ _ _ _ _ _ (c.lines.invariant.served reply answers) line.1 (record { same = refl; cut_is = c.line.ensures; short = line.2 })
-    (sym c.in-Ok-true.ensures.stops ∙ c.in-Ok-true.field-0-test) (c.in-Ok-true.ensures.text reply (g.met.A.Answerer.same_reply _ _ _ reply (c.lines.invariant.served reply answers).after answers)) all told)
+    (sym c.in-Ok-true.ensures.stops ∙ c.in-Ok-true.field-0-test)
+    (c.in-Ok-true.ensures.text reply (g.met.A.Answerer.same_reply _ _ _ reply (c.lines.invariant.served reply answers).after answers)) all told)
 
 pub returns-in-Ok-true-clause-left : goal.returns-in-Ok-true-clause-left
 returns-in-Ok-true-clause-left g c = λ all told.
@@ -105,7 +109,8 @@ returns-in-Ok-true-clause-within g c = λ all told.
 pub returns-in-Ok-true-clause-answered : goal.returns-in-Ok-true-clause-answered
 returns-in-Ok-true-clause-answered g c =
     let line = rw c.in-Line.is at c.in-Ok.ensures.line in
-    answered_asked _ _ _ _ _ _ _ _ _ _ _ _ _ _ _ _ g.met.A.Answerer.after_more c.lines.invariant.asked line.1 (record { same = refl; cut_is = c.line.ensures; short = line.2 }) c.in-Ok-true.ensures.after
+    answered_asked _ _ _ _ _ _ _ _ _ _ _ _ _ _ _ _ g.met.A.Answerer.after_more c.lines.invariant.asked line.1
+    (record { same = refl; cut_is = c.line.ensures; short = line.2 }) c.in-Ok-true.ensures.after
 
 pub lines-preserved : goal.lines-preserved
 lines-preserved g c =
@@ -127,12 +132,15 @@ lines-preserved g c =
 pub returns-in-Err-serve_line-clause-prefix : goal.returns-in-Err-serve_line-clause-prefix
 returns-in-Err-serve_line-clause-prefix g c = λ reply answers all told.
     let line = rw c.in-Line.is at c.in-Ok.ensures.line in
-    answered_part _ _ _ _ _ _ _ _ _ _ _ _ _ _ _ _ (c.lines.invariant.served reply answers) line.1 (record { same = refl; cut_is = c.line.ensures; short = line.2 }) (c.in-Err-serve_line.ensures.text reply (g.met.A.Answerer.same_reply _ _ _ reply (c.lines.invariant.served reply answers).after answers)) all told
+    answered_part _ _ _ _ _ _ _ _ _ _ _ _ _ _ _ _ (c.lines.invariant.served reply answers) line.1
+    (record { same = refl; cut_is = c.line.ensures; short = line.2 })
+    (c.in-Err-serve_line.ensures.text reply (g.met.A.Answerer.same_reply _ _ _ reply (c.lines.invariant.served reply answers).after answers)) all told
 
 pub returns-in-Err-serve_line-clause-answered : goal.returns-in-Err-serve_line-clause-answered
 returns-in-Err-serve_line-clause-answered g c =
     let line = rw c.in-Line.is at c.in-Ok.ensures.line in
-    answered_asked _ _ _ _ _ _ _ _ _ _ _ _ _ _ _ _ g.met.A.Answerer.after_more c.lines.invariant.asked line.1 (record { same = refl; cut_is = c.line.ensures; short = line.2 }) c.in-Err-serve_line.ensures.after
+    answered_asked _ _ _ _ _ _ _ _ _ _ _ _ _ _ _ _ g.met.A.Answerer.after_more c.lines.invariant.asked line.1
+    (record { same = refl; cut_is = c.line.ensures; short = line.2 }) c.in-Err-serve_line.ensures.after
 
 pub returns-in-Err-Read-clause-in_turn : goal.returns-in-Err-Read-clause-in_turn
 returns-in-Err-Read-clause-in_turn g c = λ reply answers.

@@ -8,8 +8,11 @@ use Rattle.mg_reply.proofs.serve.serve_lines.Given as goal
 abbrev pub invariant-lines : goal.invariant-lines
 invariant-lines g l = record {
   fits : g.A.Answerer.fits (g.A.Answerer.state l.answerer l.dev);
-  asked : Served l.fn.hearing g.A.Answerer.after (g.A.Answerer.state l.fn.answerer l.fn.dev) (g.A.Answerer.state l.answerer l.dev) silent (g.I.Source.left l.fn.input) (prepended l.reader.held (g.I.Source.left l.input)) None None l.now;
-  served : (reply : Settings → List ℕ → List ℕ) → g.A.Answerer.answers (g.A.Answerer.state l.fn.answerer l.fn.dev) reply → Served l.fn.hearing g.A.Answerer.after (g.A.Answerer.state l.fn.answerer l.fn.dev) (g.A.Answerer.state l.answerer l.dev) reply (g.I.Source.left l.fn.input) (prepended l.reader.held (g.I.Source.left l.input)) (g.O.Sink.written l.fn.out) (g.O.Sink.written l.out) l.now;
+  asked : Served l.fn.hearing g.A.Answerer.after (g.A.Answerer.state l.fn.answerer l.fn.dev) (g.A.Answerer.state l.answerer l.dev) silent
+      (g.I.Source.left l.fn.input) (prepended l.reader.held (g.I.Source.left l.input)) None None l.now;
+  served : (reply : Settings → List ℕ → List ℕ) → g.A.Answerer.answers (g.A.Answerer.state l.fn.answerer l.fn.dev) reply →
+      Served l.fn.hearing g.A.Answerer.after (g.A.Answerer.state l.fn.answerer l.fn.dev) (g.A.Answerer.state l.answerer l.dev) reply
+      (g.I.Source.left l.fn.input) (prepended l.reader.held (g.I.Source.left l.input)) (g.O.Sink.written l.fn.out) (g.O.Sink.written l.out) l.now;
   counted : Counted (g.I.Source.left l.fn.input) (prepended l.reader.held (g.I.Source.left l.input)) l.reader.used;
   used : l.reader.used ≤ input_limit;
   faults : g.I.Source.faults l.fn.input ≤ g.I.Source.faults l.input;

@@ -4,7 +4,8 @@ use Rattle.mg_runs.proofs.StepLaws.{back_same, look_err, look_group, look_ok, lo
 use Rattle.mg_runs.proofs.join.count_runs.Goals as goal
 
 pub returns-in-Ok-count_postings-clause-pool : goal.returns-in-Ok-count_postings-clause-pool
-returns-in-Ok-count_postings-clause-pool g c = subst (λ p. PoolBack (length c.args.places.now) c.args.pool p) (sym c.into_pool.ensures) (back_same c.in-Ok.ensures.pool c.count_postings.ensures.read.pool)
+returns-in-Ok-count_postings-clause-pool g c = subst (λ p. PoolBack (length c.args.places.now) c.args.pool p) (sym c.into_pool.ensures)
+    (back_same c.in-Ok.ensures.pool c.count_postings.ensures.read.pool)
 
 pub returns-in-Ok-count_postings-clause-read : goal.returns-in-Ok-count_postings-clause-read
 returns-in-Ok-count_postings-clause-read g c =

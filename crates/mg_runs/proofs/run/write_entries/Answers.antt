@@ -36,19 +36,25 @@ sort_entries-requires g c =
 pub put_list-requires-clause-ones : goal.put_list-requires-clause-ones
 put_list-requires-clause-ones g c =
     let new : List (List ℕ) = c.sort_entries.new.entries in
-    (are_sorted (first_chunks 12 c.args.count c.args.bytes.now) new (chunks_are c.as_chunks_mut-entries.result.0.now new c.args.count c.args.bytes.now c.requires.room c.as_chunks_mut-entries.ensures.front c.sort_entries.ensures.same) c.requires.entries).ones
+    (are_sorted (first_chunks 12 c.args.count c.args.bytes.now) new
+    (chunks_are c.as_chunks_mut-entries.result.0.now new c.args.count c.args.bytes.now c.requires.room c.as_chunks_mut-entries.ensures.front
+    c.sort_entries.ensures.same) c.requires.entries).ones
 
 pub put_list-requires-clause-docs : goal.put_list-requires-clause-docs
 put_list-requires-clause-docs g c =
     let new : List (List ℕ) = c.sort_entries.new.entries in
-    (are_sorted (first_chunks 12 c.args.count c.args.bytes.now) new (chunks_are c.as_chunks_mut-entries.result.0.now new c.args.count c.args.bytes.now c.requires.room c.as_chunks_mut-entries.ensures.front c.sort_entries.ensures.same) c.requires.entries).docs
+    (are_sorted (first_chunks 12 c.args.count c.args.bytes.now) new
+    (chunks_are c.as_chunks_mut-entries.result.0.now new c.args.count c.args.bytes.now c.requires.room c.as_chunks_mut-entries.ensures.front
+    c.sort_entries.ensures.same) c.requires.entries).docs
 
 pub returns-clause-bits : goal.returns-clause-bits
 unfolding filled
 returns-clause-bits g c =
     let new : List (List ℕ) = c.sort_entries.new.entries in
     let same
-    = (are_sorted (first_chunks 12 c.args.count c.args.bytes.now) new (chunks_are c.as_chunks_mut-entries.result.0.now new c.args.count c.args.bytes.now c.requires.room c.as_chunks_mut-entries.ensures.front c.sort_entries.ensures.same) c.requires.entries).gathered
+    = (are_sorted (first_chunks 12 c.args.count c.args.bytes.now) new
+    (chunks_are c.as_chunks_mut-entries.result.0.now new c.args.count c.args.bytes.now c.requires.room c.as_chunks_mut-entries.ensures.front
+    c.sort_entries.ensures.same) c.requires.entries).gathered
     in
     let a = rw same at c.in_ok-put_list.ensures.bits in
     let bits : List Bool = run_bits (gathered (entries_in c.args.count c.args.bytes.now)) in

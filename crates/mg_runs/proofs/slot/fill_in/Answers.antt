@@ -10,5 +10,6 @@ returns-clause-slots g c = λ count h room.
 
 pub returns-clause-filled : goal.returns-clause-filled
 returns-clause-filled g c = λ count h room.
-    rw (slot_put 64 (64 * c.args.slot) (64 * c.args.slot + 64 - 64 * c.args.slot) count c.args.slot c.args.bytes.now c.read_slot.new.slot refl (omega arith) c.requires.room (grind (arith, common_steps, c.read_slot.auto.slot)) h)
+    rw (slot_put 64 (64 * c.args.slot) (64 * c.args.slot + 64 - 64 * c.args.slot) count c.args.slot c.args.bytes.now c.read_slot.new.slot refl (omega arith)
+    c.requires.room (grind (arith, common_steps, c.read_slot.auto.slot)) h)
     c.read_slot.ensures.filled

@@ -35,7 +35,8 @@ returns-in-Err-clause-answer g c = λ base code collection stands over.
     let lists = (weights_later base base _ _ collection refl inv.step.files stands.weights).lists in
     let pages = c.in-Err.ensures.pages base collection lists walked.over in
     walked_stop _ _ _ _ _ _ _ _ _ _ c.matches.matches c.next.new.self _ (g.S.Store.reads c.matches.store) _ _ walked
-    (subst (λ (a : Query). PagesWithin (boolean_bound collection (query_of a)) (pages_read c.matches.matches.places) (pages_read c.next.new.self.places) (g.S.Store.reads c.matches.store) (g.S.Store.reads c.next.new.store)) inv.kept.asks pages)
+    (subst (λ (a : Query). PagesWithin (boolean_bound collection (query_of a)) (pages_read c.matches.matches.places) (pages_read c.next.new.self.places)
+    (g.S.Store.reads c.matches.store) (g.S.Store.reads c.next.new.store)) inv.kept.asks pages)
     (lists_text _ _ c.in-Err.ensures.reads)
     (list_sound c.in-Err.refusal _ _ c.from.ensures (c.in-Err.ensures.answer base collection lists walked.over))
 
@@ -52,7 +53,8 @@ returns-in-Err-show_hit-clause-answer g c = λ base code collection stands over.
     let answer = c.in-Ok-Some.ensures.answer base collection lists walked.over in
     walked_cut _ _ _ _ _ _ _ _ _ c.matches.total c.in-Ok-Some.number _ c.matches.matches c.next.new.self _ (g.S.Store.reads c.matches.store) (g.S.Store.reads c.next.new.store) _ _ walked
     (subst (GoesOn (left_of collection c.matches.matches) (left_of collection c.next.new.self)) c.in-Ok-Some.field-0-is answer.0)
-    (subst (λ (a : Query). PagesWithin (boolean_bound collection (query_of a)) (pages_read c.matches.matches.places) (pages_read c.next.new.self.places) (g.S.Store.reads c.matches.store) (g.S.Store.reads c.next.new.store)) inv.kept.asks pages)
+    (subst (λ (a : Query). PagesWithin (boolean_bound collection (query_of a)) (pages_read c.matches.matches.places) (pages_read c.next.new.self.places)
+    (g.S.Store.reads c.matches.store) (g.S.Store.reads c.next.new.store)) inv.kept.asks pages)
     (lists_text _ _ c.in-Ok-Some.ensures.reads)
     (c.in-Err-show_hit.ensures.content code collection text)
     (shown_post _ _ _ _ _ _ _ c.in-Err-show_hit.ensures.looked)
@@ -60,12 +62,16 @@ returns-in-Err-show_hit-clause-answer g c = λ base code collection stands over.
     (c.in-Err-show_hit.ensures.sound code collection text)
 
 pub returns-in-Err-show_hit-clause-step : goal.returns-in-Err-show_hit-clause-step
-returns-in-Err-show_hit-clause-step g c = stepped_then _ _ _ _ _ _ _ _ _ _ (stepped_then _ _ _ _ _ _ _ _ _ _ c.matches.invariant.step (lists_step _ _ _ _ _ _ _ c.in-Ok-Some.ensures.files c.in-Ok-Some.ensures.cause.later c.in-Ok-Some.ensures.reads)) (shown_step _ _ _ _ _ _ _ c.in-Err-show_hit.ensures.looked)
+returns-in-Err-show_hit-clause-step g c = stepped_then _ _ _ _ _ _ _ _ _ _
+    (stepped_then _ _ _ _ _ _ _ _ _ _ c.matches.invariant.step
+    (lists_step _ _ _ _ _ _ _ c.in-Ok-Some.ensures.files c.in-Ok-Some.ensures.cause.later c.in-Ok-Some.ensures.reads))
+    (shown_step _ _ _ _ _ _ _ c.in-Err-show_hit.ensures.looked)
 
 pub matches-preserved : goal.matches-preserved
 matches-preserved g c =
     let inv = c.matches.invariant in
-    let range = subst (λ (found : Option ℕ). IfSome found (λ doc. (c.matches.matches.decided < doc) × (doc ≤ c.matches.matches.all) × (c.next.new.self.decided ≡ doc))) c.in-Ok-Some.field-0-is c.in-Ok-Some.ensures.range in
+    let range = subst (λ (found : Option ℕ). IfSome found (λ doc. (c.matches.matches.decided < doc) × (doc ≤ c.matches.matches.all)
+    × (c.next.new.self.decided ≡ doc))) c.in-Ok-Some.field-0-is c.in-Ok-Some.ensures.range in
     let kept = c.in-Ok-Some.ensures.same in
     record {
       fits = c.in-Ok.ensures.fits;
@@ -74,7 +80,9 @@ matches-preserved g c =
       kept = record { asks = kept.asks ∙ inv.kept.asks; all = kept.all ∙ inv.kept.all };
       few = omega (arith, inv.few, range);
       within = omega (arith, range, kept.all);
-      step = stepped_then _ _ _ _ _ _ _ _ _ _ (stepped_then _ _ _ _ _ _ _ _ _ _ inv.step (lists_step _ _ _ _ _ _ _ c.in-Ok-Some.ensures.files c.in-Ok-Some.ensures.cause.later c.in-Ok-Some.ensures.reads)) (shown_step _ _ _ _ _ _ _ c.in-Ok.ensures.looked);
+      step = stepped_then _ _ _ _ _ _ _ _ _ _ (stepped_then _ _ _ _ _ _ _ _ _ _ inv.step
+          (lists_step _ _ _ _ _ _ _ c.in-Ok-Some.ensures.files c.in-Ok-Some.ensures.cause.later c.in-Ok-Some.ensures.reads))
+          (shown_step _ _ _ _ _ _ _ c.in-Ok.ensures.looked);
       output = omega (arith, inv.output, c.in-Ok.ensures.cause.output);
       lacks = omega (arith, inv.lacks, c.in-Ok.ensures.lack.later);
       walked = λ base code collection stands over.
@@ -101,17 +109,20 @@ returns-in-Ok-None-clause-answer g c = λ base code collection stands over.
     let answer = c.in-Ok-None.ensures.answer base collection lists walked.over in
     walked_end _ _ _ _ _ _ _ _ _ c.matches.total _ c.matches.matches c.next.new.self _ (g.S.Store.reads c.matches.store) _ _ walked
     (subst (GoesOn (left_of collection c.matches.matches) (left_of collection c.next.new.self)) c.in-Ok-None.field-0-is answer.0)
-    (subst (λ (a : Query). PagesWithin (boolean_bound collection (query_of a)) (pages_read c.matches.matches.places) (pages_read c.next.new.self.places) (g.S.Store.reads c.matches.store) (g.S.Store.reads c.next.new.store)) inv.kept.asks pages)
+    (subst (λ (a : Query). PagesWithin (boolean_bound collection (query_of a)) (pages_read c.matches.matches.places) (pages_read c.next.new.self.places)
+    (g.S.Store.reads c.matches.store) (g.S.Store.reads c.next.new.store)) inv.kept.asks pages)
     (lists_text _ _ c.in-Ok-None.ensures.reads)
     c.put_total.ensures.content
     c.put_total.ensures.sound
 
 pub returns-in-Ok-None-clause-step : goal.returns-in-Ok-None-clause-step
-returns-in-Ok-None-clause-step g c = stepped_then _ _ _ _ _ _ _ _ _ _ c.matches.invariant.step (lists_step _ _ _ _ _ _ _ c.in-Ok-None.ensures.files c.in-Ok-None.ensures.cause.later c.in-Ok-None.ensures.reads)
+returns-in-Ok-None-clause-step g c = stepped_then _ _ _ _ _ _ _ _ _ _ c.matches.invariant.step
+    (lists_step _ _ _ _ _ _ _ c.in-Ok-None.ensures.files c.in-Ok-None.ensures.cause.later c.in-Ok-None.ensures.reads)
 
 pub returns-in-Ok-None-clause-cause : goal.returns-in-Ok-None-clause-cause
 returns-in-Ok-None-clause-cause g c =
-    cause_after _ _ (g.S.Store.faults c.next.new.store) _ _ (g.O.Sink.faults c.matches.out) _ (omega (arith, c.matches.invariant.step.faults, c.in-Ok-None.ensures.cause.later)) c.matches.invariant.output (c.put_total.ensures.cause _)
+    cause_after _ _ (g.S.Store.faults c.next.new.store) _ _ (g.O.Sink.faults c.matches.out) _
+    (omega (arith, c.matches.invariant.step.faults, c.in-Ok-None.ensures.cause.later)) c.matches.invariant.output (c.put_total.ensures.cause _)
 
 pub returns-in-Ok-None-clause-lack : goal.returns-in-Ok-None-clause-lack
 returns-in-Ok-None-clause-lack g c = lack_after _ _ (g.O.Sink.lacks c.matches.out) _ c.matches.invariant.lacks c.put_total.ensures.lack

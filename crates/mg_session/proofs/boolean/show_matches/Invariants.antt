@@ -18,8 +18,11 @@ invariant-matches g l = record {
   step : Stepped l.fn.now.mode (g.S.Store.files l.fn.store) (g.S.Store.files l.store) (g.S.Store.reads l.fn.store) (g.S.Store.reads l.store) (g.S.Store.faults l.fn.store) (g.S.Store.faults l.store);
   output : g.O.Sink.faults l.fn.out ≤ g.O.Sink.faults l.out;
   lacks : g.O.Sink.lacks l.fn.out ≤ g.O.Sink.lacks l.out;
-  walked : (base : List ℕ) (code : TextCode) (collection : List ℕ) → AnswersFor base (g.S.Store.files l.fn.store) (g.D.Documents.texts l.fn.texts) l.fn.matches.all code collection → MatchesOver base collection l.fn.matches →
-      Walked base code collection (query_of l.fn.matches.asks) l.fn.now (g.O.Sink.written l.fn.out) (g.O.Sink.written l.out) l.pending l.total l.matches (g.S.Store.reads l.fn.store) (g.S.Store.reads l.store);
+  walked : (base : List ℕ) (code : TextCode) (collection : List ℕ) →
+      AnswersFor base (g.S.Store.files l.fn.store) (g.D.Documents.texts l.fn.texts) l.fn.matches.all code collection →
+      MatchesOver base collection l.fn.matches →
+      Walked base code collection (query_of l.fn.matches.asks) l.fn.now (g.O.Sink.written l.fn.out) (g.O.Sink.written l.out) l.pending l.total l.matches
+      (g.S.Store.reads l.fn.store) (g.S.Store.reads l.store);
 }
 
 abbrev pub decreases-matches : goal.decreases-matches

@@ -18,8 +18,10 @@ invariant-matches g l = record {
   step : OnlyReads (g.S.Store.files l.fn.store) (g.S.Store.files l.store) (g.S.Store.reads l.fn.store) (g.S.Store.reads l.store) (g.S.Store.faults l.fn.store) (g.S.Store.faults l.store);
   output : g.O.Sink.faults l.fn.out ≤ g.O.Sink.faults l.out;
   lacks : g.O.Sink.lacks l.fn.out ≤ g.O.Sink.lacks l.out;
-  walked : (base collection : List ℕ) → PhraseSources base (g.S.Store.files l.fn.store) (g.T.Searched.text l.fn.text) l.fn.matches.all (g.T.Searched.most l.fn.text) collection → MatchesOver base collection l.fn.matches →
-      PhraseWalked base (g.T.Searched.text l.fn.text).code collection l.fn.phrase (query_of l.fn.matches.asks) (g.O.Sink.written l.fn.out) (g.O.Sink.written l.out) l.pending l.total l.matches (g.S.Store.reads l.fn.store) (g.S.Store.reads l.store);
+  walked : (base collection : List ℕ) → PhraseSources base (g.S.Store.files l.fn.store) (g.T.Searched.text l.fn.text) l.fn.matches.all
+      (g.T.Searched.most l.fn.text) collection → MatchesOver base collection l.fn.matches →
+      PhraseWalked base (g.T.Searched.text l.fn.text).code collection l.fn.phrase (query_of l.fn.matches.asks) (g.O.Sink.written l.fn.out)
+      (g.O.Sink.written l.out) l.pending l.total l.matches (g.S.Store.reads l.fn.store) (g.S.Store.reads l.store);
 }
 
 abbrev pub decreases-matches : goal.decreases-matches

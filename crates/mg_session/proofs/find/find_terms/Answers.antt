@@ -18,9 +18,13 @@ loop-term-preserved g c = record {
       let here = lex_later _ _ _ _ collection c.loop-term.invariant.same c.loop-term.invariant.looked.files stands in
       let term = c.as_bytes.ensures ∙ get_or_read c.args.terms.now c.loop-term.term-index c.term-item.result c.loop-term-test.true c.term-item.is [] in
       let told = told_of collection _ c.in-Ok.info (c.in-Ok.ensures.info version collection limits here) in
-      subst (λ (xs : List (Option TermInfo)). FirstInfos collection c.args.terms.now (c.loop-term.term-index + 1) xs) (sym c.in-Ok-push.ensures.items) (infos_more collection c.args.terms.now c.loop-term.term-index c.loop-term.infos.items c.in-Ok.info (c.loop-term.invariant.told version collection limits stands) c.loop-term.invariant.size (subst (λ t. IsToldOf collection t c.in-Ok.info) term told));
+      subst (λ (xs : List (Option TermInfo)). FirstInfos collection c.args.terms.now (c.loop-term.term-index + 1) xs) (sym c.in-Ok-push.ensures.items)
+      (infos_more collection c.args.terms.now c.loop-term.term-index c.loop-term.infos.items c.in-Ok.info
+      (c.loop-term.invariant.told version collection limits stands) c.loop-term.invariant.size (subst (λ t. IsToldOf collection t c.in-Ok.info) term told));
   size = omega (arith, ap length c.in-Ok-push.ensures.items, length-append c.loop-term.infos.items (c.in-Ok.info ∷ []), c.loop-term.invariant.size);
 }
 
 pub returns-clause-answer : goal.returns-clause-answer
-returns-clause-answer g c = λ version collection limits stands. infos_all collection c.args.terms.now c.loop-term.term-index c.loop-term.infos.items (c.loop-term.invariant.told version collection limits stands) c.loop-term.invariant.size (omega (arith, c.loop-term-test.false, c.loop-term.auto.term-index-end))
+returns-clause-answer g c = λ version collection limits stands.
+    infos_all collection c.args.terms.now c.loop-term.term-index c.loop-term.infos.items (c.loop-term.invariant.told version collection limits stands)
+    c.loop-term.invariant.size (omega (arith, c.loop-term-test.false, c.loop-term.auto.term-index-end))

@@ -10,7 +10,9 @@ abbrev pub invariant-loop-term : goal.invariant-loop-term
 invariant-loop-term g l = record {
   fits : FrontFits l.lex (g.S.Store.files l.store);
   same : SameParts l.fn.lex l.lex;
-  looked : LookedAt part.Lex part.LexAt (g.S.Store.files l.fn.store) (g.S.Store.files l.store) (g.S.Store.reads l.fn.store) (g.S.Store.reads l.store) (g.S.Store.faults l.fn.store) (g.S.Store.faults l.store);
-  told : (version : ℕ) (collection : List ℕ) → IsWithinLimits version collection → LexStands l.fn.lex (g.S.Store.files l.fn.store) collection → FirstInfos collection l.fn.terms l.term-index l.infos.items;
+  looked : LookedAt part.Lex part.LexAt (g.S.Store.files l.fn.store) (g.S.Store.files l.store) (g.S.Store.reads l.fn.store) (g.S.Store.reads l.store)
+      (g.S.Store.faults l.fn.store) (g.S.Store.faults l.store);
+  told : (version : ℕ) (collection : List ℕ) → IsWithinLimits version collection → LexStands l.fn.lex (g.S.Store.files l.fn.store) collection →
+      FirstInfos collection l.fn.terms l.term-index l.infos.items;
   size : length l.infos.items ≡ l.term-index;
 }

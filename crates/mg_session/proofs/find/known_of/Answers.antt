@@ -12,6 +12,7 @@ loop-info-preserved-in_default c = record {
 
 pub loop-info-preserved : goal.loop-info-preserved
 loop-info-preserved c = record {
-  known = c.in_ok-push.ensures.items ∙ ap (λ (xs : List TermInfo). xs ++ c.in-Some.info ∷ []) c.loop-info.invariant.known ∙ sym (known_some c.args.infos.now c.loop-info.info-index _ c.in-Some.info c.loop-info-test.true c.in-Some.is);
+  known = c.in_ok-push.ensures.items ∙ ap (λ (xs : List TermInfo). xs ++ c.in-Some.info ∷ []) c.loop-info.invariant.known
+      ∙ sym (known_some c.args.infos.now c.loop-info.info-index _ c.in-Some.info c.loop-info-test.true c.in-Some.is);
   few = omega (arith, ap length c.in_ok-push.ensures.items, length-append c.loop-info.known.items (c.in-Some.info ∷ []), c.loop-info.invariant.few);
 }

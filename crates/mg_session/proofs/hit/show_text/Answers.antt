@@ -7,13 +7,21 @@ pub returns-in-Err-clause-content : goal.returns-in-Err-clause-content
 returns-in-Err-clause-content g c = λ code collection is. header_cut _ _ c.args.pending.now (header c.args.number c.args.score) (document collection c.args.number) close c.in-Err.ensures.content
 
 pub returns-in-Err-flush-clause-content : goal.returns-in-Err-flush-clause-content
-returns-in-Err-flush-clause-content g c = λ code collection is. header_cut _ _ c.args.pending.now (header c.args.number c.args.score) (document collection c.args.number) close (flush_cut _ _ _ _ _ _ c.in-Ok.ensures.content c.in-Err-flush.ensures.content)
+returns-in-Err-flush-clause-content g c = λ code collection is.
+    header_cut _ _ c.args.pending.now (header c.args.number c.args.score) (document collection c.args.number) close
+    (flush_cut _ _ _ _ _ _ c.in-Ok.ensures.content c.in-Err-flush.ensures.content)
 
 pub returns-in-Err-doc-clause-content : goal.returns-in-Err-doc-clause-content
-returns-in-Err-doc-clause-content g c = λ code collection is. doc_cut _ _ _ _ _ _ _ _ (pass_flushed _ _ _ _ _ _ _ c.in-Ok.ensures.content c.in-Ok-flush.ensures.content c.in-Ok-flush.ensures.empty) c.in-Ok-flush.ensures.empty (c.in-Err-doc.ensures.content code collection is)
+returns-in-Err-doc-clause-content g c = λ code collection is.
+    doc_cut _ _ _ _ _ _ _ _ (pass_flushed _ _ _ _ _ _ _ c.in-Ok.ensures.content c.in-Ok-flush.ensures.content c.in-Ok-flush.ensures.empty)
+    c.in-Ok-flush.ensures.empty (c.in-Err-doc.ensures.content code collection is)
 
 pub returns-in-Ok-close-clause-content : goal.returns-in-Ok-close-clause-content
-returns-in-Ok-close-clause-content g c = λ code collection is. doc_closed _ _ _ _ _ _ _ _ _ _ (pass_flushed _ _ _ _ _ _ _ c.in-Ok.ensures.content c.in-Ok-flush.ensures.content c.in-Ok-flush.ensures.empty) c.in-Ok-flush.ensures.empty (c.in-Ok-doc.ensures.content code collection is) c.in-Ok-close.ensures.content
+returns-in-Ok-close-clause-content g c = λ code collection is.
+    doc_closed _ _ _ _ _ _ _ _ _ _ (pass_flushed _ _ _ _ _ _ _ c.in-Ok.ensures.content c.in-Ok-flush.ensures.content c.in-Ok-flush.ensures.empty)
+    c.in-Ok-flush.ensures.empty (c.in-Ok-doc.ensures.content code collection is) c.in-Ok-close.ensures.content
 
 pub returns-in-Err-close-clause-content : goal.returns-in-Err-close-clause-content
-returns-in-Err-close-clause-content g c = λ code collection is. close_cut _ _ _ _ _ _ _ _ _ (pass_flushed _ _ _ _ _ _ _ c.in-Ok.ensures.content c.in-Ok-flush.ensures.content c.in-Ok-flush.ensures.empty) c.in-Ok-flush.ensures.empty (c.in-Ok-doc.ensures.content code collection is) c.in-Err-close.ensures.content
+returns-in-Err-close-clause-content g c = λ code collection is.
+    close_cut _ _ _ _ _ _ _ _ _ (pass_flushed _ _ _ _ _ _ _ c.in-Ok.ensures.content c.in-Ok-flush.ensures.content c.in-Ok-flush.ensures.empty)
+    c.in-Ok-flush.ensures.empty (c.in-Ok-doc.ensures.content code collection is) c.in-Err-close.ensures.content

@@ -15,16 +15,23 @@ returns-in-Err-clause-answer g c = λ code collection stands terms told apart. n
 pub returns-in-Err-rank-clause-answer : goal.returns-in-Err-rank-clause-answer
 returns-in-Err-rank-clause-answer g c = λ code collection stands terms told apart.
     let kept = known_terms terms c.args.infos.now in
-    let is_told : AreTold collection kept c.deref.result.now = subst (λ (xs : List TermInfo). AreTold collection kept xs) (sym (c.deref.ensures.value ∙ c.in-Ok.ensures.known)) (known_told collection terms c.args.infos.now told apart) in
-    terms_stop _ _ _ terms _ _ _ _ _ _ (known_bound collection terms c.args.infos.now told.size) (c.in-Err-rank.ensures.pages collection kept stands.weights.lists is_told stands.all_is) (ranked_text _ _ c.in-Err-rank.ensures.reads)
+    let is_told : AreTold collection kept c.deref.result.now = subst (λ (xs : List TermInfo). AreTold collection kept xs)
+    (sym (c.deref.ensures.value ∙ c.in-Ok.ensures.known)) (known_told collection terms c.args.infos.now told apart) in
+    terms_stop _ _ _ terms _ _ _ _ _ _ (known_bound collection terms c.args.infos.now told.size)
+    (c.in-Err-rank.ensures.pages collection kept stands.weights.lists is_told stands.all_is) (ranked_text _ _ c.in-Err-rank.ensures.reads)
     (top_sound c.in-Err-rank.refusal _ collection kept _ c.from.ensures (c.in-Err-rank.ensures.answer collection kept stands.weights is_told stands.all_is))
 
 pub returns-clause-answer : goal.returns-clause-answer
 returns-clause-answer g c = λ code collection stands terms told apart.
     let kept = known_terms terms c.args.infos.now in
-    let is_told : AreTold collection kept c.deref.result.now = subst (λ (xs : List TermInfo). AreTold collection kept xs) (sym (c.deref.ensures.value ∙ c.in-Ok.ensures.known)) (known_told collection terms c.args.infos.now told apart) in
+    let is_told : AreTold collection kept c.deref.result.now = subst (λ (xs : List TermInfo). AreTold collection kept xs)
+    (sym (c.deref.ensures.value ∙ c.in-Ok.ensures.known)) (known_told collection terms c.args.infos.now told apart) in
     let top = c.in-Ok-rank.ensures.answer collection kept stands.weights is_told stands.all_is in
-    let are = are_rows collection kept terms c.args.now.now c.args.all c.rows_asked-most.result c.in-Ok-rank.ranked.total c.in-Ok-rank.ranked.rows (known_hits collection terms c.args.infos.now told) stands.all_is c.rows_asked-most.ensures top.0 top.1 in
-    let text = texts_later (g.D.Documents.texts c.args.texts.now) (g.D.Documents.texts c.args.texts.now) _ _ code collection (same_texts (g.D.Documents.texts c.args.texts.now)) c.in-Ok-rank.ensures.files stands.texts_are in
-    rows_end _ _ _ terms _ _ _ _ _ _ _ _ (g.S.Store.reads c.rank.new.store) _ _ are (known_bound collection terms c.args.infos.now told.size) (c.in-Ok-rank.ensures.pages collection kept stands.weights.lists is_told stands.all_is) (ranked_text _ _ c.in-Ok-rank.ensures.reads)
-    (c.show_ranked.ensures.content code collection text) (shown_post _ _ _ _ _ _ _ c.show_ranked.ensures.looked) (c.show_ranked.ensures.pages code collection text) (c.show_ranked.ensures.sound code collection text)
+    let are = are_rows collection kept terms c.args.now.now c.args.all c.rows_asked-most.result c.in-Ok-rank.ranked.total c.in-Ok-rank.ranked.rows
+    (known_hits collection terms c.args.infos.now told) stands.all_is c.rows_asked-most.ensures top.0 top.1 in
+    let text = texts_later (g.D.Documents.texts c.args.texts.now) (g.D.Documents.texts c.args.texts.now) _ _ code collection
+    (same_texts (g.D.Documents.texts c.args.texts.now)) c.in-Ok-rank.ensures.files stands.texts_are in
+    rows_end _ _ _ terms _ _ _ _ _ _ _ _ (g.S.Store.reads c.rank.new.store) _ _ are (known_bound collection terms c.args.infos.now told.size)
+    (c.in-Ok-rank.ensures.pages collection kept stands.weights.lists is_told stands.all_is) (ranked_text _ _ c.in-Ok-rank.ensures.reads)
+    (c.show_ranked.ensures.content code collection text) (shown_post _ _ _ _ _ _ _ c.show_ranked.ensures.looked)
+    (c.show_ranked.ensures.pages code collection text) (c.show_ranked.ensures.sound code collection text)

@@ -17,10 +17,17 @@ loop-place-init g c = record {
 }
 
 pub show_doc-requires-clause-some : goal.show_doc-requires-clause-some
-show_doc-requires-clause-some g c = (numbered (g.D.Documents.texts c.args.texts.now).head.documents c.args.rows.now c.loop-place.place c.row-row.result.number c.requires.range (omega arith) c.row-row.ensures.number).0
+show_doc-requires-clause-some g c = (numbered (g.D.Documents.texts c.args.texts.now).head.documents c.args.rows.now c.loop-place.place c.row-row.result.number
+    c.requires.range (omega arith) c.row-row.ensures.number).0
 
 pub show_doc-requires-clause-within : goal.show_doc-requires-clause-within
-show_doc-requires-clause-within g c = omega (arith, (numbered (g.D.Documents.texts c.args.texts.now).head.documents c.args.rows.now c.loop-place.place c.row-row.result.number c.requires.range (omega arith) c.row-row.ensures.number).1, ap (λ (h : Head). h.documents) c.loop-place.invariant.same.head)
+show_doc-requires-clause-within g c =
+    omega (
+      arith,
+      (numbered (g.D.Documents.texts c.args.texts.now).head.documents c.args.rows.now c.loop-place.place c.row-row.result.number c.requires.range
+          (omega arith) c.row-row.ensures.number).1,
+      ap (λ (h : Head). h.documents) c.loop-place.invariant.same.head,
+    )
 
 pub loop-place-preserved : goal.loop-place-preserved
 loop-place-preserved g c =
@@ -33,7 +40,9 @@ loop-place-preserved g c =
       lacks = omega (arith, inv.lacks, c.in-Ok.ensures.lack.later);
       shown = λ code collection is.
           let text = texts_later _ _ _ _ code collection inv.same inv.looked.files is in
-          rows_more code collection c.args.mode c.args.rows.now c.loop-place.place c.row-row.result.number c.row-row.result.score _ _ _ _ _ _ _ (g.S.Store.reads c.loop-place.store) _ (omega arith) c.row-row.ensures.number c.row-row.ensures.score (inv.shown code collection is) (c.in-Ok.ensures.content code collection text)
+          rows_more code collection c.args.mode c.args.rows.now c.loop-place.place c.row-row.result.number c.row-row.result.score _ _ _ _ _ _ _
+          (g.S.Store.reads c.loop-place.store) _ (omega arith) c.row-row.ensures.number c.row-row.ensures.score (inv.shown code collection is)
+          (c.in-Ok.ensures.content code collection text)
           (c.in-Ok.ensures.pages code collection text);
     }
 
@@ -41,13 +50,17 @@ pub returns-in-Err-clause-content : goal.returns-in-Err-clause-content
 returns-in-Err-clause-content g c = λ code collection is.
     let inv = c.loop-place.invariant in
     let text = texts_later _ _ _ _ code collection inv.same inv.looked.files is in
-    rows_cut code collection c.args.mode c.args.rows.now c.loop-place.place c.row-row.result.number c.row-row.result.score _ _ _ _ _ _ (g.S.Store.reads c.loop-place.store) (omega arith) c.row-row.ensures.number c.row-row.ensures.score (inv.shown code collection is) (c.in-Err.ensures.content code collection text)
+    rows_cut code collection c.args.mode c.args.rows.now c.loop-place.place c.row-row.result.number c.row-row.result.score _ _ _ _ _ _
+    (g.S.Store.reads c.loop-place.store) (omega arith) c.row-row.ensures.number c.row-row.ensures.score (inv.shown code collection is)
+    (c.in-Err.ensures.content code collection text)
 
 pub returns-in-Err-clause-pages : goal.returns-in-Err-clause-pages
 returns-in-Err-clause-pages g c = λ code collection is.
     let inv = c.loop-place.invariant in
     let text = texts_later _ _ _ _ code collection inv.same inv.looked.files is in
-    pages_cut code collection c.args.mode c.args.rows.now c.loop-place.place c.row-row.result.number c.row-row.result.score _ _ _ _ _ (g.S.Store.reads c.loop-place.store) (g.S.Store.reads c.show_doc.new.store) (omega arith) c.row-row.ensures.number c.row-row.ensures.score (inv.shown code collection is)
+    pages_cut code collection c.args.mode c.args.rows.now c.loop-place.place c.row-row.result.number c.row-row.result.score _ _ _ _ _
+    (g.S.Store.reads c.loop-place.store) (g.S.Store.reads c.show_doc.new.store) (omega arith) c.row-row.ensures.number c.row-row.ensures.score
+    (inv.shown code collection is)
     (c.in-Err.ensures.pages code collection text)
 
 pub returns-in-Err-clause-sound : goal.returns-in-Err-clause-sound
@@ -58,9 +71,15 @@ returns-in-Err-clause-sound g c = λ code collection is.
 pub returns-clause-content : goal.returns-clause-content
 returns-clause-content g c = λ code collection is.
     let all : c.loop-place.place ≡ length c.args.rows.now = omega arith in
-    rows_passed code collection c.args.mode c.args.rows.now _ _ _ _ (g.S.Store.reads c.args.store.now) (g.S.Store.reads c.loop-place.store) (subst (λ k. RowsShown code collection c.args.mode c.args.rows.now k (g.O.Sink.written c.args.out.now) (g.O.Sink.written c.loop-place.out) c.args.pending.now c.loop-place.pending (g.S.Store.reads c.args.store.now) (g.S.Store.reads c.loop-place.store)) all (c.loop-place.invariant.shown code collection is))
+    rows_passed code collection c.args.mode c.args.rows.now _ _ _ _ (g.S.Store.reads c.args.store.now) (g.S.Store.reads c.loop-place.store)
+    (subst (λ k. RowsShown code collection c.args.mode c.args.rows.now k (g.O.Sink.written c.args.out.now) (g.O.Sink.written c.loop-place.out)
+    c.args.pending.now c.loop-place.pending (g.S.Store.reads c.args.store.now) (g.S.Store.reads c.loop-place.store)) all
+    (c.loop-place.invariant.shown code collection is))
 
 pub returns-clause-pages : goal.returns-clause-pages
 returns-clause-pages g c = λ code collection is.
     let all : c.loop-place.place ≡ length c.args.rows.now = omega arith in
-    rows_read code collection c.args.mode c.args.rows.now (g.O.Sink.written c.args.out.now) (g.O.Sink.written c.loop-place.out) c.args.pending.now c.loop-place.pending _ _ (subst (λ k. RowsShown code collection c.args.mode c.args.rows.now k (g.O.Sink.written c.args.out.now) (g.O.Sink.written c.loop-place.out) c.args.pending.now c.loop-place.pending (g.S.Store.reads c.args.store.now) (g.S.Store.reads c.loop-place.store)) all (c.loop-place.invariant.shown code collection is))
+    rows_read code collection c.args.mode c.args.rows.now (g.O.Sink.written c.args.out.now) (g.O.Sink.written c.loop-place.out) c.args.pending.now
+    c.loop-place.pending _ _ (subst (λ k. RowsShown code collection c.args.mode c.args.rows.now k (g.O.Sink.written c.args.out.now)
+    (g.O.Sink.written c.loop-place.out) c.args.pending.now c.loop-place.pending (g.S.Store.reads c.args.store.now) (g.S.Store.reads c.loop-place.store)) all
+    (c.loop-place.invariant.shown code collection is))

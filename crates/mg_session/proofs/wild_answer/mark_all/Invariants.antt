@@ -12,6 +12,8 @@ invariant-loop-number g l = record {
   files : g.S.Store.files l.store ≡ g.S.Store.files l.fn.store;
   reads : ReadsLists (g.S.Store.reads l.fn.store) (g.S.Store.reads l.store);
   faults : g.S.Store.faults l.fn.store ≤ g.S.Store.faults l.store;
-  added : (collection : List ℕ) → WildSources l.base (g.S.Store.files l.fn.store) l.terms l.all collection → AddsLists collection (terms_at collection (take l.number-index l.numbers)) l.fn.marked l.marked;
-  post : (collection : List ℕ) → WildSources l.base (g.S.Store.files l.fn.store) l.terms l.all collection → PostWithin g.S.Store.reads l.fn.store l.store (ranked_bound collection (terms_at collection (take l.number-index l.numbers)));
+  added : (collection : List ℕ) → WildSources l.base (g.S.Store.files l.fn.store) l.terms l.all collection →
+      AddsLists collection (terms_at collection (take l.number-index l.numbers)) l.fn.marked l.marked;
+  post : (collection : List ℕ) → WildSources l.base (g.S.Store.files l.fn.store) l.terms l.all collection →
+      PostWithin g.S.Store.reads l.fn.store l.store (ranked_bound collection (terms_at collection (take l.number-index l.numbers)));
 }

@@ -25,7 +25,8 @@ returns-in-Ok-None-clause-answer g c = λ collection t stand i all_is.
     let stand2 = subst (λ fs. ListsStand c.args.base.now fs collection) (sym c.loop-last.invariant.files) stand in
     let f = c.loop-last.invariant.list collection t stand i all_is in
     let a = (rw c.in-Ok-None.field-0-is at c.in-Ok-None.ensures.answer) c.args.base.now collection t stand2 f in
-    marking_end collection t c.loop-last.last c.args.marked.now c.loop-last.marked (c.loop-last.invariant.walk collection t stand i all_is) (λ d low le. none_at collection t c.loop-last.last d (sym a.found_is) low le)
+    marking_end collection t c.loop-last.last c.args.marked.now c.loop-last.marked (c.loop-last.invariant.walk collection t stand i all_is)
+    (λ d low le. none_at collection t c.loop-last.last d (sym a.found_is) low le)
 
 pub returns-in-Err-next_behind-clause-answer : goal.returns-in-Err-next_behind-clause-answer
 returns-in-Err-next_behind-clause-answer g c = λ collection t stand i all_is.
@@ -52,7 +53,8 @@ loop-last-preserved g c =
           let stand2 = subst (λ fs. ListsStand c.args.base.now fs collection) (sym c.loop-last.invariant.files) stand in
           let f = c.loop-last.invariant.list collection t stand i all_is in
           let a = (rw c.in-Ok-Some.field-0-is at c.in-Ok-Some.ensures.answer) c.args.base.now collection t stand2 f in
-          marking_next collection t c.loop-last.last c.args.marked.now c.loop-last.marked _ c.in-Ok-Some.posting (c.loop-last.invariant.walk collection t stand i all_is) (sym a.found_is) later (omega (arith, within, all_is)) c.mark.ensures.marked;
+          marking_next collection t c.loop-last.last c.args.marked.now c.loop-last.marked _ c.in-Ok-Some.posting
+          (c.loop-last.invariant.walk collection t stand i all_is) (sym a.found_is) later (omega (arith, within, all_is)) c.mark.ensures.marked;
       list = λ collection t stand i all_is.
           let stand2 = subst (λ fs. ListsStand c.args.base.now fs collection) (sym c.loop-last.invariant.files) stand in
           let f = c.loop-last.invariant.list collection t stand i all_is in
@@ -72,20 +74,37 @@ mark-requires-clause-within g c = let from = (rw c.in-Ok-Some.field-0-is at c.in
 
 pub returns-clause-answer : goal.returns-clause-answer
 returns-clause-answer g c = λ collection t stand i all_is.
-    marking_end collection t c.loop-last.last c.args.marked.now c.loop-last.marked (c.loop-last.invariant.walk collection t stand i all_is) (λ d low le. absurd (omega (arith, c.loop-last-test.false, all_is, low, le)))
+    marking_end collection t c.loop-last.last c.args.marked.now c.loop-last.marked (c.loop-last.invariant.walk collection t stand i all_is)
+    (λ d low le. absurd (omega (arith, c.loop-last-test.false, all_is, low, le)))
 
 pub returns-in-Ok-None-clause-pages : goal.returns-in-Ok-None-clause-pages
 returns-in-Ok-None-clause-pages g c = λ collection t stand i all_is.
     let stand2 = subst (λ fs. ListsStand c.args.base.now fs collection) (sym c.loop-last.invariant.files) stand in
     let f = c.loop-last.invariant.list collection t stand i all_is in
-    omega (arith, c.loop-last.invariant.post collection t stand i all_is, c.next_behind.ensures.post c.args.base.now collection t stand2 f, c.next_behind.ensures.within c.args.base.now collection t stand2 f)
+    omega (
+      arith,
+      c.loop-last.invariant.post collection t stand i all_is,
+      c.next_behind.ensures.post c.args.base.now collection t stand2 f,
+      c.next_behind.ensures.within c.args.base.now collection t stand2 f,
+    )
 
 pub returns-in-Err-next_behind-clause-pages : goal.returns-in-Err-next_behind-clause-pages
 returns-in-Err-next_behind-clause-pages g c = λ collection t stand i all_is.
     let stand2 = subst (λ fs. ListsStand c.args.base.now fs collection) (sym c.loop-last.invariant.files) stand in
     let f = c.loop-last.invariant.list collection t stand i all_is in
-    omega (arith, c.loop-last.invariant.post collection t stand i all_is, c.next_behind.ensures.post c.args.base.now collection t stand2 f, c.next_behind.ensures.within c.args.base.now collection t stand2 f)
+    omega (
+      arith,
+      c.loop-last.invariant.post collection t stand i all_is,
+      c.next_behind.ensures.post c.args.base.now collection t stand2 f,
+      c.next_behind.ensures.within c.args.base.now collection t stand2 f,
+    )
 
 pub returns-clause-pages : goal.returns-clause-pages
 returns-clause-pages g c = λ collection t stand i all_is.
-    omega (arith, c.loop-last.invariant.post collection t stand i all_is, c.cursor_pages_are_within.ensures c.args.base.now collection (numbers_in (postings collection t)) t c.loop-last.last _ (c.loop-last.invariant.list collection t stand i all_is), pages_in_list collection (numbers_in (postings collection t)) t)
+    omega (
+      arith,
+      c.loop-last.invariant.post collection t stand i all_is,
+      c.cursor_pages_are_within.ensures c.args.base.now collection (numbers_in (postings collection t)) t c.loop-last.last _
+          (c.loop-last.invariant.list collection t stand i all_is),
+      pages_in_list collection (numbers_in (postings collection t)) t,
+    )

@@ -17,9 +17,12 @@ invariant-loop-last g l = record {
   files : g.S.Store.files l.store ≡ g.S.Store.files l.fn.store;
   reads : ReadsLists (g.S.Store.reads l.fn.store) (g.S.Store.reads l.store);
   faults : g.S.Store.faults l.fn.store ≤ g.S.Store.faults l.store;
-  walk : (collection t : List ℕ) → ListsStand l.base (g.S.Store.files l.fn.store) collection → IsInfoOf collection t l.info → l.all ≡ length (documents collection) → Marking collection t l.last l.fn.marked l.marked;
-  list : (collection t : List ℕ) → ListsStand l.base (g.S.Store.files l.fn.store) collection → IsInfoOf collection t l.info → l.all ≡ length (documents collection) → ListFor l.base collection t l.last l.cursor;
-  post : (collection t : List ℕ) → ListsStand l.base (g.S.Store.files l.fn.store) collection → IsInfoOf collection t l.info → l.all ≡ length (documents collection) → g.S.Store.reads l.store part.Post ≤ g.S.Store.reads l.fn.store part.Post + post_pages l.cursor;
+  walk : (collection t : List ℕ) → ListsStand l.base (g.S.Store.files l.fn.store) collection → IsInfoOf collection t l.info →
+      l.all ≡ length (documents collection) → Marking collection t l.last l.fn.marked l.marked;
+  list : (collection t : List ℕ) → ListsStand l.base (g.S.Store.files l.fn.store) collection → IsInfoOf collection t l.info →
+      l.all ≡ length (documents collection) → ListFor l.base collection t l.last l.cursor;
+  post : (collection t : List ℕ) → ListsStand l.base (g.S.Store.files l.fn.store) collection → IsInfoOf collection t l.info →
+      l.all ≡ length (documents collection) → g.S.Store.reads l.store part.Post ≤ g.S.Store.reads l.fn.store part.Post + post_pages l.cursor;
 }
 
 abbrev pub decreases-loop-last : goal.decreases-loop-last

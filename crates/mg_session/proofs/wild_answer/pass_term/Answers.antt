@@ -11,4 +11,5 @@ pub returns-in-Err-put-2-clause-content : goal.returns-in-Err-put-2-clause-conte
 returns-in-Err-put-2-clause-content g c = term_cut_third c.args.term.now c.args.docs _ _ _ _ c.args.pending.now _ _ c.in-Ok.ensures.content c.in-Ok-put.ensures.content c.in-Err-put-2.ensures.content
 
 pub returns-in-Ok-put-2-clause-content : goal.returns-in-Ok-put-2-clause-content
-returns-in-Ok-put-2-clause-content g c = term_passed c.args.term.now c.args.docs _ _ _ _ _ c.args.pending.now _ _ _ _ _ c.in-Ok.ensures.content c.in-Ok-put.ensures.content c.in-Ok-put-2.ensures.content c.row.ensures.content
+returns-in-Ok-put-2-clause-content g c = term_passed c.args.term.now c.args.docs _ _ _ _ _ c.args.pending.now _ _ _ _ _ c.in-Ok.ensures.content
+    c.in-Ok-put.ensures.content c.in-Ok-put-2.ensures.content c.row.ensures.content

@@ -16,18 +16,23 @@ loop-number-preserved g c =
       output = omega (arith, inv.output, c.in-Ok.ensures.cause.later);
       lacks = omega (arith, inv.lacks, c.in-Ok.ensures.lack.later);
       passed = λ collection has tells.
-          let told = told_info collection c.args.terms.now n c.info-info.result has tells (c.requires.terms c.loop-number.number-index 0 c.loop-number-test.true) c.info-info.ensures.info c.info-info.ensures.number in
+          let told = told_info collection c.args.terms.now n c.info-info.result has tells
+          (c.requires.terms c.loop-number.number-index 0 c.loop-number-test.true) c.info-info.ensures.info c.info-info.ensures.number in
           let named = c.term.ensures ∙ ap (λ ts. get_or ts n []) has.terms in
-          terms_passed collection c.args.numbers.now c.loop-number.number-index n c.info-info.result.docs c.term.result.now _ _ _ _ _ _ c.loop-number-test.true refl named (told_docs collection _ c.info-info.result told) (inv.passed collection has tells) c.in-Ok.ensures.content;
+          terms_passed collection c.args.numbers.now c.loop-number.number-index n c.info-info.result.docs c.term.result.now _ _ _ _ _ _ c.loop-number-test.true
+          refl named (told_docs collection _ c.info-info.result told) (inv.passed collection has tells) c.in-Ok.ensures.content;
     }
 
 pub returns-in-Err-clause-content : goal.returns-in-Err-clause-content
 returns-in-Err-clause-content g c = λ collection has tells.
     let inv = c.loop-number.invariant in
     let n = (get_or c.args.numbers.now c.loop-number.number-index 0) in
-    let told = told_info collection c.args.terms.now n c.info-info.result has tells (c.requires.terms c.loop-number.number-index 0 c.loop-number-test.true) c.info-info.ensures.info c.info-info.ensures.number in
+    let told = told_info collection c.args.terms.now n c.info-info.result has tells (c.requires.terms c.loop-number.number-index 0 c.loop-number-test.true)
+    c.info-info.ensures.info c.info-info.ensures.number in
     let named = c.term.ensures ∙ ap (λ ts. get_or ts n []) has.terms in
-    terms_cut collection c.args.numbers.now c.loop-number.number-index n c.info-info.result.docs c.term.result.now _ _ _ _ _ c.loop-number-test.true refl named (told_docs collection _ c.info-info.result told) (inv.passed collection has tells) c.in-Err.ensures.content
+    terms_cut collection c.args.numbers.now c.loop-number.number-index n c.info-info.result.docs c.term.result.now _ _ _ _ _ c.loop-number-test.true refl named
+    (told_docs collection _ c.info-info.result told) (inv.passed collection has tells) c.in-Err.ensures.content
 
 pub returns-clause-content : goal.returns-clause-content
-returns-clause-content g c = λ collection has tells. terms_all collection c.args.numbers.now c.loop-number.number-index _ _ _ _ (omega (arith, c.loop-number-test.false, c.loop-number.auto.number-index-end)) (c.loop-number.invariant.passed collection has tells)
+returns-clause-content g c = λ collection has tells. terms_all collection c.args.numbers.now c.loop-number.number-index _ _ _ _
+    (omega (arith, c.loop-number-test.false, c.loop-number.auto.number-index-end)) (c.loop-number.invariant.passed collection has tells)

@@ -7,7 +7,8 @@ use Rattle.mg_session.proofs.wild_searcher.put_bad_pattern.Goals as goal
 pub returns-in-Err-clause-content : goal.returns-in-Err-clause-content
 unfolding bad_pattern row
 returns-in-Err-clause-content g c =
-    pass_refused _ _ c.new-pending.result (codes "? bad pattern at " ++ row c.args.at None) c.new-pending.ensures (pass_part _ _ c.new-pending.result (codes "? bad pattern at ") (row c.args.at None) c.in-Err.ensures.content)
+    pass_refused _ _ c.new-pending.result (codes "? bad pattern at " ++ row c.args.at None) c.new-pending.ensures
+    (pass_part _ _ c.new-pending.result (codes "? bad pattern at ") (row c.args.at None) c.in-Err.ensures.content)
 
 pub returns-in-Err-row-clause-content : goal.returns-in-Err-row-clause-content
 unfolding bad_pattern row

@@ -13,7 +13,8 @@ pub returns-in-Err-clause-told : goal.returns-in-Err-clause-told
 returns-in-Err-clause-told g c = λ before bytes doc all few small shows shown.
     let code = c.args.model.now in
     let x = gamma (length (parse doc) + 1) in
-    ends_read c.in-Err.refusal _ (ReadsWithin _ _ _ _ c.args.r.now.place (c.args.r.now.place + length x)) _ _ (λ pages. head_stopped _ _ _ _ c.args.r.now.place code doc before _ _ bytes (g.met.F.Feed.whole_pages c.args.r.now.feed).some shown pages)
+    ends_read c.in-Err.refusal _ (ReadsWithin _ _ _ _ c.args.r.now.place (c.args.r.now.place + length x)) _ _
+    (λ pages. head_stopped _ _ _ _ c.args.r.now.place code doc before _ _ bytes (g.met.F.Feed.whole_pages c.args.r.now.feed).some shown pages)
     (c.in-Err.ensures.told (length (parse doc)) few (omega (arith, small, length-append x (coded_pairs code (parse doc)))) (shows_left _ c.args.r.now.place x (coded_pairs code (parse doc)) shows))
 
 pub returns-in-Err-clause-added : goal.returns-in-Err-clause-added
@@ -25,8 +26,11 @@ returns-in-Err-show_pairs-clause-told g c = λ before bytes doc all few small sh
     let x = gamma (length (parse doc) + 1) in
     let y = coded_pairs code (parse doc) in
     let head = c.in-Ok.ensures.told (length (parse doc)) few (omega (arith, small, length-append x y)) (shows_left _ c.args.r.now.place x y shows) in
-    ends_more c.in-Err-show_pairs.refusal _ _ _ _ (λ stopped. doc_stopped _ _ _ _ _ _ c.args.r.now.place c.get_count.new.r.place code doc before _ _ _ bytes (g.met.F.Feed.whole_pages c.args.r.now.feed).some head.1 shown head.2 stopped)
-    (c.in-Err-show_pairs.ensures.told before bytes (parse doc) all head.0 (omega (arith, small, length-append x y, head.1)) (shows_next _ _ _ _ c.args.r.now.place c.get_count.new.r.place x y c.in-Ok.ensures.calm head.1 shows) shown)
+    ends_more c.in-Err-show_pairs.refusal _ _ _ _ (λ stopped.
+    doc_stopped _ _ _ _ _ _ c.args.r.now.place c.get_count.new.r.place code doc before _ _ _ bytes (g.met.F.Feed.whole_pages c.args.r.now.feed).some head.1
+    shown head.2 stopped)
+    (c.in-Err-show_pairs.ensures.told before bytes (parse doc) all head.0 (omega (arith, small, length-append x y, head.1))
+    (shows_next _ _ _ _ c.args.r.now.place c.get_count.new.r.place x y c.in-Ok.ensures.calm head.1 shows) shown)
 
 pub returns-in-Ok-show_pairs-clause-told : goal.returns-in-Ok-show_pairs-clause-told
 returns-in-Ok-show_pairs-clause-told g c = λ before bytes doc all few small shows shown.
@@ -34,5 +38,7 @@ returns-in-Ok-show_pairs-clause-told g c = λ before bytes doc all few small sho
     let x = gamma (length (parse doc) + 1) in
     let y = coded_pairs code (parse doc) in
     let head = c.in-Ok.ensures.told (length (parse doc)) few (omega (arith, small, length-append x y)) (shows_left _ c.args.r.now.place x y shows) in
-    let pairs = c.in-Ok-show_pairs.ensures.told before bytes (parse doc) all head.0 (omega (arith, small, length-append x y, head.1)) (shows_next _ _ _ _ c.args.r.now.place c.get_count.new.r.place x y c.in-Ok.ensures.calm head.1 shows) shown in
-    doc_decoded _ _ _ _ _ _ c.args.r.now.place c.get_count.new.r.place c.show_pairs.new.r.place code doc before _ _ _ _ bytes (g.met.F.Feed.whole_pages c.args.r.now.feed).some head.1 shown head.2 pairs
+    let pairs = c.in-Ok-show_pairs.ensures.told before bytes (parse doc) all head.0 (omega (arith, small, length-append x y, head.1))
+    (shows_next _ _ _ _ c.args.r.now.place c.get_count.new.r.place x y c.in-Ok.ensures.calm head.1 shows) shown in
+    doc_decoded _ _ _ _ _ _ c.args.r.now.place c.get_count.new.r.place c.show_pairs.new.r.place code doc before _ _ _ _ bytes
+    (g.met.F.Feed.whole_pages c.args.r.now.feed).some head.1 shown head.2 pairs

@@ -5,7 +5,8 @@ use Rattle.mg_text.proofs.PairLaws.{put_refused}
 use Rattle.mg_text.proofs.decoder.show_doc.Goals as goal
 
 pub returns-in-Err-clause-told : goal.returns-in-Err-clause-told
-returns-in-Err-clause-told g c = λ doc all few small shows. ends_more c.in-Err.refusal _ _ _ _ (λ stopped. stopped) (c.in-Err.ensures.told _ [] doc all few small shows (rw c.requires.empty (shown_none _)))
+returns-in-Err-clause-told g c = λ doc all few small shows.
+    ends_more c.in-Err.refusal _ _ _ _ (λ stopped. stopped) (c.in-Err.ensures.told _ [] doc all few small shows (rw c.requires.empty (shown_none _)))
 
 pub returns-in-Ok-flush-clause-told : goal.returns-in-Ok-flush-clause-told
 returns-in-Ok-flush-clause-told g c = λ doc all few small shows.

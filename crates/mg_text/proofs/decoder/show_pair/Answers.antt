@@ -18,8 +18,10 @@ returns-in-Ok-show_piece-clause-told g c = λ before bytes p is small shows show
     let x = codeword_of c.args.model.now.words p.word in
     let y = codeword_of c.args.model.now.others p.other in
     let first = c.in-Ok.ensures.told before bytes p.word is.word (omega (arith, small, length-append x y)) (shows_left _ c.args.r.now.place x y shows) shown in
-    let second = c.in-Ok-show_piece.ensures.told before (bytes ++ p.word) p.other is.other (omega (arith, small, length-append x y, first.at_end)) (shows_next _ _ _ _ c.args.r.now.place c.show_piece.new.r.place x y c.in-Ok.ensures.calm first.at_end shows) first.shown in
-    both_decoded _ _ _ _ _ _ c.args.r.now.place c.show_piece.new.r.place c.show_piece-2.new.r.place x y before _ _ _ _ bytes p.word p.other (g.met.F.Feed.whole_pages c.args.r.now.feed).some first second
+    let second = c.in-Ok-show_piece.ensures.told before (bytes ++ p.word) p.other is.other (omega (arith, small, length-append x y, first.at_end))
+    (shows_next _ _ _ _ c.args.r.now.place c.show_piece.new.r.place x y c.in-Ok.ensures.calm first.at_end shows) first.shown in
+    both_decoded _ _ _ _ _ _ c.args.r.now.place c.show_piece.new.r.place c.show_piece-2.new.r.place x y before _ _ _ _ bytes p.word p.other
+    (g.met.F.Feed.whole_pages c.args.r.now.feed).some first second
 
 pub returns-in-Ok-show_piece-clause-added : goal.returns-in-Ok-show_piece-clause-added
 returns-in-Ok-show_piece-clause-added g c = added_more _ _ _ _ _ _ _ _ _ c.in-Ok.ensures.added c.in-Ok-show_piece.ensures.added
@@ -29,8 +31,11 @@ returns-in-Err-show_piece-clause-told g c = λ before bytes p is small shows sho
     let x = codeword_of c.args.model.now.words p.word in
     let y = codeword_of c.args.model.now.others p.other in
     let first = c.in-Ok.ensures.told before bytes p.word is.word (omega (arith, small, length-append x y)) (shows_left _ c.args.r.now.place x y shows) shown in
-    ends_more c.in-Err-show_piece.refusal _ _ _ _ (λ stopped. second_stopped _ _ _ _ _ _ c.args.r.now.place c.show_piece.new.r.place x y before _ _ _ bytes p.word p.other (g.met.F.Feed.whole_pages c.args.r.now.feed).some first stopped)
-    (c.in-Err-show_piece.ensures.told before (bytes ++ p.word) p.other is.other (omega (arith, small, length-append x y, first.at_end)) (shows_next _ _ _ _ c.args.r.now.place c.show_piece.new.r.place x y c.in-Ok.ensures.calm first.at_end shows) first.shown)
+    ends_more c.in-Err-show_piece.refusal _ _ _ _ (λ stopped.
+    second_stopped _ _ _ _ _ _ c.args.r.now.place c.show_piece.new.r.place x y before _ _ _ bytes p.word p.other
+    (g.met.F.Feed.whole_pages c.args.r.now.feed).some first stopped)
+    (c.in-Err-show_piece.ensures.told before (bytes ++ p.word) p.other is.other (omega (arith, small, length-append x y, first.at_end))
+    (shows_next _ _ _ _ c.args.r.now.place c.show_piece.new.r.place x y c.in-Ok.ensures.calm first.at_end shows) first.shown)
 
 pub returns-in-Err-show_piece-clause-added : goal.returns-in-Err-show_piece-clause-added
 returns-in-Err-show_piece-clause-added g c = added_more _ _ _ _ _ _ _ _ _ c.in-Ok.ensures.added c.in-Err-show_piece.ensures.added

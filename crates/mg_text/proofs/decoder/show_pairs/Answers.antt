@@ -20,10 +20,12 @@ returns-in-Err-clause-told g c = λ before bytes ps all count small shows shown.
     let code = c.args.model.now in
     let same = ap g.F.Feed.feeding c.if-show_held.ensures.feed in
     let calm = calm_same _ _ (g.F.Feed.feeding c.show_held.new.r.feed) _ _ same c.loop-i.invariant.calm in
-    let first = decoded_same _ _ (g.F.Feed.feeding c.show_held.new.r.feed) _ _ _ _ _ c.show_held.new.r.place _ _ _ c.show_held.new.buffer _ same c.if-show_held.ensures.place c.if-show_held.ensures.kept
+    let first = decoded_same _ _ (g.F.Feed.feeding c.show_held.new.r.feed) _ _ _ _ _ c.show_held.new.r.place _ _ _ c.show_held.new.buffer _ same
+    c.if-show_held.ensures.place c.if-show_held.ensures.kept
     (c.loop-i.invariant.told before bytes ps all count small shows shown) in
     let next = next_pair code ps c.loop-i._i all (omega (arith, count, c.loop-i-test.true)) in
-    ends_more c.in-Err.refusal _ _ _ _ (λ stopped. pairs_stopped _ _ _ _ _ _ c.args.r.now.place c.show_held.new.r.place code ps c.loop-i._i before _ _ _ bytes (g.met.F.Feed.whole_pages c.args.r.now.feed).some next first stopped)
+    ends_more c.in-Err.refusal _ _ _ _ (λ stopped. pairs_stopped _ _ _ _ _ _ c.args.r.now.place c.show_held.new.r.place code ps c.loop-i._i before _ _ _ bytes
+    (g.met.F.Feed.whole_pages c.args.r.now.feed).some next first stopped)
     (c.in-Err.ensures.told before (bytes ++ text (take c.loop-i._i ps)) next.pair next.there (pair_small c.args.r.now.place c.show_held.new.r.place code ps c.loop-i._i next first.at_end small)
     (pair_shows _ _ _ _ c.args.r.now.place c.show_held.new.r.place code ps c.loop-i._i next calm first.at_end shows) first.shown)
 
@@ -40,7 +42,8 @@ loop-i-preserved-then-show_held g c = record {
       let first = c.loop-i.invariant.told before bytes ps all count small shows shown in
       let next = next_pair code ps c.loop-i._i all (omega (arith, count, c.loop-i-test.true)) in
       let second = c.if-show_held.ensures.told (g.F.Feed.device c.loop-i.dev) (g.O.Sink.written c.loop-i.out) c.loop-i.invariant.fits before (bytes ++ text (take c.loop-i._i ps)) next.pair next.there
-      (pair_small c.args.r.now.place c.loop-i.r.place code ps c.loop-i._i next first.at_end small) (pair_shows _ _ _ _ c.args.r.now.place c.loop-i.r.place code ps c.loop-i._i next c.loop-i.invariant.calm first.at_end shows) first.shown in
+      (pair_small c.args.r.now.place c.loop-i.r.place code ps c.loop-i._i next first.at_end small)
+      (pair_shows _ _ _ _ c.args.r.now.place c.loop-i.r.place code ps c.loop-i._i next c.loop-i.invariant.calm first.at_end shows) first.shown in
       pairs_more _ _ _ _ _ _ c.args.r.now.place c.loop-i.r.place c.show_held.new.r.place code ps c.loop-i._i before _ _ _ _ bytes (g.met.F.Feed.whole_pages c.args.r.now.feed).some next first second;
 }
 
@@ -54,12 +57,15 @@ loop-i-preserved g c =
       added = added_more _ _ _ _ _ _ _ _ _ c.loop-i.invariant.added c.in-Ok.ensures.added;
       told = λ before bytes ps all count small shows shown.
           let code = c.args.model.now in
-          let first = decoded_same _ _ (g.F.Feed.feeding c.show_held.new.r.feed) _ _ _ _ _ c.show_held.new.r.place _ _ _ c.show_held.new.buffer _ same c.if-show_held.ensures.place c.if-show_held.ensures.kept
+          let first = decoded_same _ _ (g.F.Feed.feeding c.show_held.new.r.feed) _ _ _ _ _ c.show_held.new.r.place _ _ _ c.show_held.new.buffer _ same
+          c.if-show_held.ensures.place c.if-show_held.ensures.kept
           (c.loop-i.invariant.told before bytes ps all count small shows shown) in
           let next = next_pair code ps c.loop-i._i all (omega (arith, count, c.loop-i-test.true)) in
-          let second = c.in-Ok.ensures.told before (bytes ++ text (take c.loop-i._i ps)) next.pair next.there (pair_small c.args.r.now.place c.show_held.new.r.place code ps c.loop-i._i next first.at_end small)
+          let second = c.in-Ok.ensures.told before (bytes ++ text (take c.loop-i._i ps)) next.pair next.there
+          (pair_small c.args.r.now.place c.show_held.new.r.place code ps c.loop-i._i next first.at_end small)
           (pair_shows _ _ _ _ c.args.r.now.place c.show_held.new.r.place code ps c.loop-i._i next calm first.at_end shows) first.shown in
-          pairs_more _ _ _ _ _ _ c.args.r.now.place c.show_held.new.r.place c.show_pair.new.r.place code ps c.loop-i._i before _ _ _ _ bytes (g.met.F.Feed.whole_pages c.args.r.now.feed).some next first second;
+          pairs_more _ _ _ _ _ _ c.args.r.now.place c.show_held.new.r.place c.show_pair.new.r.place code ps c.loop-i._i before _ _ _ _ bytes
+          (g.met.F.Feed.whole_pages c.args.r.now.feed).some next first second;
     }
 
 pub returns-clause-told : goal.returns-clause-told

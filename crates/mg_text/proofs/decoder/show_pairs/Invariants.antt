@@ -12,6 +12,7 @@ invariant-loop-i g l = record {
   added : Added (g.O.Sink.written l.fn.out) (g.O.Sink.written l.out) (g.O.Sink.faults l.fn.out) (g.O.Sink.faults l.out) (g.O.Sink.lacks l.fn.out) (g.O.Sink.lacks l.out);
   told : (before : Option (List ℕ)) (bytes : List ℕ) (ps : List Pair) → PairsIn l.model ps → l.count ≡ length ps → l.fn.r.place + length (coded_pairs l.model ps) ≤ 2 ^ 63 →
       Shows ((g.F.Feed.feeding l.fn.r.feed).source (g.F.Feed.device l.fn.dev).files) l.fn.r.place (coded_pairs l.model ps) → Shown before (g.O.Sink.written l.fn.out) l.fn.buffer bytes →
-      Decoded (g.F.Feed.feeding l.fn.r.feed) (g.F.Feed.feeding l.r.feed) (g.F.Feed.device l.fn.dev) (g.F.Feed.device l.dev) l.fn.r.place (l.fn.r.place + length (coded_pairs l.model (take l._i ps))) l.r.place
+      Decoded (g.F.Feed.feeding l.fn.r.feed) (g.F.Feed.feeding l.r.feed) (g.F.Feed.device l.fn.dev) (g.F.Feed.device l.dev) l.fn.r.place
+      (l.fn.r.place + length (coded_pairs l.model (take l._i ps))) l.r.place
       before (g.O.Sink.written l.out) l.buffer (bytes ++ text (take l._i ps));
 }

@@ -5,8 +5,11 @@ use Rattle.mg_text.proofs.places.wide_place.Goals as goal
 
 pub returns-in-Ok-true-clause-told : goal.returns-in-Ok-true-clause-told
 returns-in-Ok-true-clause-told g c = λ told p small stands.
-    ap Some (filled_eight c.in-Ok-true.field-0 c.fill.new.buf (bytes_at (g.S.Store.files c.args.store.now) c.args.places.now.name) (8 * c.from.result) (8 * c.args.index) c.eight_at.result p c.in-Ok-true.field-0-test (c.in-Ok-true.ensures.told told) c.fill.auto.buf (ap (λ n. 8 * n) c.from.ensures) small stands c.eight_at.ensures)
+    ap Some (filled_eight c.in-Ok-true.field-0 c.fill.new.buf (bytes_at (g.S.Store.files c.args.store.now) c.args.places.now.name) (8 * c.from.result)
+    (8 * c.args.index) c.eight_at.result p c.in-Ok-true.field-0-test (c.in-Ok-true.ensures.told told) c.fill.auto.buf (ap (λ n. 8 * n) c.from.ensures) small
+    stands c.eight_at.ensures)
 
 pub returns-in-Ok-false-clause-told : goal.returns-in-Ok-false-clause-told
 returns-in-Ok-false-clause-told g c = λ told p small stands.
-    absurd (unfilled_eight c.in-Ok-false.field-0 c.fill.new.buf (bytes_at (g.S.Store.files c.args.store.now) c.args.places.now.name) (8 * c.from.result) (8 * c.args.index) p c.in-Ok-false.field-0-test (c.in-Ok-false.ensures.told told) c.fill.auto.buf (ap (λ n. 8 * n) c.from.ensures) stands)
+    absurd (unfilled_eight c.in-Ok-false.field-0 c.fill.new.buf (bytes_at (g.S.Store.files c.args.store.now) c.args.places.now.name) (8 * c.from.result)
+    (8 * c.args.index) p c.in-Ok-false.field-0-test (c.in-Ok-false.ensures.told told) c.fill.auto.buf (ap (λ n. 8 * n) c.from.ensures) stands)

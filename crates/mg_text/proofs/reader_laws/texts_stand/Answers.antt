@@ -20,4 +20,5 @@ pub returns-clause-set : goal.returns-clause-set
 returns-clause-set c = set_is_text
 
 pub returns-clause-told : goal.returns-clause-told
-returns-clause-told c = λ base files head code collection told tell stand. set_is_text base files head code collection (told_set files base collection head code record { told = told; stand = stand } tell)
+returns-clause-told c = λ base files head code collection told tell stand.
+    set_is_text base files head code collection (told_set files base collection head code record { told = told; stand = stand } tell)

@@ -7,5 +7,7 @@ use Rattle.mg_text.proofs.symbols.held_symbol.Goals as goal
 
 pub returns-in-Some-clause-told : goal.returns-in-Some-clause-told
 returns-in-Some-clause-told g c = λ s below d fits small shows.
-    let got : c.in-Some.symbol ≡ s = told_got (Below (length c.args.canon.now)) (codeword c.args.canon.now) (codewords_free c.args.canon.now c.count.ensures.good) _ (Ok c.in-Some.symbol) 1 c.args.r.now.place s below shows (c.in-Some.ensures.told d.files fits) in
+    let got : c.in-Some.symbol ≡ s = told_got (Below (length c.args.canon.now)) (codeword c.args.canon.now)
+    (codewords_free c.args.canon.now c.count.ensures.good) _ (Ok c.in-Some.symbol) 1 c.args.r.now.place s below shows
+    (c.in-Some.ensures.told d.files fits) in
     (got, c.in-Some.ensures.place ∙ ap (λ x. c.args.r.now.place + length (codeword c.args.canon.now x)) got, rw got at (c.in-Some.ensures.read d))

@@ -12,7 +12,8 @@ returns-in-Ok-serve-clause-files g c = (c.in-Ok-serve.ensures.queried no_sink no
 
 pub returns-clause-cause : goal.returns-clause-cause
 returns-clause-cause g c = λ collection built.
-    serve_lacks _ _ _ _ collection c.args.questions.now built _ c.in-Ok.ensures.left never_rose never_rose c.requires.short c.in-Err-serve.fault (c.in-Err-serve.ensures.queried no_sink no_sink).served.cause
+    serve_lacks _ _ _ _ collection c.args.questions.now built _ c.in-Ok.ensures.left never_rose never_rose c.requires.short c.in-Err-serve.fault
+    (c.in-Err-serve.ensures.queried no_sink no_sink).served.cause
 
 pub returns-clause-files : goal.returns-clause-files
 returns-clause-files g c = (c.in-Err-serve.ensures.queried no_sink no_sink).served.files

@@ -11,7 +11,8 @@ pub returns-in-Ok-Some-Decode : goal.returns-in-Ok-Some-Decode
 returns-in-Ok-Some-Decode g c = ran_by _ (decode c.in-Ok-Some-Decode.name.now) _ (search rules) (c.run_decode.ensures.does _) c.run_decode.ensures.told
 
 pub returns-in-Ok-Some-Build : goal.returns-in-Ok-Some-Build
-returns-in-Ok-Some-Build g c = ran_by _ (build c.in-Ok-Some-Build.collection.now c.in-Ok-Some-Build.name.now c.in-Ok-Some-Build.budget) _ (search rules) (c.run_build.ensures.does _) c.run_build.ensures.told
+returns-in-Ok-Some-Build g c = ran_by _ (build c.in-Ok-Some-Build.collection.now c.in-Ok-Some-Build.name.now c.in-Ok-Some-Build.budget) _ (search rules)
+    (c.run_build.ensures.does _) c.run_build.ensures.told
 
 pub returns-in-Ok-Some-Trial : goal.returns-in-Ok-Some-Trial
 returns-in-Ok-Some-Trial g c = ran_by _ (trial c.in-Ok-Some-Trial.seed c.in-Ok-Some-Trial.docs) _ (search rules) (c.run_trial.ensures.does _ _) c.run_trial.ensures.told
@@ -23,7 +24,8 @@ pub returns-in-Ok-Some-Check : goal.returns-in-Ok-Some-Check
 returns-in-Ok-Some-Check g c = ran_by _ (check c.in-Ok-Some-Check.name.now) _ (search rules) (c.run_check.ensures.does _) c.run_check.ensures.told
 
 pub returns-in-Ok-Some-Merge : goal.returns-in-Ok-Some-Merge
-returns-in-Ok-Some-Merge g c = ran_by _ (merge c.in-Ok-Some-Merge.first.now c.in-Ok-Some-Merge.second.now c.in-Ok-Some-Merge.new.now) _ (search rules) (c.run_merge.ensures.does _) c.run_merge.ensures.told
+returns-in-Ok-Some-Merge g c = ran_by _ (merge c.in-Ok-Some-Merge.first.now c.in-Ok-Some-Merge.second.now c.in-Ok-Some-Merge.new.now) _ (search rules)
+    (c.run_merge.ensures.does _) c.run_merge.ensures.told
 
 pub returns-in-Ok-None : goal.returns-in-Ok-None
 returns-in-Ok-None g c =

@@ -6,11 +6,13 @@ use Rattle.mg_top.proofs.trials.trial.Goals as goal
 
 pub returns-in-Ok-put_trial_summary-clause-text : goal.returns-in-Ok-put_trial_summary-clause-text
 returns-in-Ok-put_trial_summary-clause-text g c =
-    put_text {T = Unit {0}} _ _ c.args.docs (made_collection c.args.seed c.args.docs) (made_session c.args.seed) c.in-Ok.summary (Ok tt) c.in-Ok.ensures.ends.done c.in-Ok-put_trial_summary.ensures.content
+    put_text {T = Unit {0}} _ _ c.args.docs (made_collection c.args.seed c.args.docs) (made_session c.args.seed) c.in-Ok.summary (Ok tt)
+    c.in-Ok.ensures.ends.done c.in-Ok-put_trial_summary.ensures.content
 
 pub returns-in-Err-put_trial_summary-clause-text : goal.returns-in-Err-put_trial_summary-clause-text
 returns-in-Err-put_trial_summary-clause-text g c =
-    put_text {T = Unit {0}} _ _ c.args.docs (made_collection c.args.seed c.args.docs) (made_session c.args.seed) c.in-Ok.summary (Err c.in-Err-put_trial_summary.refusal) c.in-Ok.ensures.ends.done c.in-Err-put_trial_summary.ensures.content
+    put_text {T = Unit {0}} _ _ c.args.docs (made_collection c.args.seed c.args.docs) (made_session c.args.seed) c.in-Ok.summary
+    (Err c.in-Err-put_trial_summary.refusal) c.in-Ok.ensures.ends.done c.in-Err-put_trial_summary.ensures.content
 
 pub returns-in-Err-clause-text : goal.returns-in-Err-clause-text
 returns-in-Err-clause-text g c = grew_nothing _ _

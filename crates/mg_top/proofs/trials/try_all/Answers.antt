@@ -28,7 +28,8 @@ returns-in-Err-ask_both-clause-ends g c =
     let same : c.bytes-text.result.now ≡ made_collection c.args.seed c.args.docs = told_same _ _ _ c.bytes-text.ensures c.in-Ok.ensures.text in
     let few : length c.bytes-text.result.now ≤ held_bytes = omega arith in
     let built : IsBuilt (g.S.Store.files c.is_decoded.new.store) c.bytes-text.result.now =
-    built_by _ _ _ _ _ c.in-Ok-put_text.ensures.there ((c.in-Ok-build.ensures.made.done (told _ _ _ c.in-Ok-put_text.ensures.there) refl).stands) c.in-Ok-build.ensures.made.others c.in-Ok-is_decoded.ensures.files few in
+    built_by _ _ _ _ _ c.in-Ok-put_text.ensures.there ((c.in-Ok-build.ensures.made.done (told _ _ _ c.in-Ok-put_text.ensures.there) refl).stands)
+    c.in-Ok-build.ensures.made.others c.in-Ok-is_decoded.ensures.files few in
     lacking_ends _ _ _ _ _ c.in-Err-ask_both.fault
     (λ rose. rose_within _ _ _ _ (omega (arith, c.in-Ok-put_text.ensures.later, c.in-Ok-build.ensures.later, c.in-Ok-is_decoded.ensures.later)) (omega arith) rose)
     (c.in-Err-ask_both.ensures.cause c.bytes-text.result.now built)

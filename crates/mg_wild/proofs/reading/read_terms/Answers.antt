@@ -17,7 +17,8 @@ loop-walk-init g c =
         others = λ p _. ap (λ s. g.S.Store.reads s p) same;
       };
       gave = record { es = []; gave = c.in-Ok.ensures.gave };
-      taken = taken-none c.in-Ok.walk (g.S.Store.files c.args.store.now) (g.S.Store.files c.load.new._store) (full_name c.args.file.base.now c.args.file.part) c.args.count c.args.size c.in_ok-terms.terms (ap g.S.Store.files same) c.in-Ok.ensures.gave c.in_ok-terms.ensures.terms c.in_ok-terms.ensures.infos;
+      taken = taken-none c.in-Ok.walk (g.S.Store.files c.args.store.now) (g.S.Store.files c.load.new._store) (full_name c.args.file.base.now c.args.file.part)
+          c.args.count c.args.size c.in_ok-terms.terms (ap g.S.Store.files same) c.in-Ok.ensures.gave c.in_ok-terms.ensures.terms c.in_ok-terms.ensures.infos;
       name = c.in-Ok.ensures.name;
       part = c.in-Ok.ensures.part;
       width = c.in-Ok.ensures.width;
@@ -30,7 +31,9 @@ loop-walk-init g c =
 pub returns-then-grown-size-clause-answer : goal.returns-then-grown-size-clause-answer
 returns-then-grown-size-clause-answer g c =
     let inv = c.loop-walk.invariant in
-    never-grown c.loop-walk.walk c.next.new.out (g.S.Store.files c.args.store.now) (g.S.Store.files c.loop-walk.store) (full_name c.args.file.base.now c.args.file.part) c.args.count c.args.size c.loop-walk.terms c.in_ok-next.field-0 (c.size.result + length c.string_in.result.now) inv.taken inv.looked.files inv.name inv.width inv.count c.in_ok-next.ensures.among c.if-branch.true
+    never-grown c.loop-walk.walk c.next.new.out (g.S.Store.files c.args.store.now) (g.S.Store.files c.loop-walk.store)
+    (full_name c.args.file.base.now c.args.file.part) c.args.count c.args.size c.loop-walk.terms c.in_ok-next.field-0
+    (c.size.result + length c.string_in.result.now) inv.taken inv.looked.files inv.name inv.width inv.count c.in_ok-next.ensures.among c.if-branch.true
     (omega (arith, c.size.ensures, ap length c.string_in.ensures.string)) (omega (arith, c.if-grown-size.true))
 
 pub loop-walk-preserved : goal.loop-walk-preserved
@@ -41,7 +44,9 @@ loop-walk-preserved g c =
     record {
       looked = looked-on c.args.file.part c.loop-walk.walk.feed.part _ _ _ _ _ _ _ _ _ inv.looked c.in_ok-next.ensures.looked inv.part;
       gave = record { es = with_next inv.gave.es c.in_ok-next.field-0 (entry_of c.loop-walk.walk.width c.next.new.out); gave = c.in_ok-next.ensures.gave inv.gave.es inv.gave.gave };
-      taken = taken-more c.loop-walk.walk c.next.new.out (g.S.Store.files c.args.store.now) (g.S.Store.files c.loop-walk.store) (full_name c.args.file.base.now c.args.file.part) c.args.count c.args.size c.loop-walk.terms c.push.new.self c.next.new.self.done c.in_ok-next.field-0 inv.taken inv.looked.files inv.name inv.width inv.count c.in_ok-next.ensures.among c.if-branch.true step.1
+      taken = taken-more c.loop-walk.walk c.next.new.out (g.S.Store.files c.args.store.now) (g.S.Store.files c.loop-walk.store)
+          (full_name c.args.file.base.now c.args.file.part) c.args.count c.args.size c.loop-walk.terms c.push.new.self c.next.new.self.done c.in_ok-next.field-0
+          inv.taken inv.looked.files inv.name inv.width inv.count c.in_ok-next.ensures.among c.if-branch.true step.1
           c.in_ok-push.ensures.terms c.in_ok-push.ensures.fields;
       name = same.name ∙ inv.name;
       part = same.part ∙ inv.part;
@@ -49,10 +54,19 @@ loop-walk-preserved g c =
       count = same.count ∙ inv.count;
       space = omega (arith, inv.space, step.0, step.1, same.count, ap length c.in_ok-push.ensures.terms, length-append c.loop-walk.terms.terms (string_of c.next.new.out ∷ []));
       numbered = c.in_ok-push.ensures.numbered;
-      room = omega (arith, ap total c.in_ok-push.ensures.terms, total-push c.loop-walk.terms.terms (string_of c.next.new.out), c.size.ensures, ap length c.string_in.ensures.string, c.if-grown-size.false);
+      room = omega (
+        arith,
+        ap total c.in_ok-push.ensures.terms,
+        total-push c.loop-walk.terms.terms (string_of c.next.new.out),
+        c.size.ensures,
+        ap length c.string_in.ensures.string,
+        c.if-grown-size.false,
+      );
     }
 
 pub returns-clause-answer : goal.returns-clause-answer
 returns-clause-answer g c =
     let inv = c.loop-walk.invariant in
-    taken-all c.loop-walk.walk c.next.new.out (g.S.Store.files c.args.store.now) (g.S.Store.files c.loop-walk.store) (full_name c.args.file.base.now c.args.file.part) c.args.count c.args.size c.loop-walk.terms c.in_ok-next.field-0 inv.taken inv.looked.files inv.name inv.width inv.count c.in_ok-next.ensures.among c.if-branch.false
+    taken-all c.loop-walk.walk c.next.new.out (g.S.Store.files c.args.store.now) (g.S.Store.files c.loop-walk.store)
+    (full_name c.args.file.base.now c.args.file.part) c.args.count c.args.size c.loop-walk.terms c.in_ok-next.field-0 inv.taken inv.looked.files inv.name
+    inv.width inv.count c.in_ok-next.ensures.among c.if-branch.false

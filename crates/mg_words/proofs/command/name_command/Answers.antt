@@ -8,4 +8,5 @@ use Rattle.mg_words.proofs.command.name_command.Goals as goal
 pub returns-clause-given : goal.returns-clause-given
 returns-clause-given c = IfOk-weaker _ _ (λ n. Gives n c.args.id.now) (λ n added.
     given_by n c.args.id.now (plain_more _ n _ _ added c.name_arg.ensures (plain_start _ c.new.ensures.empty.0 c.new.ensures.empty.1 c.new.ensures.local c.new.ensures.negates))
-    (wants_here _ n _ (name_rule c.args.id.now) added c.name_arg.ensures (refl, refl, refl, refl) (new_start _ c.args.id.now c.new.ensures.empty.0)) c.requires.0 c.requires.1 c.requires.2) c.arg.ensures
+    (wants_here _ n _ (name_rule c.args.id.now) added c.name_arg.ensures (refl, refl, refl, refl) (new_start _ c.args.id.now c.new.ensures.empty.0))
+    c.requires.0 c.requires.1 c.requires.2) c.arg.ensures

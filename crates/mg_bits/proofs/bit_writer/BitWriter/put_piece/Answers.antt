@@ -12,7 +12,8 @@ pub returns-in-Ok-clause-bits : goal.returns-in-Ok-clause-bits
 returns-in-Ok-clause-bits g c =
     rw (← c.self.view_is, c.low-self-inside.ensures)
     (wrote_sent _ _ _ _ c.self.inside.rest c.self.inside.count c.args.bits c.args.size
-    (c.self.inside.count + c.args.size - 8) c.join-word.result c.high.result c.self.inside.place c.from-in-Ok.result c.in-Ok.ensures.bytes c.high.ensures (omega arith) c.requires.bits c.join-word.ensures.value c.from-in-Ok.ensures)
+    (c.self.inside.count + c.args.size - 8) c.join-word.result c.high.result c.self.inside.place c.from-in-Ok.result c.in-Ok.ensures.bytes c.high.ensures
+    (omega arith) c.requires.bits c.join-word.ensures.value c.from-in-Ok.ensures)
 
 pub returns-then-total-lt8-clause-held : goal.returns-then-total-lt8-clause-held
 returns-then-total-lt8-clause-held g c = held_few c.self.inside.bytes.buffered (c.self.inside.count + c.args.size) c.join-word.result c.self.invariant.3 (omega arith)

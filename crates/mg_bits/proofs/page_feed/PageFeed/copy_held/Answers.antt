@@ -10,4 +10,5 @@ returns-clause-told g c =
     rw (← c.self.view_is)
     (λ files agrees told.
     page_copied 4096 w.held c.self.inside.page.items _ _ _ w.count c.args.at (c.args.at - w.first) c.args.from c.min-count.result (omega arith) kept.0 kept.1 (agrees.held told)
-    c.self.invariant.1 (omega arith) (omega (arith, c.if-not-has.ensures.high, c.min-count.ensures)) (omega (arith, c.requires.from, c.min-count.ensures)) (rw c.deref.ensures.value at c.copy_from_slice.ensures.after))
+    c.self.invariant.1 (omega arith) (omega (arith, c.if-not-has.ensures.high, c.min-count.ensures)) (omega (arith, c.requires.from, c.min-count.ensures))
+    (rw c.deref.ensures.value at c.copy_from_slice.ensures.after))

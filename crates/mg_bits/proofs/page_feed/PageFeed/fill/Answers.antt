@@ -24,7 +24,8 @@ loop-done-preserved g c =
     }
 
 pub returns-in-Ok-None-clause-part : goal.returns-in-Ok-None-clause-part
-returns-in-Ok-None-clause-part g c = byte_part _ _ _ _ _ _ _ c.loop-done.done _ _ _ (omega arith) refl refl (omega arith) c.loop-done.invariant.read c.in-Ok-None.ensures.calm c.in-Ok-None.ensures.pages
+returns-in-Ok-None-clause-part g c = byte_part _ _ _ _ _ _ _ c.loop-done.done _ _ _ (omega arith) refl refl (omega arith) c.loop-done.invariant.read
+    c.in-Ok-None.ensures.calm c.in-Ok-None.ensures.pages
 
 pub returns-in-Err-clause-part : goal.returns-in-Err-clause-part
 returns-in-Err-clause-part g c = byte_part _ _ _ _ _ _ _ c.loop-done.done _ _ _ (omega arith) refl refl (omega arith) c.loop-done.invariant.read c.in-Err.ensures.calm c.in-Err.ensures.pages

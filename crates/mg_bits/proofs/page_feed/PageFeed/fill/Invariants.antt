@@ -12,7 +12,9 @@ invariant-loop-done g l = record {
   file : SameFile l.fn.self l.self;
   looked : Looked l.fn.self.part (g.S.Store.files l.fn.store) (g.S.Store.files l.store) (g.S.Store.reads l.fn.store) (g.S.Store.reads l.store) (g.S.Store.faults l.fn.store) (g.S.Store.faults l.store);
   told : IsSome (g.S.Store.files l.fn.store) → take l.done l.buf ≡ take l.done (drop l.at (bytes_at (g.S.Store.files l.fn.store) l.fn.self.name));
-  read : Read (feeding_of 4096 l.fn.self) (feeding_of 4096 l.self) (of_store (g.S.Store.files l.fn.store) (g.S.Store.faults l.fn.store) (g.S.Store.reads l.fn.store)) (of_store (g.S.Store.files l.store) (g.S.Store.faults l.store) (g.S.Store.reads l.store)) (8 * l.at) (8 * (l.at + l.done));
+  read : Read (feeding_of 4096 l.fn.self) (feeding_of 4096 l.self)
+      (of_store (g.S.Store.files l.fn.store) (g.S.Store.faults l.fn.store) (g.S.Store.reads l.fn.store))
+      (of_store (g.S.Store.files l.store) (g.S.Store.faults l.store) (g.S.Store.reads l.store)) (8 * l.at) (8 * (l.at + l.done));
 }
 
 abbrev pub decreases-loop-done : goal.decreases-loop-done

@@ -22,4 +22,5 @@ returns-clause-some g c =
     let w = c.self.inside.window in
     rw (← c.self.view_is)
     (λ files agrees has.
-    some_here _ _ c.byte_in.result (rw c.deref.ensures.value at c.byte_in.ensures) (must_have_byte 4096 w.held w.first w.count c.args.at w.reads _ _ _ files (omega arith) c.self.invariant.2 agrees.held has).1)
+    some_here _ _ c.byte_in.result (rw c.deref.ensures.value at c.byte_in.ensures)
+    (must_have_byte 4096 w.held w.first w.count c.args.at w.reads _ _ _ files (omega arith) c.self.invariant.2 agrees.held has).1)

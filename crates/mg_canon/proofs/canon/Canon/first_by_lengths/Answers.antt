@@ -78,7 +78,8 @@ returns-clause-symbol c =
     let f = found items good some read value i.walk some_read stop s.values.items s.symbols.items t.numbered here in
     let spot : get_or s.offsets read 0 + (value - get_or s.firsts read 0) ≡ count_below read items + (value - first_codeword read items) = omega arith in
     let in_symbols : get_or s.offsets read 0 + (value - get_or s.firsts read 0) < length s.symbols.items = omega arith in
-    let symbol : c.index.result.now ≡ f.0 = symbol_index s.symbols.items (get_or s.offsets read 0 + (value - get_or s.firsts read 0)) c.index.result.now c.index.ensures in_symbols ∙ ap (λ p. get_or s.symbols.items p 0) spot ∙ f.2 in
+    let symbol : c.index.result.now ≡ f.0 = symbol_index s.symbols.items (get_or s.offsets read 0 + (value - get_or s.firsts read 0)) c.index.result.now
+    c.index.ensures in_symbols ∙ ap (λ p. get_or s.symbols.items p 0) spot ∙ f.2 in
     rw (← c.self.view_is, symbol) f.1
 
 pub returns-clause-code : goal.returns-clause-code
@@ -102,7 +103,8 @@ returns-clause-code c =
     let f = found items good some read value i.walk some_read stop s.values.items s.symbols.items t.numbered here in
     let spot : get_or s.offsets read 0 + (value - get_or s.firsts read 0) ≡ count_below read items + (value - first_codeword read items) = omega arith in
     let in_symbols : get_or s.offsets read 0 + (value - get_or s.firsts read 0) < length s.symbols.items = omega arith in
-    let symbol : c.index.result.now ≡ f.0 = symbol_index s.symbols.items (get_or s.offsets read 0 + (value - get_or s.firsts read 0)) c.index.result.now c.index.ensures in_symbols ∙ ap (λ p. get_or s.symbols.items p 0) spot ∙ f.2 in
+    let symbol : c.index.result.now ≡ f.0 = symbol_index s.symbols.items (get_or s.offsets read 0 + (value - get_or s.firsts read 0)) c.index.result.now
+    c.index.ensures in_symbols ∙ ap (λ p. get_or s.symbols.items p 0) spot ∙ f.2 in
     rw (← c.self.view_is, symbol) (f.3 ∙ ap (digits read) i.value)
 
 pub returns-then-index-len-clause-none : goal.returns-then-index-len-clause-none

@@ -85,7 +85,8 @@ returns-in-Err-clause-pages g c =
     let short : read ≤ 48 = i.walk.short in
     let unread : (read ≡ 0) ⊎ (value < first_codeword read items) = by_table items s.firsts read value t.first_numbers short c.loop-reader-test.ensures.more in
     rw (← c.self.view_is, c.seek.ensures.feed, ← c.place-start.ensures)
-    (walk_pages _ start (Below (length items)) (codeword items) (digits read value) (g.F.Feed.feeding c.args.reader.now.feed) (g.F.Feed.feeding c.bit.new.self.feed) (g.F.Feed.device c.args.dev.now) (g.F.Feed.device c.bit.new.dev)
+    (walk_pages _ start (Below (length items)) (codeword items) (digits read value) (g.F.Feed.feeding c.args.reader.now.feed)
+    (g.F.Feed.feeding c.bit.new.self.feed) (g.F.Feed.device c.args.dev.now) (g.F.Feed.device c.bit.new.dev)
     (g.met.F.Feed.whole_pages c.args.reader.now.feed).some (codewords_free items good) i.told (cut_short items good some read value i.walk unread)
     (rw (length_digits read value)
     (part_step _ _ _ _ _ _ start read 1 c.loop-reader.reader.place (read + 1) (g.met.F.Feed.whole_pages c.args.reader.now.feed).some i.place (omega arith) i.read c.in-Err.ensures.part)))
@@ -129,7 +130,8 @@ returns-then-place-len-clause-pages g c =
     let stop : first_codeword read items ≤ value = omega arith in
     let out : length items ≤ count_below read items + (value - first_codeword read items) = omega arith in
     rw (← c.self.view_is, c.seek-then-place-len.ensures.feed, ← c.place-start.ensures)
-    (no_pages _ start (Below (length items)) (codeword items) (digits read value) (g.F.Feed.feeding c.args.reader.now.feed) (g.F.Feed.feeding c.loop-reader.reader.feed) (g.F.Feed.device c.args.dev.now) (g.F.Feed.device c.loop-reader.dev)
+    (no_pages _ start (Below (length items)) (codeword items) (digits read value) (g.F.Feed.feeding c.args.reader.now.feed)
+    (g.F.Feed.feeding c.loop-reader.reader.feed) (g.F.Feed.device c.args.dev.now) (g.F.Feed.device c.loop-reader.dev)
     i.told (none_found items good some read value i.walk some_read stop out))
 
 pub returns-then-place-len-clause-told : goal.returns-then-place-len-clause-told
@@ -197,8 +199,10 @@ returns-clause-read g c =
     let f = found items good some read value i.walk some_read stop s.values.items s.symbols.items t.numbered here in
     let spot : get_or s.offsets read 0 + (value - get_or s.firsts read 0) ≡ count_below read items + (value - first_codeword read items) = omega arith in
     let in_symbols : get_or s.offsets read 0 + (value - get_or s.firsts read 0) < length s.symbols.items = omega arith in
-    let symbol : c.index.result.now ≡ f.0 = symbol_index s.symbols.items (get_or s.offsets read 0 + (value - get_or s.firsts read 0)) c.index.result.now c.index.ensures in_symbols ∙ ap (λ p. get_or s.symbols.items p 0) spot ∙ f.2 in
-    let bits : length (codeword c.args.self.now c.index.result.now) ≡ read = ap (λ l. length (codeword l c.index.result.now)) (sym c.self.view_is) ∙ ap (λ k. length (codeword items k)) symbol ∙ ap length f.3 ∙ length_digits read value in
+    let symbol : c.index.result.now ≡ f.0 = symbol_index s.symbols.items (get_or s.offsets read 0 + (value - get_or s.firsts read 0)) c.index.result.now
+    c.index.ensures in_symbols ∙ ap (λ p. get_or s.symbols.items p 0) spot ∙ f.2 in
+    let bits : length (codeword c.args.self.now c.index.result.now) ≡ read = ap (λ l. length (codeword l c.index.result.now)) (sym c.self.view_is)
+    ∙ ap (λ k. length (codeword items k)) symbol ∙ ap length f.3 ∙ length_digits read value in
     rw (bits, ← c.place-start.ensures) i.read
 
 pub returns-clause-place : goal.returns-clause-place
@@ -223,8 +227,10 @@ returns-clause-place g c =
     let f = found items good some read value i.walk some_read stop s.values.items s.symbols.items t.numbered here in
     let spot : get_or s.offsets read 0 + (value - get_or s.firsts read 0) ≡ count_below read items + (value - first_codeword read items) = omega arith in
     let in_symbols : get_or s.offsets read 0 + (value - get_or s.firsts read 0) < length s.symbols.items = omega arith in
-    let symbol : c.index.result.now ≡ f.0 = symbol_index s.symbols.items (get_or s.offsets read 0 + (value - get_or s.firsts read 0)) c.index.result.now c.index.ensures in_symbols ∙ ap (λ p. get_or s.symbols.items p 0) spot ∙ f.2 in
-    let bits : length (codeword c.args.self.now c.index.result.now) ≡ read = ap (λ l. length (codeword l c.index.result.now)) (sym c.self.view_is) ∙ ap (λ k. length (codeword items k)) symbol ∙ ap length f.3 ∙ length_digits read value in
+    let symbol : c.index.result.now ≡ f.0 = symbol_index s.symbols.items (get_or s.offsets read 0 + (value - get_or s.firsts read 0)) c.index.result.now
+    c.index.ensures in_symbols ∙ ap (λ p. get_or s.symbols.items p 0) spot ∙ f.2 in
+    let bits : length (codeword c.args.self.now c.index.result.now) ≡ read = ap (λ l. length (codeword l c.index.result.now)) (sym c.self.view_is)
+    ∙ ap (λ k. length (codeword items k)) symbol ∙ ap length f.3 ∙ length_digits read value in
     omega (arith, i.place, c.place-start.ensures)
 
 pub returns-clause-told : goal.returns-clause-told
@@ -249,8 +255,10 @@ returns-clause-told g c =
     let f = found items good some read value i.walk some_read stop s.values.items s.symbols.items t.numbered here in
     let spot : get_or s.offsets read 0 + (value - get_or s.firsts read 0) ≡ count_below read items + (value - first_codeword read items) = omega arith in
     let in_symbols : get_or s.offsets read 0 + (value - get_or s.firsts read 0) < length s.symbols.items = omega arith in
-    let symbol : c.index.result.now ≡ f.0 = symbol_index s.symbols.items (get_or s.offsets read 0 + (value - get_or s.firsts read 0)) c.index.result.now c.index.ensures in_symbols ∙ ap (λ p. get_or s.symbols.items p 0) spot ∙ f.2 in
-    let bits : length (codeword c.args.self.now c.index.result.now) ≡ read = ap (λ l. length (codeword l c.index.result.now)) (sym c.self.view_is) ∙ ap (λ k. length (codeword items k)) symbol ∙ ap length f.3 ∙ length_digits read value in
+    let symbol : c.index.result.now ≡ f.0 = symbol_index s.symbols.items (get_or s.offsets read 0 + (value - get_or s.firsts read 0)) c.index.result.now
+    c.index.ensures in_symbols ∙ ap (λ p. get_or s.symbols.items p 0) spot ∙ f.2 in
+    let bits : length (codeword c.args.self.now c.index.result.now) ≡ read = ap (λ l. length (codeword l c.index.result.now)) (sym c.self.view_is)
+    ∙ ap (λ k. length (codeword items k)) symbol ∙ ap length f.3 ∙ length_digits read value in
     rw (← c.self.view_is, symbol, ← c.place-start.ensures) (told_value _ start 1 f.0 (Below (length items)) (codeword items) (digits read value) f.1 f.3 i.told)
 
 pub returns-clause-symbol : goal.returns-clause-symbol
@@ -275,6 +283,8 @@ returns-clause-symbol g c =
     let f = found items good some read value i.walk some_read stop s.values.items s.symbols.items t.numbered here in
     let spot : get_or s.offsets read 0 + (value - get_or s.firsts read 0) ≡ count_below read items + (value - first_codeword read items) = omega arith in
     let in_symbols : get_or s.offsets read 0 + (value - get_or s.firsts read 0) < length s.symbols.items = omega arith in
-    let symbol : c.index.result.now ≡ f.0 = symbol_index s.symbols.items (get_or s.offsets read 0 + (value - get_or s.firsts read 0)) c.index.result.now c.index.ensures in_symbols ∙ ap (λ p. get_or s.symbols.items p 0) spot ∙ f.2 in
-    let bits : length (codeword c.args.self.now c.index.result.now) ≡ read = ap (λ l. length (codeword l c.index.result.now)) (sym c.self.view_is) ∙ ap (λ k. length (codeword items k)) symbol ∙ ap length f.3 ∙ length_digits read value in
+    let symbol : c.index.result.now ≡ f.0 = symbol_index s.symbols.items (get_or s.offsets read 0 + (value - get_or s.firsts read 0)) c.index.result.now
+    c.index.ensures in_symbols ∙ ap (λ p. get_or s.symbols.items p 0) spot ∙ f.2 in
+    let bits : length (codeword c.args.self.now c.index.result.now) ≡ read = ap (λ l. length (codeword l c.index.result.now)) (sym c.self.view_is)
+    ∙ ap (λ k. length (codeword items k)) symbol ∙ ap length f.3 ∙ length_digits read value in
     rw (← c.self.view_is, symbol) f.1

@@ -16,9 +16,14 @@ returns-clause-bits g c =
     let symbol : ℕ = c.args.symbol in
     let there : symbol < length s.lengths.items = subst (λ l. symbol < length l) (sym c.self.view_is) c.requires.symbol in
     let in_values : symbol < length s.values.items = omega (arith, t.value_count) in
-    let value : c.from-value.result ≡ codeword_value s.lengths.items symbol = omega (arith, at_zero s.values.items symbol c.index.result.now c.index.ensures in_values, t.numbered.value_at symbol there) in
+    let value : c.from-value.result ≡ codeword_value s.lengths.items symbol = omega (
+      arith,
+      at_zero s.values.items symbol c.index.result.now c.index.ensures in_values,
+      t.numbered.value_at symbol there,
+    ) in
     let bits : c.from-length.result ≡ get_or s.lengths.items symbol 0 = omega (arith, at_zero s.lengths.items symbol c.index-2.result.now c.index-2.ensures there) in
     let code : codeword s.lengths.items symbol ≡ digits c.from-length.result c.from-value.result =
-    codeword-digits s.lengths.items symbol (tables_good s.lengths.items s.values.items s.firsts s.offsets s.symbols.items t) there ∙ ap (λ v. digits (get_or s.lengths.items symbol 0) v) (sym value) ∙ ap (λ l. digits l c.from-value.result) (sym bits) in
+    codeword-digits s.lengths.items symbol (tables_good s.lengths.items s.values.items s.firsts s.offsets s.symbols.items t) there
+    ∙ ap (λ v. digits (get_or s.lengths.items symbol 0) v) (sym value) ∙ ap (λ l. digits l c.from-value.result) (sym bits) in
     let put = subst (λ b. OnOk c.put.result (WroteBits c.args.writer.now c.put.new.self (g.S.Store.files c.args.store.now) (g.S.Store.files c.put.new.store) b)) (sym code) c.put.ensures.bits in
     subst (λ l. OnOk c.put.result (WroteBits c.args.writer.now c.put.new.self (g.S.Store.files c.args.store.now) (g.S.Store.files c.put.new.store) (codeword l symbol))) c.self.view_is put

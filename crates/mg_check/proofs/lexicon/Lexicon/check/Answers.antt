@@ -11,7 +11,8 @@ use Rattle.mg_check.proofs.lexicon.Lexicon.check.Goals as goal
 pub returns-in-Err-expect_whole-clause-other : goal.returns-in-Err-expect_whole-clause-other
 returns-in-Err-expect_whole-clause-other g c = λ collection told took.
     let lex = lex_is _ _ collection c.wanted.result.now c.requires.base (c.lexicon_has_its_terms.ensures.entries collection) (c.in-Ok.ensures.finished _ took refl) c.wanted.ensures in
-    refutes_wider _ (LexiconStands (g.S.Store.files c.args.store.now) c.args.base.now collection) c.in-Err-expect_whole.refusal (λ stand. stand.lex ∙ sym lex) (c.in-Err-expect_whole.ensures.other told)
+    refutes_wider _ (LexiconStands (g.S.Store.files c.args.store.now) c.args.base.now collection) c.in-Err-expect_whole.refusal (λ stand. stand.lex ∙ sym lex)
+    (c.in-Err-expect_whole.ensures.other told)
 
 pub returns-in-Ok-expect_whole-2-clause-stand : goal.returns-in-Ok-expect_whole-2-clause-stand
 returns-in-Ok-expect_whole-2-clause-stand g c = λ collection told took.

@@ -28,7 +28,8 @@ returns-in-Err-clause-range g c = record {
   agree = λ collection told of has. tt;
   other = λ collection told of has.
       let new = c.requires.new in
-      let start = listed_none c.args.lists.now c.args.of.now.table.now.terms c.args.compared.now.places collection c.args.self.now.writer _ c.args.compared.now.lexicon.writer _ c.args.of.now.documents _ _ new.all_are of has new.took in
+      let start = listed_none c.args.lists.now c.args.of.now.table.now.terms c.args.compared.now.places collection c.args.self.now.writer _
+      c.args.compared.now.lexicon.writer _ c.args.of.now.documents _ _ new.all_are of has new.took in
       not_bad_refutes (ListsStand (g.S.Store.files c.args.store.now) c.args.of.now.base.now collection) c.in-Err.refusal (c.in-Err.ensures.never_bad collection start);
 }
 
@@ -44,7 +45,8 @@ returns-in-Ok-compare-clause-range g c = record {
       let done = take (length w.next) (drop w.first (inverted collection)) in
       record {
         lists =
-            agree_more (g.S.Store.files c.args.store.now) c.args.of.now.base.now collection w.first (length w.next) c.push_terms.new.self.writer.all before c.in-Ok-compare.after listed.of.all_are has.lists (c.in-Ok-compare.ensures.stand done listed.took told)
+            agree_more (g.S.Store.files c.args.store.now) c.args.of.now.base.now collection w.first (length w.next) c.push_terms.new.self.writer.all before
+            c.in-Ok-compare.after listed.of.all_are has.lists (c.in-Ok-compare.ensures.stand done listed.took told)
             (c.in-Ok-compare.ensures.behind done listed.took);
         terms = listed.lexicon;
       };
@@ -63,7 +65,8 @@ returns-in-Err-compare-clause-range g c = record {
       let listed = c.in-Ok.ensures.listed collection start in
       let done = take (length w.next) (drop w.first (inverted collection)) in
       refutes_wider _ (ListsStand (g.S.Store.files c.args.store.now) c.args.of.now.base.now collection) c.in-Err-compare.refusal
-      (stand_follow (g.S.Store.files c.args.store.now) c.args.of.now.base.now collection w.first (length w.next) c.push_terms.new.self.writer.all before listed.of.all_are has.lists) (c.in-Err-compare.ensures.other done listed.took told);
+      (stand_follow (g.S.Store.files c.args.store.now) c.args.of.now.base.now collection w.first (length w.next) c.push_terms.new.self.writer.all before
+      listed.of.all_are has.lists) (c.in-Err-compare.ensures.other done listed.took told);
 }
 
 pub push_terms-requires-clause-write : goal.push_terms-requires-clause-write

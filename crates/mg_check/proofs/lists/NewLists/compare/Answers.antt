@@ -18,7 +18,8 @@ returns-in-Ok-expect_more-2-clause-stand g c = λ done took told.
     let post = post_is _ _ done c.wanted.result.now c.requires.post written c.wanted.ensures in
     let skip = skip_is _ _ done c.wanted-2.result.now c.requires.skip written c.wanted-2.ensures in
     let files = c.expect_more.ensures.looks.files in
-    both_follow (g.S.Store.files c.args.store.now) (g.S.Store.files c.expect_more.new.store) c.args.base.now _ done c.args.before _ _ files post skip (c.in-Ok-expect_more.ensures.stand told) (c.in-Ok-expect_more-2.ensures.stand (subst IsSome (sym files) told))
+    both_follow (g.S.Store.files c.args.store.now) (g.S.Store.files c.expect_more.new.store) c.args.base.now _ done c.args.before _ _ files post skip
+    (c.in-Ok-expect_more.ensures.stand told) (c.in-Ok-expect_more-2.ensures.stand (subst IsSome (sym files) told))
 
 pub returns-in-Ok-expect_more-2-clause-behind : goal.returns-in-Ok-expect_more-2-clause-behind
 returns-in-Ok-expect_more-2-clause-behind g c = λ done took.
@@ -35,7 +36,8 @@ returns-in-Err-expect_more-2-clause-other g c = λ done took told.
     let skip = skip_is _ _ done c.wanted-2.result.now c.requires.skip (c.in-Ok.ensures.bytes done took refl) c.wanted-2.ensures in
     let files = c.expect_more.ensures.looks.files in
     refutes_wider _ (ListsFollow (g.S.Store.files c.args.store.now) c.args.base.now c.args.self.now.writer.all done c.args.before) c.in-Err-expect_more-2.refusal
-    (skip_follows (g.S.Store.files c.args.store.now) (g.S.Store.files c.expect_more.new.store) c.args.base.now _ done c.args.before _ files skip) (c.in-Err-expect_more-2.ensures.other (subst IsSome (sym files) told))
+    (skip_follows (g.S.Store.files c.args.store.now) (g.S.Store.files c.expect_more.new.store) c.args.base.now _ done c.args.before _ files skip)
+    (c.in-Err-expect_more-2.ensures.other (subst IsSome (sym files) told))
 
 pub returns-in-Err-clause-looks : goal.returns-in-Err-clause-looks
 returns-in-Err-clause-looks g c = looks_own Memory _ _ _ tt

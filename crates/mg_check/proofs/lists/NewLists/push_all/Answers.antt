@@ -13,7 +13,8 @@ loop-posting-preserved c =
     let n = c.loop-posting.posting-index in
     record {
       took = λ done took.
-          subst (λ ps. Took c.push.new.self.writer (Some (files_of c.push.new.self.store.shelf.files.items)) done ps) (sym (take_more postings n (record { doc = 0; freq = 0 }) c.loop-posting-test.true))
+          subst (λ ps. Took c.push.new.self.writer (Some (files_of c.push.new.self.store.shelf.files.items)) done ps)
+          (sym (take_more postings n (record { doc = 0; freq = 0 }) c.loop-posting-test.true))
           (c.in-Ok.ensures.took done (take n postings) (inv.took done took));
       pushed = pushed_more _ _ _ n _ inv.pushed c.in-Ok.ensures.pushed;
       last = c.in-Ok.ensures.pushed.last;

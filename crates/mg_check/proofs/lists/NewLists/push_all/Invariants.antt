@@ -7,7 +7,8 @@ use Rattle.mg_check.proofs.lists.NewLists.push_all.Given as goal
 
 abbrev pub invariant-loop-posting : goal.invariant-loop-posting
 invariant-loop-posting l = record {
-  took : (done : List (List Posting)) → Took l.initial.self.writer (Some (files_of l.initial.self.store.shelf.files.items)) done [] → Took l.self.writer (Some (files_of l.self.store.shelf.files.items)) done (take l.posting-index l.postings);
+  took : (done : List (List Posting)) → Took l.initial.self.writer (Some (files_of l.initial.self.store.shelf.files.items)) done [] →
+      Took l.self.writer (Some (files_of l.self.store.shelf.files.items)) done (take l.posting-index l.postings);
   pushed : PushedMore l.initial.self.writer l.self.writer l.posting-index;
   last : l.self.writer.last ≡ l.last;
   few : l.last ≤ 2 ^ 24;

@@ -35,7 +35,8 @@ returns-in-Ok-push-clause-listed c = λ collection has.
     let entries = at.1 ∙ ap (λ m. length (lists_entries m some)) (sym c.requires.write.all_are) in
     let t_is = slice_get-get_or terms n [] within in
     let number = c.in-Some.ensures.number ∙ c.number.ensures in
-    listed_more c.args.lists.now terms c.args.before c.args.index collection c.args.self.now.writer c.write.new.self.writer _ _ c.args.lexicon.now.writer c.push.new.self.writer _ _ (get_or terms n []) _ has c.requires.index c.requires.write.range.range c.write.ensures.step.same.all t_is
+    listed_more c.args.lists.now terms c.args.before c.args.index collection c.args.self.now.writer c.write.new.self.writer _ _ c.args.lexicon.now.writer
+    c.push.new.self.writer _ _ (get_or terms n []) _ has c.requires.index c.requires.write.range.range c.write.ensures.step.same.all t_is
     (c.in-Some.ensures.info ∙ same_info _ _ _ _ _ _ c.room-docs.ensures.room (ap (λ m. c.args.before.post + m) bits) (ap (λ m. c.args.before.skip / 16 + m) entries))
     (λ done took. subst (λ ps. Took c.write.new.self.writer (Some (files_of c.write.new.self.store.shelf.files.items)) (done ++ ps ∷ []) []) c.list.ensures (c.in-Ok.ensures.took done took))
     (λ ts took. c.in-Ok-push.ensures.took ts (get_or terms n []) (ap (λ m. slice_get terms m) number ∙ t_is) took)

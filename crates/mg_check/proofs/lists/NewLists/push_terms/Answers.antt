@@ -18,7 +18,9 @@ loop-index-preserved c =
 pub returns-clause-listed : goal.returns-clause-listed
 returns-clause-listed c = λ collection has.
     let all : c.loop-index.index ≡ length c.args.lists.now.next = omega (arith, c.loop-index-test.false, c.loop-index.auto.index-end, c.count-index-end.ensures) in
-    subst (λ n. HasListed c.args.lists.now c.args.of.now.table.now.terms c.args.before n collection c.loop-index.self.writer (Some (files_of c.loop-index.self.store.shelf.files.items)) c.loop-index.lexicon.writer (Some (files_of c.loop-index.lexicon.store.shelf.files.items))) all
+    subst (λ n. HasListed c.args.lists.now c.args.of.now.table.now.terms c.args.before n collection c.loop-index.self.writer
+    (Some (files_of c.loop-index.self.store.shelf.files.items)) c.loop-index.lexicon.writer (Some (files_of c.loop-index.lexicon.store.shelf.files.items)))
+    all
     (c.loop-index.invariant.listed collection has)
 
 pub push_term-requires-clause-write : goal.push_term-requires-clause-write

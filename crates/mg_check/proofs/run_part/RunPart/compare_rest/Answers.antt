@@ -14,7 +14,8 @@ returns-in-Ok-clause-begun g c = λ fed is.
     let slots : c.self.inside.pool.slots ≡ [] = ap (λ (r : RunReading). r.pool.slots) c.self.view_is ∙ is.slots in
     let some : 1 ≤ length c.self.inside.pool.entries = some_entries c.self.inside.pool c.used.result c.used.ensures.value slots (omega (arith, c.if-used-eq0.false)) in
     let some_now : 1 ≤ length c.args.self.now.pool.entries = subst (λ (r : RunReading). 1 ≤ length r.pool.entries) c.self.view_is some in
-    subst (λ (b : List ℕ). HasBegun c.compare.new.self.part (g.S.Store.files c.compare.new.store) b) (last_bytes c.ranges_join.ensures.runs c.args.self.now _ fed is some_now) (c.in-Ok.ensures.begun (done_bytes c.args.self.now fed) is.begun)
+    subst (λ (b : List ℕ). HasBegun c.compare.new.self.part (g.S.Store.files c.compare.new.store) b)
+    (last_bytes c.ranges_join.ensures.runs c.args.self.now _ fed is some_now) (c.in-Ok.ensures.begun (done_bytes c.args.self.now fed) is.begun)
 
 pub returns-in-Err-clause-bad : goal.returns-in-Err-clause-bad
 returns-in-Err-clause-bad g c = λ told.

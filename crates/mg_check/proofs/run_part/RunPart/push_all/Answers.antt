@@ -7,7 +7,8 @@ use Rattle.mg_check.proofs.run_part.RunPart.push_all.Goals as goal
 pub returns-in-Err-clause-bad : goal.returns-in-Err-clause-bad
 returns-in-Err-clause-bad g c = λ told.
     let inv = c.loop-number.invariant in
-    all_bad {T = Unit {0}} (Err c.in-Err.refusal) c.args.self.now c.loop-number.self (g.S.Store.files c.args.store.now) (g.S.Store.files c.loop-number.store) c.args.numbers.now c.loop-number.number-index c.args.doc
+    all_bad {T = Unit {0}} (Err c.in-Err.refusal) c.args.self.now c.loop-number.self (g.S.Store.files c.args.store.now) (g.S.Store.files c.loop-number.store)
+    c.args.numbers.now c.loop-number.number-index c.args.doc
     inv.looks.files inv.name inv.limit inv.taken (c.in-Err.ensures.bad (subst (λ f. IsSome f) (sym inv.looks.files) told))
 
 pub loop-number-preserved : goal.loop-number-preserved
@@ -26,7 +27,8 @@ loop-number-preserved g c =
 
 pub returns-clause-taken : goal.returns-clause-taken
 returns-clause-taken g c = λ fed few is.
-    subst (λ (o : List (ℕ × ℕ)). HasTaken c.loop-number.self (g.S.Store.files c.loop-number.store) o) (first_all fed c.args.numbers.now c.loop-number.number-index c.args.doc (omega (arith, c.loop-number-test.false)))
+    subst (λ (o : List (ℕ × ℕ)). HasTaken c.loop-number.self (g.S.Store.files c.loop-number.store) o)
+    (first_all fed c.args.numbers.now c.loop-number.number-index c.args.doc (omega (arith, c.loop-number-test.false)))
     (c.loop-number.invariant.taken fed few is)
 
 pub returns-in-Err-clause-looks : goal.returns-in-Err-clause-looks

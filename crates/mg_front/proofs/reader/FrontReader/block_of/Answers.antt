@@ -36,29 +36,46 @@ pub loop-low-preserved : goal.loop-low-preserved
 loop-low-preserved g c =
     let inv = c.loop-low.invariant in
     let at = c.in-Ok.ensures in
-    let room = under c.is_below-above.result c.loop-low.low c.loop-low.high (c.loop-low.low + (c.loop-low.high - c.loop-low.low) / 2) (div_ceil c.args.self.now.count 4) c.lower-low.result c.higher-high.result c.lower-low.ensures c.higher-high.ensures inv.high (omega arith) (omega arith) in
+    let room = under c.is_below-above.result c.loop-low.low c.loop-low.high (c.loop-low.low + (c.loop-low.high - c.loop-low.low) / 2)
+    (div_ceil c.args.self.now.count 4) c.lower-low.result c.higher-high.result c.lower-low.ensures c.higher-high.ensures inv.high (omega arith)
+    (omega arith) in
     record {
       fits = at.fits;
-      same = record { strings = at.same.strings ∙ inv.same.strings; places = at.same.places ∙ inv.same.places; strings_part = at.same.strings_part ∙ inv.same.strings_part; places_part = at.same.places_part ∙ inv.same.places_part; width = at.same.width ∙ inv.same.width; count = at.same.count ∙ inv.same.count };
+      same = record {
+        strings = at.same.strings ∙ inv.same.strings;
+        places = at.same.places ∙ inv.same.places;
+        strings_part = at.same.strings_part ∙ inv.same.strings_part;
+        places_part = at.same.places_part ∙ inv.same.places_part;
+        width = at.same.width ∙ inv.same.width;
+        count = at.same.count ∙ inv.same.count;
+      };
       looked = looked_again _ _ _ _ _ _ _ _ _ _ _ _ _ inv.looked at.looked inv.same.strings_part inv.same.places_part;
       high = room.0;
       low = room.1;
       reads = λ apart.
           let one = look_as _ _ _ _ _ _ inv.same.strings_part inv.same.places_part apart at.reads in
-          halved_more _ _ _ _ _ _ _ _ (omega arith) (under_half c.is_below-above.result c.loop-low.low c.loop-low.high _ _ c.lower-low.ensures c.higher-high.ensures (omega arith)) (inv.reads apart) one;
+          halved_more _ _ _ _ _ _ _ _ (omega arith) (under_half c.is_below-above.result c.loop-low.low c.loop-low.high _ _ c.lower-low.ensures
+          c.higher-high.ensures (omega arith)) (inv.reads apart) one;
       between = λ es stands.
           let here = stands_same c.args.self.now c.loop-low.self (g.S.Store.files c.args.store.now) (g.S.Store.files c.loop-low.store) es inv.same inv.looked.files stands in
-          between_step c.loop-low.self.width es c.args.string.now c.loop-low.low c.loop-low.high (c.loop-low.low + (c.loop-low.high - c.loop-low.low) / 2) c.is_below-above.result (entry_of c.loop-low.self.width c.at.new.out) c.lower-low.result c.higher-high.result here.strings.entries (at.entry es here) (c.is_below-above.ensures ∙ ap (is_below c.args.string.now) c.bytes.ensures) (inv.between es stands) c.lower-low.ensures c.higher-high.ensures;
+          between_step c.loop-low.self.width es c.args.string.now c.loop-low.low c.loop-low.high (c.loop-low.low + (c.loop-low.high - c.loop-low.low) / 2)
+          c.is_below-above.result (entry_of c.loop-low.self.width c.at.new.out) c.lower-low.result c.higher-high.result here.strings.entries
+          (at.entry es here) (c.is_below-above.ensures ∙ ap (is_below c.args.string.now) c.bytes.ensures) (inv.between es stands) c.lower-low.ensures
+          c.higher-high.ensures;
     }
 
 pub returns-then-low-eq0-clause-found : goal.returns-then-low-eq0-clause-found
 returns-then-low-eq0-clause-found g c = λ es stands. around_of es _ c.loop-low.low c.loop-low.high 0 (c.loop-low.invariant.between es stands) (omega arith) (omega arith)
 
 pub returns-clause-found : goal.returns-clause-found
-returns-clause-found g c = λ es stands. (omega (arith, c.loop-low.invariant.high, c.loop-low.invariant.low, stands.count), around_of es _ c.loop-low.low c.loop-low.high (c.loop-low.low - 1 + 1) (c.loop-low.invariant.between es stands) (omega arith) (omega arith))
+returns-clause-found g c = λ es stands. (
+  omega (arith, c.loop-low.invariant.high, c.loop-low.invariant.low, stands.count),
+  around_of es _ c.loop-low.low c.loop-low.high (c.loop-low.low - 1 + 1) (c.loop-low.invariant.between es stands) (omega arith) (omega arith),
+)
 
 pub returns-in-Err-clause-reads : goal.returns-in-Err-clause-reads
-returns-in-Err-clause-reads g c = λ apart. halved_look _ _ _ _ _ _ _ (omega arith) (c.loop-low.invariant.reads apart) (look_as _ _ _ _ _ _ c.loop-low.invariant.same.strings_part c.loop-low.invariant.same.places_part apart c.in-Err.ensures.reads)
+returns-in-Err-clause-reads g c = λ apart. halved_look _ _ _ _ _ _ _ (omega arith) (c.loop-low.invariant.reads apart)
+    (look_as _ _ _ _ _ _ c.loop-low.invariant.same.strings_part c.loop-low.invariant.same.places_part apart c.in-Err.ensures.reads)
 
 pub returns-then-low-eq0-clause-reads : goal.returns-then-low-eq0-clause-reads
 returns-then-low-eq0-clause-reads g c = λ apart. halved_done _ _ _ _ _ _ (c.loop-low.invariant.reads apart)

@@ -12,10 +12,13 @@ abbrev pub invariant-loop-low : goal.invariant-loop-low
 invariant-loop-low g l = record {
   fits : FrontFits l.self (g.S.Store.files l.store);
   same : SameParts l.fn.self l.self;
-  looked : LookedAt l.fn.self.strings.part l.fn.self.places.part (g.S.Store.files l.fn.store) (g.S.Store.files l.store) (g.S.Store.reads l.fn.store) (g.S.Store.reads l.store) (g.S.Store.faults l.fn.store) (g.S.Store.faults l.store);
+  looked : LookedAt l.fn.self.strings.part l.fn.self.places.part (g.S.Store.files l.fn.store) (g.S.Store.files l.store) (g.S.Store.reads l.fn.store)
+      (g.S.Store.reads l.store) (g.S.Store.faults l.fn.store) (g.S.Store.faults l.store);
   high : l.high ≤ div_ceil l.fn.self.count 4;
   low : l.low ≤ l.high;
-  reads : same_part l.fn.self.strings.part l.fn.self.places.part ≡ false → Halved l.fn.self.strings.part l.fn.self.places.part (g.S.Store.reads l.fn.store) (g.S.Store.reads l.store) (l.high - l.low) (halvings (div_ceil l.fn.self.count 4));
+  reads : same_part l.fn.self.strings.part l.fn.self.places.part ≡ false →
+      Halved l.fn.self.strings.part l.fn.self.places.part (g.S.Store.reads l.fn.store) (g.S.Store.reads l.store) (l.high - l.low)
+      (halvings (div_ceil l.fn.self.count 4));
   between : (es : List Entry) → FrontStands l.fn.self (g.S.Store.files l.fn.store) es → Between es l.string l.low l.high;
 }
 

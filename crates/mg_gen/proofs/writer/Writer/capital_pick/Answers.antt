@@ -10,4 +10,5 @@ returns-in_default-clause-made c =
 pub returns-in-len1-up-clause-made : goal.returns-in-len1-up-clause-made
 returns-in-len1-up-clause-made c =
     capital_made c.args.self.now c.as_slice.result.now c.to_ascii_uppercase.result _
-    (c.as_slice.ensures.value ∙ c.pick-word.ensures.word) (omega arith) c.push.ensures.items c.to_ascii_uppercase.ensures.value (rest-is c.as_slice.result.now) c.pick-word.ensures.state c.put.ensures.made
+    (c.as_slice.ensures.value ∙ c.pick-word.ensures.word) (omega arith) c.push.ensures.items c.to_ascii_uppercase.ensures.value (rest-is c.as_slice.result.now)
+    c.pick-word.ensures.state c.put.ensures.made

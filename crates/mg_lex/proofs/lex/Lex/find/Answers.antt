@@ -9,19 +9,22 @@ pub returns-clause-found : goal.returns-clause-found
 returns-clause-found g c =
     rw (← c.self.view_is)
     (λ collection stands.
-    let found = subst (λ o. AnswersFind (Ok o) c.self.inside.front.width c.args.term.now c.find.new.out (lexicon collection)) c.in-Ok-Some.field-0-is (c.in-Ok-Some.ensures.found (lexicon collection) (front_stands _ _ collection c.self.invariant.0 stands)) in
+    let found = subst (λ o. AnswersFind (Ok o) c.self.inside.front.width c.args.term.now c.find.new.out (lexicon collection)) c.in-Ok-Some.field-0-is
+    (c.in-Ok-Some.ensures.found (lexicon collection) (front_stands _ _ collection c.self.invariant.0 stands)) in
     term_found c.self.inside.front.width c.in-Ok-Some.number collection c.args.term.now c.find.new.out c.told_by.result c.self.invariant.0 c.told_by.ensures.number c.told_by.ensures.field found)
 
 pub returns-in-Ok-None-clause-found : goal.returns-in-Ok-None-clause-found
 returns-in-Ok-None-clause-found g c =
     rw (← c.self.view_is)
     (λ collection stands. term_absent collection c.args.term.now
-    (subst (λ o. AnswersFind (Ok o) c.self.inside.front.width c.args.term.now c.find.new.out (lexicon collection)) c.in-Ok-None.field-0-is (c.in-Ok-None.ensures.found (lexicon collection) (front_stands _ _ collection c.self.invariant.0 stands))))
+    (subst (λ o. AnswersFind (Ok o) c.self.inside.front.width c.args.term.now c.find.new.out (lexicon collection)) c.in-Ok-None.field-0-is
+    (c.in-Ok-None.ensures.found (lexicon collection) (front_stands _ _ collection c.self.invariant.0 stands))))
 
 pub returns-in-Err-clause-found : goal.returns-in-Err-clause-found
 returns-in-Err-clause-found g c =
     rw (← c.self.view_is)
-    (λ collection stands. refused c.in-Err.refusal c.self.inside.front.width collection c.args.term.now c.find.new.out (c.in-Err.ensures.found (lexicon collection) (front_stands _ _ collection c.self.invariant.0 stands)))
+    (λ collection stands. refused c.in-Err.refusal c.self.inside.front.width collection c.args.term.now c.find.new.out
+    (c.in-Err.ensures.found (lexicon collection) (front_stands _ _ collection c.self.invariant.0 stands)))
 
 pub returns-clause-reads : goal.returns-clause-reads
 returns-clause-reads g c = rw (← c.self.view_is) (parts_read c.self.inside.front _ _ _ c.self.invariant.1 c.self.invariant.2 c.in-Ok-Some.ensures.reads)
@@ -36,7 +39,8 @@ pub returns-clause-info : goal.returns-clause-info
 returns-clause-info g c =
     rw (← c.self.view_is)
     (λ version collection within stands.
-    let found = subst (λ o. AnswersFind (Ok o) c.self.inside.front.width c.args.term.now c.find.new.out (lexicon collection)) c.in-Ok-Some.field-0-is (c.in-Ok-Some.ensures.found (lexicon collection) (front_stands _ _ collection c.self.invariant.0 stands)) in
+    let found = subst (λ o. AnswersFind (Ok o) c.self.inside.front.width c.args.term.now c.find.new.out (lexicon collection)) c.in-Ok-Some.field-0-is
+    (c.in-Ok-Some.ensures.found (lexicon collection) (front_stands _ _ collection c.self.invariant.0 stands)) in
     told_info version collection c.args.term.now c.told_by.result within c.told_by.ensures.fits
     (term_found c.self.inside.front.width c.in-Ok-Some.number collection c.args.term.now c.find.new.out c.told_by.result c.self.invariant.0 c.told_by.ensures.number c.told_by.ensures.field found))
 
@@ -44,9 +48,12 @@ pub returns-in-Ok-None-clause-info : goal.returns-in-Ok-None-clause-info
 returns-in-Ok-None-clause-info g c =
     rw (← c.self.view_is)
     (λ version collection within stands. no_docs collection c.args.term.now (term_absent collection c.args.term.now
-    (subst (λ o. AnswersFind (Ok o) c.self.inside.front.width c.args.term.now c.find.new.out (lexicon collection)) c.in-Ok-None.field-0-is (c.in-Ok-None.ensures.found (lexicon collection) (front_stands _ _ collection c.self.invariant.0 stands)))))
+    (subst (λ o. AnswersFind (Ok o) c.self.inside.front.width c.args.term.now c.find.new.out (lexicon collection)) c.in-Ok-None.field-0-is
+    (c.in-Ok-None.ensures.found (lexicon collection) (front_stands _ _ collection c.self.invariant.0 stands)))))
 
 pub returns-in-Err-clause-info : goal.returns-in-Err-clause-info
 returns-in-Err-clause-info g c =
     rw (← c.self.view_is)
-    (λ version collection within stands. refused_info c.in-Err.refusal collection c.args.term.now (refused c.in-Err.refusal c.self.inside.front.width collection c.args.term.now c.find.new.out (c.in-Err.ensures.found (lexicon collection) (front_stands _ _ collection c.self.invariant.0 stands))))
+    (λ version collection within stands. refused_info c.in-Err.refusal collection c.args.term.now
+    (refused c.in-Err.refusal c.self.inside.front.width collection c.args.term.now c.find.new.out
+    (c.in-Err.ensures.found (lexicon collection) (front_stands _ _ collection c.self.invariant.0 stands))))

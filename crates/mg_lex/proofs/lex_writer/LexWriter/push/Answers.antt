@@ -21,7 +21,8 @@ pub returns-clause-took : goal.returns-clause-took
 returns-clause-took g c =
     rw (← c.self.view_is)
     (λ ts took. took_more _ _ _ _ ts (record { string = c.args.term.now; info = info_of c.args.info.now }) took
-    (λ before. subst (λ f. Took c.push.new.self (g.S.Store.files c.push.new.store) (entries_of ts ++ record { string = c.args.term.now; field = f } ∷ [])) c.field.ensures (c.in_ok-push.ensures.took (entries_of ts) before))
+    (λ before. subst (λ f. Took c.push.new.self (g.S.Store.files c.push.new.store) (entries_of ts ++ record { string = c.args.term.now; field = f } ∷ []))
+    c.field.ensures (c.in_ok-push.ensures.took (entries_of ts) before))
     refl c.in_ok-push.ensures.width c.in_ok-push.ensures.name c.in_ok-push.ensures.places)
 
 pub returns-clause-others : goal.returns-clause-others

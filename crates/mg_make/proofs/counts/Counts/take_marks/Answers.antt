@@ -68,7 +68,8 @@ returns-in_err-piece_if-2-clause-refused c =
     (λ before h.
     let begun = subst (λ (x : List Mark). IsCounted c.begin_if.new.self (before ++ x)) begin (c.in_ok-begin_if.ensures.counted before h) in
     let told = subst (λ (x : List Mark). IsCounted c.piece_if.new.self ((before ++ begin_of m) ++ x)) one (c.in_ok-piece_if.ensures.counted (before ++ begin_of m) begun) in
-    stops-other m before fault (subst (λ (x : List Mark). StopsAt ((before ++ begin_of m) ++ piece_of m) x fault) two (c.in_err-piece_if-2.ensures.refused ((before ++ begin_of m) ++ piece_of m) told)))
+    stops-other m before fault (subst (λ (x : List Mark). StopsAt ((before ++ begin_of m) ++ piece_of m) x fault) two
+    (c.in_err-piece_if-2.ensures.refused ((before ++ begin_of m) ++ piece_of m) told)))
 
 pub end_if-requires : goal.end_if-requires
 end_if-requires c =
@@ -100,6 +101,8 @@ returns-clause-counted c =
     (λ (ends : (met : List Mark) → IsCounted c.piece_if-2.new.self met → IsCounted c.end_if.new.self (met ++ only_if c.ends.result stop)) before h.
     let begun = subst (λ (x : List Mark). IsCounted c.begin_if.new.self (before ++ x)) begin (c.in_ok-begin_if.ensures.counted before h) in
     let told = subst (λ (x : List Mark). IsCounted c.piece_if.new.self ((before ++ begin_of m) ++ x)) one (c.in_ok-piece_if.ensures.counted (before ++ begin_of m) begun) in
-    let both = subst (λ (x : List Mark). IsCounted c.piece_if-2.new.self (((before ++ begin_of m) ++ piece_of m) ++ x)) two (c.in_ok-piece_if-2.ensures.counted ((before ++ begin_of m) ++ piece_of m) told) in
-    in-all c.end_if.new.self m before (subst (λ (x : List Mark). IsCounted c.end_if.new.self ((((before ++ begin_of m) ++ piece_of m) ++ other_of m) ++ x)) end (ends (((before ++ begin_of m) ++ piece_of m) ++ other_of m) both)))
+    let both = subst (λ (x : List Mark). IsCounted c.piece_if-2.new.self (((before ++ begin_of m) ++ piece_of m) ++ x)) two
+    (c.in_ok-piece_if-2.ensures.counted ((before ++ begin_of m) ++ piece_of m) told) in
+    in-all c.end_if.new.self m before (subst (λ (x : List Mark). IsCounted c.end_if.new.self ((((before ++ begin_of m) ++ piece_of m) ++ other_of m) ++ x)) end
+    (ends (((before ++ begin_of m) ++ piece_of m) ++ other_of m) both)))
     c.end_if.ensures.counted

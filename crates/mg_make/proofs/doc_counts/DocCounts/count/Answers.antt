@@ -14,7 +14,8 @@ returns-then-index-doc-clause-counts c fed h low =
     let now : DocCounting = record { docs = i.docs.items; last = i.last.items } in
     let before : AreDocCounts now terms fed = subst (λ (v : DocCounting). AreDocCounts v terms fed) (sym c.self.view_is) h in
     let last_read : c.index.result.now ≡ get_or i.last.items term 0 = get_or_read i.last.items term c.index.result.now (omega (arith, c.requires.term, before.last_size)) c.index.ensures 0 in
-    let docs_read : c.index_mut-then-index-doc.result.now ≡ get_or i.docs.items term 0 = get_or_read i.docs.items term c.index_mut-then-index-doc.result.now (omega (arith, c.requires.term, before.doc_size)) c.index_mut-then-index-doc.ensures.value 0 in
+    let docs_read : c.index_mut-then-index-doc.result.now ≡ get_or i.docs.items term 0 = get_or_read i.docs.items term c.index_mut-then-index-doc.result.now
+    (omega (arith, c.requires.term, before.doc_size)) c.index_mut-then-index-doc.ensures.value 0 in
     let other : last_with term 0 fed ≢ doc = λ e. c.if-index-doc.true (last_read ∙ before.last term c.requires.term ∙ e) in
     let later : last_with term 0 fed < doc = omega (arith, low, other) in
     subst (λ n. AreDocCounts (record { docs = set i.docs.items term (n + 1); last = set i.last.items term doc }) terms (fed ++ (term, doc) ∷ [])) (sym docs_read)

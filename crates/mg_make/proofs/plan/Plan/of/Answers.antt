@@ -17,7 +17,8 @@ returns-in-Ok-clause-plan c =
     let parts = c.into_parts-words in
     let made = c.in_ok-model.ensures in
     let counted = c.requires.counted in
-    let of = plan-of laws c.args.counts parts.result.0 parts.result.1 p counted.0 counted.1 parts.ensures.words parts.ensures.others parts.ensures.pairs made.words made.others made.word_lengths made.other_lengths refl in
+    let of = plan-of laws c.args.counts parts.result.0 parts.result.1 p counted.0 counted.1 parts.ensures.words parts.ensures.others parts.ensures.pairs
+    made.words made.others made.word_lengths made.other_lengths refl in
     rw c.in-Ok.ensures (plan-is laws p counted.0 counted.1.few of refl)
 
 pub returns-in-Ok-clause-of : goal.returns-in-Ok-clause-of
@@ -33,4 +34,5 @@ returns-in-Ok-clause-of c = λ collection h.
     let p : Plan = plan_by c.in_ok-model.model c.into_parts-words.result.2.items c.args.open_end in
     let parts = c.into_parts-words in
     let made = c.in_ok-model.ensures in
-    rw c.in-Ok.ensures (plan-of laws c.args.counts parts.result.0 parts.result.1 p collection h parts.ensures.words parts.ensures.others parts.ensures.pairs made.words made.others made.word_lengths made.other_lengths refl)
+    rw c.in-Ok.ensures (plan-of laws c.args.counts parts.result.0 parts.result.1 p collection h parts.ensures.words parts.ensures.others parts.ensures.pairs
+    made.words made.others made.word_lengths made.other_lengths refl)

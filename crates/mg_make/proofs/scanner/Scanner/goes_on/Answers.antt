@@ -10,4 +10,5 @@ returns-clause-met c = λ taken fed met h.
     let before : HasMet s fed met = subst (λ (v : Scanning). HasMet v fed met) (sym c.self.view_is) h in
     let is_open : i.is_open ≡ true = search rules in
     let other : c.args.byte ≢ 2 = search rules in
-    met-went_on s c.feed.new.self c.offer.new.self fed met c.args.byte is_open other (c.feed.ensures.stands fed before.seen) (read-at_once s.reading c.offer.new.self c.args.byte c.in-Taken.ensures.offered) before
+    met-went_on s c.feed.new.self c.offer.new.self fed met c.args.byte is_open other (c.feed.ensures.stands fed before.seen)
+    (read-at_once s.reading c.offer.new.self c.args.byte c.in-Taken.ensures.offered) before

@@ -10,7 +10,8 @@ returns-in-Close c = record {
       let s : Scanning = record { seen = i.splitter; reading = i.reader; is_open = i.is_open; met = i.met } in
       let before : HasMet s fed met = subst (λ (v : Scanning). HasMet v fed met) (sym c.self.view_is) h in
       let stands = c.feed.ensures.stands fed before.seen in
-      met-closed s c.feed.new.self c.end_document.new.reader c.end_document.new.met fed met c.args.byte (c.in-Close.ensures.event.0 refl) c.end_document.ensures.reader stands c.end_document.ensures.met before;
+      met-closed s c.feed.new.self c.end_document.new.reader c.end_document.new.met fed met c.args.byte (c.in-Close.ensures.event.0 refl)
+      c.end_document.ensures.reader stands c.end_document.ensures.met before;
 }
 
 pub returns-in-Byte : goal.returns-in-Byte

@@ -12,7 +12,11 @@ returns-then-at-len g c =
     let same : c.plan.inside.pairs.items ≡ c.self.inside.plan.now.pairs = ap (λ (p : Plan). p.pairs) c.plan.view_is in
     let long = ap length same in
     let all : length c.self.inside.plan.now.pairs ≤ c.self.inside.doc = omega (arith, long, c.len.ensures, c.if-at-len.true) in
-    rw (← c.self.view_is) (pass_refused (record { cause = λ met collection is front. ((λ e. omega (arith, e, long, c.len-then-at-len.ensures, c.from.ensures, is.within)), other_documents _ _ met collection is front all) }))
+    rw (← c.self.view_is)
+    (pass_refused (record {
+      cause = λ met collection is front.
+          ((λ e. omega (arith, e, long, c.len-then-at-len.ensures, c.from.ensures, is.within)), other_documents _ _ met collection is front all);
+    }))
 
 pub begin_doc-requires-clause-closed : goal.begin_doc-requires-clause-closed
 begin_doc-requires-clause-closed g c =

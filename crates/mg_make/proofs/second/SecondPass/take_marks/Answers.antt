@@ -13,14 +13,22 @@ pub piece_if-requires : goal.piece_if-requires
 piece_if-requires g c =
     let m = c.args.met.now in
     let wrote_1 = rw c.begins.ensures at c.in_ok-begin_if.ensures.written in
-    record { next = rw (c.has_piece.ensures, c.kind.ensures, c.piece.ensures.bytes) (next_first _ _ (piece_part m) (other_part m ++ (end_part m)) (next_then _ _ _ _ (begin_part m) (piece_part m ++ (other_part m ++ (end_part m))) c.requires.next wrote_1)) }
+    record {
+      next = rw (c.has_piece.ensures, c.kind.ensures, c.piece.ensures.bytes)
+          (next_first _ _ (piece_part m) (other_part m ++ (end_part m))
+          (next_then _ _ _ _ (begin_part m) (piece_part m ++ (other_part m ++ (end_part m))) c.requires.next wrote_1));
+    }
 
 pub piece_if-requires-2 : goal.piece_if-requires-2
 piece_if-requires-2 g c =
     let m = c.args.met.now in
     let wrote_1 = rw c.begins.ensures at c.in_ok-begin_if.ensures.written in
     let wrote_2 = rw (c.has_piece.ensures, c.kind.ensures, c.piece.ensures.bytes) at c.in_ok-piece_if.ensures.written in
-    record { next = rw (c.has_other.ensures, c.other_kind.ensures) (next_first _ _ (other_part m) (end_part m) (next_then _ _ _ _ (piece_part m) (other_part m ++ (end_part m)) (next_then _ _ _ _ (begin_part m) (piece_part m ++ (other_part m ++ (end_part m))) c.requires.next wrote_1) wrote_2)) }
+    record {
+      next = rw (c.has_other.ensures, c.other_kind.ensures)
+          (next_first _ _ (other_part m) (end_part m) (next_then _ _ _ _ (piece_part m) (other_part m ++ (end_part m))
+          (next_then _ _ _ _ (begin_part m) (piece_part m ++ (other_part m ++ (end_part m))) c.requires.next wrote_1) wrote_2));
+    }
 
 pub end_if-requires : goal.end_if-requires
 end_if-requires g c =
@@ -28,7 +36,12 @@ end_if-requires g c =
     let wrote_1 = rw c.begins.ensures at c.in_ok-begin_if.ensures.written in
     let wrote_2 = rw (c.has_piece.ensures, c.kind.ensures, c.piece.ensures.bytes) at c.in_ok-piece_if.ensures.written in
     let wrote_3 = rw (c.has_other.ensures, c.other_kind.ensures) at c.in_ok-piece_if-2.ensures.written in
-    record { next = rw c.ends.ensures (next_then _ _ _ _ (other_part m) (end_part m) (next_then _ _ _ _ (piece_part m) (other_part m ++ (end_part m)) (next_then _ _ _ _ (begin_part m) (piece_part m ++ (other_part m ++ (end_part m))) c.requires.next wrote_1) wrote_2) wrote_3) }
+    record {
+      next =
+          rw c.ends.ensures (next_then _ _ _ _ (other_part m) (end_part m)
+          (next_then _ _ _ _ (piece_part m) (other_part m ++ (end_part m))
+          (next_then _ _ _ _ (begin_part m) (piece_part m ++ (other_part m ++ (end_part m))) c.requires.next wrote_1) wrote_2) wrote_3);
+    }
 
 -- ---- one of the four stops
 

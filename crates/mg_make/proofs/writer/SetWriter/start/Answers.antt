@@ -11,11 +11,14 @@ pub returns-in_err-pass-clause-unbuilt : goal.returns-in_err-pass-clause-unbuilt
 returns-in_err-pass-clause-unbuilt g c = unbuilt_behind c.args.base.now _ _ _ c.in_ok-reset_head.ensures.empty c.in_err-pass.ensures.step.wrote
 
 pub returns-in_err-pass-clause-others : goal.returns-in_err-pass-clause-others
-returns-in_err-pass-clause-others g c = others_both c.args.base.now _ _ _ (head_others c.args.base.now _ _ c.in_ok-reset_head.ensures.wrote) (pass_others c.args.base.now _ _ c.in_err-pass.ensures.step.wrote)
+returns-in_err-pass-clause-others g c = others_both c.args.base.now _ _ _ (head_others c.args.base.now _ _ c.in_ok-reset_head.ensures.wrote)
+    (pass_others c.args.base.now _ _ c.in_err-pass.ensures.step.wrote)
 
 pub returns-clause-put : goal.returns-clause-put
-returns-clause-put g c = put_nothing c.args.base.now c.args.plan.now _ _ c.new.result c.in_ok-pass.pass _ _ _ c.new.ensures c.in_ok-pass.ensures.written c.in_ok-pass.ensures.base c.in_ok-pass.ensures.plan (c.in_ok-pass.ensures.limit ∙ sym c.limit-limit.ensures.value)
-    c.in_ok-reset_head.ensures.wrote.told c.in_ok-reset_head.ensures.empty c.in_ok-pass.ensures.step.wrote c.in_ok-pass.ensures.models (ap (λ (r : Rooming). r.sums) c.room.view_is ∙ c.requires.room.sums)
+returns-clause-put g c = put_nothing c.args.base.now c.args.plan.now _ _ c.new.result c.in_ok-pass.pass _ _ _ c.new.ensures c.in_ok-pass.ensures.written
+    c.in_ok-pass.ensures.base c.in_ok-pass.ensures.plan (c.in_ok-pass.ensures.limit ∙ sym c.limit-limit.ensures.value)
+    c.in_ok-reset_head.ensures.wrote.told c.in_ok-reset_head.ensures.empty c.in_ok-pass.ensures.step.wrote c.in_ok-pass.ensures.models
+    (ap (λ (r : Rooming). r.sums) c.room.view_is ∙ c.requires.room.sums)
 
 pub returns-clause-unbuilt : goal.returns-clause-unbuilt
 returns-clause-unbuilt g c = unbuilt_behind c.args.base.now _ _ _ c.in_ok-reset_head.ensures.empty c.in_ok-pass.ensures.step.wrote

@@ -9,7 +9,8 @@ use Rattle.mg_make.proofs.writer.SetWriter.take.Goals as goal
 pub returns-then-goes_on-clause-put : goal.returns-then-goes_on-clause-put
 returns-then-goes_on-clause-put g c = λ fed put.
     let i = c.self.inside in
-    let own : HasPut (writing i.base.now i.plan.now i.limit i.sums.items i.size i.scanner i.pass) (g.S.Store.files c.args.store.now) fed = subst (λ (w : Putting). HasPut w (g.S.Store.files c.args.store.now) fed) (sym c.self.view_is) put in
+    let own : HasPut (writing i.base.now i.plan.now i.limit i.sums.items i.size i.scanner i.pass) (g.S.Store.files c.args.store.now) fed =
+    subst (λ (w : Putting). HasPut w (g.S.Store.files c.args.store.now) fed) (sym c.self.view_is) put in
     record {
       met = own.met;
       scanned = c.goes_on.ensures.met c.if-goes_on.true fed own.met own.scanned;

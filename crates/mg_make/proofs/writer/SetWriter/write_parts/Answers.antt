@@ -27,7 +27,8 @@ returns-in-Err-clause-gone g c = λ told.
     let few : ((fed : List ℕ) → HasPut w (g.S.Store.files c.args.store.now) fed → length fed < 2 ^ 32)
     = λ fed put. put_few w _ fed c.requires.put.0 put (own c.requires.put.0 c.requires.put.1) c.requires.put.2 in
     let first = own c.requires.put.0 c.requires.put.1 in
-    let second : WroteSecond w.base (g.S.Store.files c.args.store.now) (g.S.Store.files c.end_pass.new.store) = subst (λ b. WroteSecond b (g.S.Store.files c.args.store.now) (g.S.Store.files c.end_pass.new.store)) first.base_is c.in-Err.ensures.step.wrote in
+    let second : WroteSecond w.base (g.S.Store.files c.args.store.now) (g.S.Store.files c.end_pass.new.store) =
+    subst (λ b. WroteSecond b (g.S.Store.files c.args.store.now) (g.S.Store.files c.end_pass.new.store)) first.base_is c.in-Err.ensures.step.wrote in
     subst (λ (v : Putting). file_at (g.S.Store.files c.end_pass.new.store) (full_name v.base Head) ≡ Some []) c.self.view_is
     (head_of_second w.base (g.S.Store.files c.args.store.now) (g.S.Store.files c.end_pass.new.store) second ∙ first.head told)
 
@@ -39,7 +40,8 @@ returns-in-Err-clause-others g c =
     let few : ((fed : List ℕ) → HasPut w (g.S.Store.files c.args.store.now) fed → length fed < 2 ^ 32)
     = λ fed put. put_few w _ fed c.requires.put.0 put (own c.requires.put.0 c.requires.put.1) c.requires.put.2 in
     let first = own c.requires.put.0 c.requires.put.1 in
-    let second : WroteSecond w.base (g.S.Store.files c.args.store.now) (g.S.Store.files c.end_pass.new.store) = subst (λ b. WroteSecond b (g.S.Store.files c.args.store.now) (g.S.Store.files c.end_pass.new.store)) first.base_is c.in-Err.ensures.step.wrote in
+    let second : WroteSecond w.base (g.S.Store.files c.args.store.now) (g.S.Store.files c.end_pass.new.store) =
+    subst (λ b. WroteSecond b (g.S.Store.files c.args.store.now) (g.S.Store.files c.end_pass.new.store)) first.base_is c.in-Err.ensures.step.wrote in
     subst (λ (v : Putting). OthersSame v.base (g.S.Store.files c.args.store.now) (g.S.Store.files c.end_pass.new.store)) c.self.view_is
     (others_of_second w.base (g.S.Store.files c.args.store.now) (g.S.Store.files c.end_pass.new.store) second)
 
@@ -51,8 +53,10 @@ returns-in-Err-clause-refused g c = λ fed put.
     let few : ((fed : List ℕ) → HasPut w (g.S.Store.files c.args.store.now) fed → length fed < 2 ^ 32)
     = λ fed put. put_few w _ fed c.requires.put.0 put (own c.requires.put.0 c.requires.put.1) c.requires.put.2 in
     let mine = own fed put in
-    subst (λ (v : Putting). ListStops (Rose (g.S.Store.faults c.args.store.now) (g.S.Store.faults c.end_pass.new.store)) (IsSome (g.S.Store.files c.args.store.now) × IsPlanOf v.plan fed) c.in-Err.refusal) c.self.view_is
-    (subst (λ p. ListStops (Rose (g.S.Store.faults c.args.store.now) (g.S.Store.faults c.end_pass.new.store)) (IsSome (g.S.Store.files c.args.store.now) × IsPlanOf p fed) c.in-Err.refusal) mine.plan_is
+    subst (λ (v : Putting). ListStops (Rose (g.S.Store.faults c.args.store.now) (g.S.Store.faults c.end_pass.new.store))
+    (IsSome (g.S.Store.files c.args.store.now) × IsPlanOf v.plan fed) c.in-Err.refusal) c.self.view_is
+    (subst (λ p. ListStops (Rose (g.S.Store.faults c.args.store.now) (g.S.Store.faults c.end_pass.new.store))
+    (IsSome (g.S.Store.files c.args.store.now) × IsPlanOf p fed) c.in-Err.refusal) mine.plan_is
     (c.in-Err.ensures.refused fed mine.met mine.scanned mine.written (few fed mine)))
 
 pub write_rest-requires-clause-handed : goal.write_rest-requires-clause-handed
@@ -62,7 +66,8 @@ write_rest-requires-clause-handed g c =
     = λ fed put. subst (λ (v : Putting). HasPut v (g.S.Store.files c.args.store.now) fed) (sym c.self.view_is) put in
     let few : ((fed : List ℕ) → HasPut w (g.S.Store.files c.args.store.now) fed → length fed < 2 ^ 32)
     = λ fed put. put_few w _ fed c.requires.put.0 put (own c.requires.put.0 c.requires.put.1) c.requires.put.2 in
-    let handed : ((fed : List ℕ) → HasPut w (g.S.Store.files c.args.store.now) fed → IsHanded w.plan w.limit w.base fed (g.S.Store.files c.args.store.now) (g.S.Store.files c.end_pass.new.store) c.in-Ok.inverted)
+    let handed : ((fed : List ℕ) → HasPut w (g.S.Store.files c.args.store.now) fed →
+    IsHanded w.plan w.limit w.base fed (g.S.Store.files c.args.store.now) (g.S.Store.files c.end_pass.new.store) c.in-Ok.inverted)
     = λ fed put. handed_for c.self.inside.pass.plan w.plan (budget_of c.self.inside.pass) w.limit c.self.inside.pass.base w.base fed _ _ c.in-Ok.inverted put.plan_is put.limit_is put.base_is
     (c.in-Ok.ensures.handed fed put.met put.scanned put.written (few fed put)) in
     let first = own c.requires.put.0 c.requires.put.1 in
@@ -76,8 +81,10 @@ returns-clause-ready g c = λ fed told put plan_of.
     let few : ((fed : List ℕ) → HasPut w (g.S.Store.files c.args.store.now) fed → length fed < 2 ^ 32)
     = λ fed put. put_few w _ fed c.requires.put.0 put (own c.requires.put.0 c.requires.put.1) c.requires.put.2 in
     let first = own c.requires.put.0 c.requires.put.1 in
-    let second : WroteSecond w.base (g.S.Store.files c.args.store.now) (g.S.Store.files c.end_pass.new.store) = subst (λ b. WroteSecond b (g.S.Store.files c.args.store.now) (g.S.Store.files c.end_pass.new.store)) first.base_is c.in-Ok.ensures.step.wrote in
-    let handed : ((fed : List ℕ) → HasPut w (g.S.Store.files c.args.store.now) fed → IsHanded w.plan w.limit w.base fed (g.S.Store.files c.args.store.now) (g.S.Store.files c.end_pass.new.store) c.in-Ok.inverted)
+    let second : WroteSecond w.base (g.S.Store.files c.args.store.now) (g.S.Store.files c.end_pass.new.store) =
+    subst (λ b. WroteSecond b (g.S.Store.files c.args.store.now) (g.S.Store.files c.end_pass.new.store)) first.base_is c.in-Ok.ensures.step.wrote in
+    let handed : ((fed : List ℕ) → HasPut w (g.S.Store.files c.args.store.now) fed →
+    IsHanded w.plan w.limit w.base fed (g.S.Store.files c.args.store.now) (g.S.Store.files c.end_pass.new.store) c.in-Ok.inverted)
     = λ fed put. handed_for c.self.inside.pass.plan w.plan (budget_of c.self.inside.pass) w.limit c.self.inside.pass.base w.base fed _ _ c.in-Ok.inverted put.plan_is put.limit_is put.base_is
     (c.in-Ok.ensures.handed fed put.met put.scanned put.written (few fed put)) in
     let mine = own fed put in
@@ -85,7 +92,8 @@ returns-clause-ready g c = λ fed told put plan_of.
     let laws : TextLaws = record { text = c.text_has_its_documents.ensures.text; holds = c.text_has_its_documents.ensures.holds; bytes = c.text_has_its_documents.ensures.bytes } in
     subst (λ (v : Putting). OnOk c.write_rest.result (IsReady (run_cap v.limit) (g.S.Store.files c.write_rest.new.store) v.base v.plan.code fed)) c.self.view_is
     (ready_all c.write_rest.result w fed (g.S.Store.files c.write_rest.new.store) (c.write_rest.ensures.stand fed (g.S.Store.files c.args.store.now) (handed fed mine) (second.told ∙ told) planned)
-    (ready_by laws w fed (g.S.Store.files c.args.store.now) (g.S.Store.files c.end_pass.new.store) (g.S.Store.files c.write_rest.new.store) c.in-Ok.inverted mine told planned second (handed fed mine) c.write_rest.ensures.step.wrote))
+    (ready_by laws w fed (g.S.Store.files c.args.store.now) (g.S.Store.files c.end_pass.new.store) (g.S.Store.files c.write_rest.new.store) c.in-Ok.inverted
+    mine told planned second (handed fed mine) c.write_rest.ensures.step.wrote))
 
 pub returns-clause-head : goal.returns-clause-head
 returns-clause-head g c = λ fed told put plan_of.
@@ -95,8 +103,10 @@ returns-clause-head g c = λ fed told put plan_of.
     let few : ((fed : List ℕ) → HasPut w (g.S.Store.files c.args.store.now) fed → length fed < 2 ^ 32)
     = λ fed put. put_few w _ fed c.requires.put.0 put (own c.requires.put.0 c.requires.put.1) c.requires.put.2 in
     let first = own c.requires.put.0 c.requires.put.1 in
-    let second : WroteSecond w.base (g.S.Store.files c.args.store.now) (g.S.Store.files c.end_pass.new.store) = subst (λ b. WroteSecond b (g.S.Store.files c.args.store.now) (g.S.Store.files c.end_pass.new.store)) first.base_is c.in-Ok.ensures.step.wrote in
-    let handed : ((fed : List ℕ) → HasPut w (g.S.Store.files c.args.store.now) fed → IsHanded w.plan w.limit w.base fed (g.S.Store.files c.args.store.now) (g.S.Store.files c.end_pass.new.store) c.in-Ok.inverted)
+    let second : WroteSecond w.base (g.S.Store.files c.args.store.now) (g.S.Store.files c.end_pass.new.store) =
+    subst (λ b. WroteSecond b (g.S.Store.files c.args.store.now) (g.S.Store.files c.end_pass.new.store)) first.base_is c.in-Ok.ensures.step.wrote in
+    let handed : ((fed : List ℕ) → HasPut w (g.S.Store.files c.args.store.now) fed →
+    IsHanded w.plan w.limit w.base fed (g.S.Store.files c.args.store.now) (g.S.Store.files c.end_pass.new.store) c.in-Ok.inverted)
     = λ fed put. handed_for c.self.inside.pass.plan w.plan (budget_of c.self.inside.pass) w.limit c.self.inside.pass.base w.base fed _ _ c.in-Ok.inverted put.plan_is put.limit_is put.base_is
     (c.in-Ok.ensures.handed fed put.met put.scanned put.written (few fed put)) in
     let mine = own fed put in
@@ -111,7 +121,8 @@ returns-clause-peak g c = λ fed put plan_of.
     = λ fed put. subst (λ (v : Putting). HasPut v (g.S.Store.files c.args.store.now) fed) (sym c.self.view_is) put in
     let few : ((fed : List ℕ) → HasPut w (g.S.Store.files c.args.store.now) fed → length fed < 2 ^ 32)
     = λ fed put. put_few w _ fed c.requires.put.0 put (own c.requires.put.0 c.requires.put.1) c.requires.put.2 in
-    let handed : ((fed : List ℕ) → HasPut w (g.S.Store.files c.args.store.now) fed → IsHanded w.plan w.limit w.base fed (g.S.Store.files c.args.store.now) (g.S.Store.files c.end_pass.new.store) c.in-Ok.inverted)
+    let handed : ((fed : List ℕ) → HasPut w (g.S.Store.files c.args.store.now) fed →
+    IsHanded w.plan w.limit w.base fed (g.S.Store.files c.args.store.now) (g.S.Store.files c.end_pass.new.store) c.in-Ok.inverted)
     = λ fed put. handed_for c.self.inside.pass.plan w.plan (budget_of c.self.inside.pass) w.limit c.self.inside.pass.base w.base fed _ _ c.in-Ok.inverted put.plan_is put.limit_is put.base_is
     (c.in-Ok.ensures.handed fed put.met put.scanned put.written (few fed put)) in
     let mine = own fed put in
@@ -127,9 +138,11 @@ returns-clause-gone g c = λ told.
     let few : ((fed : List ℕ) → HasPut w (g.S.Store.files c.args.store.now) fed → length fed < 2 ^ 32)
     = λ fed put. put_few w _ fed c.requires.put.0 put (own c.requires.put.0 c.requires.put.1) c.requires.put.2 in
     let first = own c.requires.put.0 c.requires.put.1 in
-    let second : WroteSecond w.base (g.S.Store.files c.args.store.now) (g.S.Store.files c.end_pass.new.store) = subst (λ b. WroteSecond b (g.S.Store.files c.args.store.now) (g.S.Store.files c.end_pass.new.store)) first.base_is c.in-Ok.ensures.step.wrote in
+    let second : WroteSecond w.base (g.S.Store.files c.args.store.now) (g.S.Store.files c.end_pass.new.store) =
+    subst (λ b. WroteSecond b (g.S.Store.files c.args.store.now) (g.S.Store.files c.end_pass.new.store)) first.base_is c.in-Ok.ensures.step.wrote in
     subst (λ (v : Putting). file_at (g.S.Store.files c.write_rest.new.store) (full_name v.base Head) ≡ Some []) c.self.view_is
-    (head_of_index w.base (g.S.Store.files c.end_pass.new.store) (g.S.Store.files c.write_rest.new.store) c.write_rest.ensures.step.wrote ∙ head_of_second w.base (g.S.Store.files c.args.store.now) (g.S.Store.files c.end_pass.new.store) second ∙ first.head told)
+    (head_of_index w.base (g.S.Store.files c.end_pass.new.store) (g.S.Store.files c.write_rest.new.store) c.write_rest.ensures.step.wrote
+    ∙ head_of_second w.base (g.S.Store.files c.args.store.now) (g.S.Store.files c.end_pass.new.store) second ∙ first.head told)
 
 pub returns-clause-others : goal.returns-clause-others
 returns-clause-others g c =
@@ -139,9 +152,12 @@ returns-clause-others g c =
     let few : ((fed : List ℕ) → HasPut w (g.S.Store.files c.args.store.now) fed → length fed < 2 ^ 32)
     = λ fed put. put_few w _ fed c.requires.put.0 put (own c.requires.put.0 c.requires.put.1) c.requires.put.2 in
     let first = own c.requires.put.0 c.requires.put.1 in
-    let second : WroteSecond w.base (g.S.Store.files c.args.store.now) (g.S.Store.files c.end_pass.new.store) = subst (λ b. WroteSecond b (g.S.Store.files c.args.store.now) (g.S.Store.files c.end_pass.new.store)) first.base_is c.in-Ok.ensures.step.wrote in
+    let second : WroteSecond w.base (g.S.Store.files c.args.store.now) (g.S.Store.files c.end_pass.new.store) =
+    subst (λ b. WroteSecond b (g.S.Store.files c.args.store.now) (g.S.Store.files c.end_pass.new.store)) first.base_is c.in-Ok.ensures.step.wrote in
     subst (λ (v : Putting). OthersSame v.base (g.S.Store.files c.args.store.now) (g.S.Store.files c.write_rest.new.store)) c.self.view_is
-    (others_both w.base (g.S.Store.files c.args.store.now) (g.S.Store.files c.end_pass.new.store) (g.S.Store.files c.write_rest.new.store) (others_of_second w.base (g.S.Store.files c.args.store.now) (g.S.Store.files c.end_pass.new.store) second) (index_others w.base (g.S.Store.files c.end_pass.new.store) (g.S.Store.files c.write_rest.new.store) c.write_rest.ensures.step.wrote))
+    (others_both w.base (g.S.Store.files c.args.store.now) (g.S.Store.files c.end_pass.new.store) (g.S.Store.files c.write_rest.new.store)
+    (others_of_second w.base (g.S.Store.files c.args.store.now) (g.S.Store.files c.end_pass.new.store) second)
+    (index_others w.base (g.S.Store.files c.end_pass.new.store) (g.S.Store.files c.write_rest.new.store) c.write_rest.ensures.step.wrote))
 
 pub returns-clause-refused : goal.returns-clause-refused
 returns-clause-refused g c =
@@ -151,9 +167,14 @@ returns-clause-refused g c =
     let few : ((fed : List ℕ) → HasPut w (g.S.Store.files c.args.store.now) fed → length fed < 2 ^ 32)
     = λ fed put. put_few w _ fed c.requires.put.0 put (own c.requires.put.0 c.requires.put.1) c.requires.put.2 in
     let first = own c.requires.put.0 c.requires.put.1 in
-    let second : WroteSecond w.base (g.S.Store.files c.args.store.now) (g.S.Store.files c.end_pass.new.store) = subst (λ b. WroteSecond b (g.S.Store.files c.args.store.now) (g.S.Store.files c.end_pass.new.store)) first.base_is c.in-Ok.ensures.step.wrote in
-    let handed : ((fed : List ℕ) → HasPut w (g.S.Store.files c.args.store.now) fed → IsHanded w.plan w.limit w.base fed (g.S.Store.files c.args.store.now) (g.S.Store.files c.end_pass.new.store) c.in-Ok.inverted)
+    let second : WroteSecond w.base (g.S.Store.files c.args.store.now) (g.S.Store.files c.end_pass.new.store) =
+    subst (λ b. WroteSecond b (g.S.Store.files c.args.store.now) (g.S.Store.files c.end_pass.new.store)) first.base_is c.in-Ok.ensures.step.wrote in
+    let handed : ((fed : List ℕ) → HasPut w (g.S.Store.files c.args.store.now) fed →
+    IsHanded w.plan w.limit w.base fed (g.S.Store.files c.args.store.now) (g.S.Store.files c.end_pass.new.store) c.in-Ok.inverted)
     = λ fed put. handed_for c.self.inside.pass.plan w.plan (budget_of c.self.inside.pass) w.limit c.self.inside.pass.base w.base fed _ _ c.in-Ok.inverted put.plan_is put.limit_is put.base_is
     (c.in-Ok.ensures.handed fed put.met put.scanned put.written (few fed put)) in
-    subst (λ (v : Putting). IfErr c.write_rest.result (λ fault. (fed : List ℕ) → HasPut v (g.S.Store.files c.args.store.now) fed → ListStops (Rose (g.S.Store.faults c.args.store.now) (g.S.Store.faults c.write_rest.new.store)) (IsSome (g.S.Store.files c.args.store.now) × IsPlanOf v.plan fed) fault)) c.self.view_is
-    (rest_refused c.write_rest.result w (g.S.Store.files c.args.store.now) (g.S.Store.files c.end_pass.new.store) c.in-Ok.inverted _ _ (λ rose. rose_behind _ _ _ c.in-Ok.ensures.step.later rose) (λ told. second.told ∙ told) handed c.write_rest.ensures.refused)
+    subst (λ (v : Putting). IfErr c.write_rest.result (λ fault. (fed : List ℕ) → HasPut v (g.S.Store.files c.args.store.now) fed →
+    ListStops (Rose (g.S.Store.faults c.args.store.now) (g.S.Store.faults c.write_rest.new.store))
+    (IsSome (g.S.Store.files c.args.store.now) × IsPlanOf v.plan fed) fault)) c.self.view_is
+    (rest_refused c.write_rest.result w (g.S.Store.files c.args.store.now) (g.S.Store.files c.end_pass.new.store) c.in-Ok.inverted _ _
+    (λ rose. rose_behind _ _ _ c.in-Ok.ensures.step.later rose) (λ told. second.told ∙ told) handed c.write_rest.ensures.refused)

@@ -28,7 +28,8 @@ returns-clause-held g c =
     (λ collection has.
     let short = short_behind _ (g.S.Store.files c.args.store.now) collection c.args.number c.args.most c.set_most.new.self.most fits c.if-number-self.false c.set_most.ensures.most has in
     let is = document_behind _ (g.S.Store.files c.args.store.now) collection c.args.number fits c.if-number-self.false has.stands in
-    held_is c.read-2.result c.read-2.new.self.bytes.items (document has.stands.b (c.args.number - c.self.inside.ahead)) (numbered c.args.number collection) is (c.read-2.ensures.content has.stands.b short))
+    held_is c.read-2.result c.read-2.new.self.bytes.items (document has.stands.b (c.args.number - c.self.inside.ahead)) (numbered c.args.number collection) is
+    (c.read-2.ensures.content has.stands.b short))
 
 pub returns-clause-never_bad : goal.returns-clause-never_bad
 returns-clause-never_bad g c =

@@ -13,7 +13,12 @@ returns-in-Err-clause-refused g c = read_wider _ _ _ _ c.in-Err.refusal (λ rose
 
 pub returns-in-Err-load_text-clause-refused : goal.returns-in-Err-load_text-clause-refused
 returns-in-Err-load_text-clause-refused g c = read_wider _ _ _ _ c.in-Err-load_text.refusal (λ rose. rose_behind _ _ _ c.in-Ok.ensures.later rose)
-    (λ some. (some.2.second_code, some.1, subst (λ f. StandsBy c.args.heads.now.1 some.2.second_code f c.args.second.now some.1) (sym c.in-Ok.ensures.files) some.2.second_stands)) c.in-Err-load_text.ensures.refused
+    (λ some. (
+      some.2.second_code,
+      some.1,
+      subst (λ f. StandsBy c.args.heads.now.1 some.2.second_code f c.args.second.now some.1) (sym c.in-Ok.ensures.files)
+          some.2.second_stands,
+    )) c.in-Err-load_text.ensures.refused
 
 pub returns-clause-fits : goal.returns-clause-fits
 returns-clause-fits g c = record {
@@ -28,7 +33,8 @@ pub returns-clause-stands : goal.returns-clause-stands
 returns-clause-stands g c = λ a b sets. record {
   a = a;
   b = b;
-  first = stands_on _ _ (g.S.Store.files c.load_text.new.store) (g.S.Store.files c.load_text-2.new.store) a (same_text _) c.in-Ok-load_text.ensures.files (c.in-Ok.ensures.stands sets.first_code a sets.first_stands);
+  first = stands_on _ _ (g.S.Store.files c.load_text.new.store) (g.S.Store.files c.load_text-2.new.store) a (same_text _) c.in-Ok-load_text.ensures.files
+      (c.in-Ok.ensures.stands sets.first_code a sets.first_stands);
   second = c.in-Ok-load_text.ensures.stands sets.second_code b (subst (λ f. StandsBy c.args.heads.now.1 sets.second_code f c.args.second.now b) (sym c.in-Ok.ensures.files) sets.second_stands);
   open_end = ap (λ (h : defs.Head). h.open_end) sets.second_stands.head_is;
   joins = refl;

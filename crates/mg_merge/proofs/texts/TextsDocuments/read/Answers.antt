@@ -15,17 +15,21 @@ returns-in-Err-clause-refused g c =
 
 pub returns-then-not-closed-clause-held : goal.returns-then-not-closed-clause-held
 returns-then-not-closed-clause-held g c = λ collection has.
-    let later = texts_stand_on c.args.self.now c.decode.new.self (g.S.Store.files c.args.store.now) (g.S.Store.files c.decode.new.store) collection c.in-Ok.ensures.same c.in-Ok.ensures.files has.stands in
+    let later = texts_stand_on c.args.self.now c.decode.new.self (g.S.Store.files c.args.store.now) (g.S.Store.files c.decode.new.store) collection
+    c.in-Ok.ensures.same c.in-Ok.ensures.files has.stands in
     let closed : c.is_closed-closed.result ≡ is_closed c.args.number c.decode.new.self.all c.decode.new.self.open_end = rw (← c.self.view_is) c.is_closed-closed.ensures in
-    closes c.decode.new.self (g.S.Store.files c.decode.new.store) collection c.decode.new.self.held c.decode.new.self.held c.is_closed-closed.result c.args.number c.in-Ok.ensures.fits closed (c.in-Ok.ensures.held collection has)
+    closes c.decode.new.self (g.S.Store.files c.decode.new.store) collection c.decode.new.self.held c.decode.new.self.held c.is_closed-closed.result
+    c.args.number c.in-Ok.ensures.fits closed (c.in-Ok.ensures.held collection has)
     (without_close c.is_closed-closed.result c.decode.new.self.held c.if-not-closed.true) later
 
 pub returns-clause-held : goal.returns-clause-held
 returns-clause-held g c = λ collection has.
-    let later = texts_stand_on c.args.self.now c.decode.new.self (g.S.Store.files c.args.store.now) (g.S.Store.files c.decode.new.store) collection c.in-Ok.ensures.same c.in-Ok.ensures.files has.stands in
+    let later = texts_stand_on c.args.self.now c.decode.new.self (g.S.Store.files c.args.store.now) (g.S.Store.files c.decode.new.store) collection
+    c.in-Ok.ensures.same c.in-Ok.ensures.files has.stands in
     let closed : c.is_closed-closed.result ≡ is_closed c.args.number c.decode.new.self.all c.decode.new.self.open_end = rw (← c.self.view_is) c.is_closed-closed.ensures in
     let held : c.self.inside.held.bytes.items ≡ c.decode.new.self.held = ap (λ (t : TwoTexts). t.held) c.self.view_is in
-    closes c.decode.new.self (g.S.Store.files c.decode.new.store) collection c.decode.new.self.held c.close.new.self.bytes.items c.is_closed-closed.result c.args.number c.in-Ok.ensures.fits closed (c.in-Ok.ensures.held collection has)
+    closes c.decode.new.self (g.S.Store.files c.decode.new.store) collection c.decode.new.self.held c.close.new.self.bytes.items c.is_closed-closed.result
+    c.args.number c.in-Ok.ensures.fits closed (c.in-Ok.ensures.held collection has)
     (c.in-Ok-close.ensures.closed ∙ ap (λ h. h ++ 2 ∷ []) held ∙ with_close c.is_closed-closed.result c.decode.new.self.held c.if-not-closed.false) later
 
 pub returns-clause-short : goal.returns-clause-short

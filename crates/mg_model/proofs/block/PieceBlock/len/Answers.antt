@@ -10,4 +10,5 @@ pub returns-clause-few : goal.returns-clause-few
 returns-clause-few c = omega (arith, length-pieces c.self.inside.long.items c.self.inside.entries.items, ap length c.self.view_is, c.self.invariant.few)
 
 pub returns-clause-short : goal.returns-clause-short
-returns-clause-short c = subst (AllByRecursion (λ (p : List ℕ). length p ≤ 255)) c.self.view_is (pieces-short (length c.self.inside.long.items) c.self.inside.long.items c.self.inside.entries.items c.self.invariant.entries_are)
+returns-clause-short c = subst (AllByRecursion (λ (p : List ℕ). length p ≤ 255)) c.self.view_is
+    (pieces-short (length c.self.inside.long.items) c.self.inside.long.items c.self.inside.entries.items c.self.invariant.entries_are)

@@ -39,23 +39,35 @@ invariant_of-self c =
 
 pub returns-then-len-ge-MOST_PIECES-clause-full : goal.returns-then-len-ge-MOST_PIECES-clause-full
 returns-then-len-ge-MOST_PIECES-clause-full c =
-    let none : has_piece c.args.self.now c.args.piece.now ≡ false = ap (λ es. has_piece es c.args.piece.now) (sym c.self.view_is) ∙ not-found c.args.piece.now c.self.inside.counts.entries (sym c.in_default.ensures.value) in
-    let full : length c.args.self.now ≡ 2 ^ 22 = omega (arith, length-entries c.self.inside.counts.entries, ap length c.self.view_is, c.len.ensures.len, ap (λ m. length m.entries) c.get_mut.follows.holds-at-none, c.if-len-ge-MOST_PIECES.true, c.self.invariant.few) in
+    let none : has_piece c.args.self.now c.args.piece.now ≡ false = ap (λ es. has_piece es c.args.piece.now) (sym c.self.view_is)
+    ∙ not-found c.args.piece.now c.self.inside.counts.entries (sym c.in_default.ensures.value) in
+    let full : length c.args.self.now ≡ 2 ^ 22 = omega (
+      arith,
+      length-entries c.self.inside.counts.entries,
+      ap length c.self.view_is,
+      c.len.ensures.len,
+      ap (λ m. length m.entries) c.get_mut.follows.holds-at-none,
+      c.if-len-ge-MOST_PIECES.true,
+      c.self.invariant.few,
+    ) in
     (λ _. (none, full), λ _. search rules)
 
 pub returns-then-len-ge-MOST_PIECES-clause-known : goal.returns-then-len-ge-MOST_PIECES-clause-known
 returns-then-len-ge-MOST_PIECES-clause-known c = λ there.
-    let none : has_piece c.args.self.now c.args.piece.now ≡ false = ap (λ es. has_piece es c.args.piece.now) (sym c.self.view_is) ∙ not-found c.args.piece.now c.self.inside.counts.entries (sym c.in_default.ensures.value) in
+    let none : has_piece c.args.self.now c.args.piece.now ≡ false = ap (λ es. has_piece es c.args.piece.now) (sym c.self.view_is)
+    ∙ not-found c.args.piece.now c.self.inside.counts.entries (sym c.in_default.ensures.value) in
     absurd (false≢true (sym none ∙ there))
 
 pub returns-in_err-piece-clause-known : goal.returns-in_err-piece-clause-known
 returns-in_err-piece-clause-known c = λ there.
-    let none : has_piece c.args.self.now c.args.piece.now ≡ false = ap (λ es. has_piece es c.args.piece.now) (sym c.self.view_is) ∙ not-found c.args.piece.now c.self.inside.counts.entries (sym c.in_default.ensures.value) in
+    let none : has_piece c.args.self.now c.args.piece.now ≡ false = ap (λ es. has_piece es c.args.piece.now) (sym c.self.view_is)
+    ∙ not-found c.args.piece.now c.self.inside.counts.entries (sym c.in_default.ensures.value) in
     absurd (false≢true (sym none ∙ there))
 
 pub returns-in_err-insert-clause-known : goal.returns-in_err-insert-clause-known
 returns-in_err-insert-clause-known c = λ there.
-    let none : has_piece c.args.self.now c.args.piece.now ≡ false = ap (λ es. has_piece es c.args.piece.now) (sym c.self.view_is) ∙ not-found c.args.piece.now c.self.inside.counts.entries (sym c.in_default.ensures.value) in
+    let none : has_piece c.args.self.now c.args.piece.now ≡ false = ap (λ es. has_piece es c.args.piece.now) (sym c.self.view_is)
+    ∙ not-found c.args.piece.now c.self.inside.counts.entries (sym c.in_default.ensures.value) in
     absurd (false≢true (sym none ∙ there))
 
 pub returns-clause-counted : goal.returns-clause-counted
@@ -71,7 +83,14 @@ pub invariant_of-self-2 : goal.invariant_of-self-2
 invariant_of-self-2 c =
     let old = entries_of c.self.inside.counts.entries in
     let none : has_piece old c.args.piece.now ≡ false = not-found c.args.piece.now c.self.inside.counts.entries (sym c.in_default.ensures.value) in
-    let few : length old + 1 ≤ 2 ^ 22 = omega (arith, length-entries c.self.inside.counts.entries, c.len.ensures.len, ap (λ m. length m.entries) c.get_mut.follows.holds-at-none, c.if-len-ge-MOST_PIECES.false) in
+    let few : length old + 1 ≤ 2 ^ 22 = omega (
+      arith,
+      length-entries c.self.inside.counts.entries,
+      c.len.ensures.len,
+      ap (λ m. length m.entries) c.get_mut.follows.holds-at-none,
+      c.if-len-ge-MOST_PIECES.false,
+    ) in
     still c.args.piece.now old _ c.self.invariant (omega (arith, ap total c.self.view_is, c.requires.total)) c.requires.short
     (subst (λ b. length old + cond b 0 1 ≤ 2 ^ 22) (sym none) few)
-    (ap entries_of (c.in_ok-insert.ensures.entries ∙ ap (λ m. insert_entry same_bytes m.entries c.in_ok-piece.piece 1) c.get_mut.follows.holds-at-none) ∙ counted-new c.args.piece.now c.self.inside.counts.entries c.in_ok-piece.piece (sym c.in_default.ensures.value) c.in_ok-piece.ensures.items)
+    (ap entries_of (c.in_ok-insert.ensures.entries ∙ ap (λ m. insert_entry same_bytes m.entries c.in_ok-piece.piece 1) c.get_mut.follows.holds-at-none)
+    ∙ counted-new c.args.piece.now c.self.inside.counts.entries c.in_ok-piece.piece (sym c.in_default.ensures.value) c.in_ok-piece.ensures.items)

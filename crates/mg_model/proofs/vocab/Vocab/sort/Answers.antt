@@ -24,4 +24,5 @@ pub returns-clause-counts : goal.returns-clause-counts
 returns-clause-counts c =
     let old = c.self.inside.counts.entries in
     let new = c.sort_unstable_keys.new.self.entries in
-    sorted-counts (entries_of old) (entries_of new) (entries-moved old new c.sort_unstable_keys.ensures.reordered.0) (invariant_of-self-2 c).distinct (returns-clause-rising c) ∙ ap counts_of c.self.view_is
+    sorted-counts (entries_of old) (entries_of new) (entries-moved old new c.sort_unstable_keys.ensures.reordered.0) (invariant_of-self-2 c).distinct
+    (returns-clause-rising c) ∙ ap counts_of c.self.view_is

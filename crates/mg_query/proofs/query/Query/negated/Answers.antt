@@ -7,4 +7,5 @@ use Rattle.mg_query.proofs.query.Query.negated.Goals as goal
 
 pub loop-sign-preserved : goal.loop-sign-preserved
 loop-sign-preserved c =
-    ap (λ q. negated (c.args.signs - (c.loop-sign._sign + 1)) (without (query_of q))) c.in_ok-new.ensures.ok ∙ (negated-step c.args.signs c.loop-sign._sign (query_of c.loop-sign.negated) c.loop-sign-test.true ∙ c.loop-sign.invariant)
+    ap (λ q. negated (c.args.signs - (c.loop-sign._sign + 1)) (without (query_of q))) c.in_ok-new.ensures.ok
+    ∙ (negated-step c.args.signs c.loop-sign._sign (query_of c.loop-sign.negated) c.loop-sign-test.true ∙ c.loop-sign.invariant)

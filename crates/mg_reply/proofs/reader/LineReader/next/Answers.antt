@@ -19,7 +19,8 @@ returns-then-size-eq0-clause-line g c =
 pub returns-in-Ok-None-clause-line : goal.returns-in-Ok-None-clause-line
 returns-in-Ok-None-clause-line g c =
     let took = rw c.in-Ok-None.field-0-is at c.in-Ok-None.ensures.took in
-    ended c.args.self.now (record { held = c.byte.new.self; line = c.bytes.self-inside.line; used = c.bytes.self-inside.used + c.bytes.size }) _ _ _ _ _ c.bytes.invariant.going took.0 took.1 (omega arith) c.event_of.ensures (omega arith) (omega arith)
+    ended c.args.self.now (record { held = c.byte.new.self; line = c.bytes.self-inside.line; used = c.bytes.self-inside.used + c.bytes.size }) _ _ _ _ _
+    c.bytes.invariant.going took.0 took.1 (omega arith) c.event_of.ensures (omega arith) (omega arith)
 
 pub returns-then-size-room-clause-line : goal.returns-then-size-room-clause-line
 returns-then-size-room-clause-line g c =
@@ -29,7 +30,8 @@ returns-then-size-room-clause-line g c =
 pub returns-then-byte-eq10-clause-line : goal.returns-then-byte-eq10-clause-line
 returns-then-byte-eq10-clause-line g c =
     let took = rw c.in-Ok-Some.field-0-is at c.in-Ok-Some.ensures.took in
-    closed c.args.self.now (record { held = c.byte.new.self; line = c.bytes.self-inside.line; used = c.bytes.self-inside.used + (c.bytes.size + 1) }) _ _ _ _ _ c.bytes.invariant.going (rw c.if-byte-eq10.true at took) c.event_of-then-byte-eq10.ensures (omega arith) (omega arith)
+    closed c.args.self.now (record { held = c.byte.new.self; line = c.bytes.self-inside.line; used = c.bytes.self-inside.used + (c.bytes.size + 1) }) _ _ _ _ _
+    c.bytes.invariant.going (rw c.if-byte-eq10.true at took) c.event_of-then-byte-eq10.ensures (omega arith) (omega arith)
 
 pub bytes-preserved : goal.bytes-preserved
 bytes-preserved g c =

@@ -24,7 +24,8 @@ returns-clause-fed g c = λ fed few is.
           let pl = rw (w.self-inside-is, w.spill.ensures.limit) at c.push-2.ensures.limit in
           let places = w.in_ok-push.ensures.items ∙ ap (λ k. c.self.inside.places.items ++ k ∷ []) w.place-place.ensures in
           rw (w.self-inside-is, w.store-is)
-          (fed_full _ _ _ _ fed (c.args.term, c.args.doc) was full new few w.spill.ensures.wrote.told w.in_ok-spill.ensures.bits w.in_ok-spill.ensures.holds w.in_ok-spill.ensures.whole w.in_ok-spill.ensures.place pe c.push-2.ensures.slots pp pl places refl)
+          (fed_full _ _ _ _ fed (c.args.term, c.args.doc) was full new few w.spill.ensures.wrote.told w.in_ok-spill.ensures.bits w.in_ok-spill.ensures.holds
+          w.in_ok-spill.ensures.whole w.in_ok-spill.ensures.place pe c.push-2.ensures.slots pp pl places refl)
       | else-is_full w ↦
           let other : length c.self.inside.pool.entries ≡ c.self.inside.pool.limit / 12 → ⊥ = search rules in
           let room = less _ _ (fed_most _ _ fed was) other in

@@ -29,7 +29,8 @@ returns-in-Ok-finish-clause-run g c = λ told fed is.
           let some = some_entries c.self.inside.pool c.used.result c.used.ensures.value was.slots (omega (arith, w.if-used-gt0.true)) in
           let name = w.spill.ensures.name ∙ was.name in
           rw (← c.self.view_is)
-          (last_bits _ _ _ fed _ _ was some told w.in-Ok-spill.ensures.bits w.in-Ok-spill.ensures.whole (ap (λ n. bits_of (bytes_at (g.S.Store.files c.finish.new.store) n)) (sym name) ∙ file (w.spill.ensures.wrote.told ∙ told)))
+          (last_bits _ _ _ fed _ _ was some told w.in-Ok-spill.ensures.bits w.in-Ok-spill.ensures.whole
+          (ap (λ n. bits_of (bytes_at (g.S.Store.files c.finish.new.store) n)) (sym name) ∙ file (w.spill.ensures.wrote.told ∙ told)))
       | else-used-gt0 w ↦
           let file = rw (w.store-is, w.writer-is) at c.in-Ok-finish.ensures.file in
           let none = no_entries_used c.self.inside.pool c.used.result c.used.ensures.value (omega (arith, w.if-used-gt0.false)) in

@@ -17,7 +17,8 @@ use Rattle.mg_session.proofs.phrase_searcher.PhraseSearcher.answer_words.Goals a
 pub returns-in-Err-clause-answer : goal.returns-in-Err-clause-answer
 returns-in-Err-clause-answer g c = λ collection over.
     nothing_answered _ collection _ _ _ _ _
-    (part_sound c.in-Err.refusal _ _ c.from.ensures (c.in-Err.ensures.answer over.version collection over.limits (subst (λ (o : PhraseParts). LexStands o.lex (g.S.Store.files c.args.store.now) collection) (sym c.self.view_is) over.lex)))
+    (part_sound c.in-Err.refusal _ _ c.from.ensures (c.in-Err.ensures.answer over.version collection over.limits
+    (subst (λ (o : PhraseParts). LexStands o.lex (g.S.Store.files c.args.store.now) collection) (sym c.self.view_is) over.lex)))
     (lex_post _ _ _ _ _ _ c.in-Err.ensures.looked) (lex_text _ _ _ _ _ _ c.in-Err.ensures.looked)
 
 pub answer_phrase-requires-clause-size : goal.answer_phrase-requires-clause-size
@@ -30,9 +31,13 @@ returns-clause-answer g c = λ collection over.
     let own_over : PartsOver (g.S.Store.files c.args.store.now) own collection = subst (λ (o : PhraseParts). PartsOver (g.S.Store.files c.args.store.now) o collection) (sym c.self.view_is) over in
     let told = c.in-Ok.ensures.answer own_over.version collection own_over.limits own_over.lex in
     let terms = c.as_slice.ensures ∙ sym (terms_joined c.args.phrase.now c.args.query.now c.requires.joined) in
-    let same : AreInfos collection (query_terms (query_of c.args.query.now)) c.deref.result.now = subst (λ (xs : List (Option TermInfo)). AreInfos collection (query_terms (query_of c.args.query.now)) xs) (sym c.deref.ensures.value) (subst (λ (ts : List (List ℕ)). AreInfos collection ts c.in-Ok.infos.items) terms told) in
+    let same : AreInfos collection (query_terms (query_of c.args.query.now)) c.deref.result.now =
+    subst (λ (xs : List (Option TermInfo)). AreInfos collection (query_terms (query_of c.args.query.now)) xs) (sym c.deref.ensures.value)
+    (subst (λ (ts : List (List ℕ)). AreInfos collection ts c.in-Ok.infos.items) terms told) in
     let stands = sources_stay _ _ _ _ _ _ collection c.in-Ok.ensures.looked.files own_over.sources in
-    subst (λ (o : PhraseParts). PhraseAnswered o.text.code collection c.args.phrase.now (g.O.Sink.written c.args.out.now) (g.O.Sink.written c.answer_phrase.new.out) (g.S.Store.reads c.args.store.now) (g.S.Store.reads c.answer_phrase.new.store) c.answer_phrase.result) c.self.view_is
+    subst (λ (o : PhraseParts). PhraseAnswered o.text.code collection c.args.phrase.now (g.O.Sink.written c.args.out.now)
+    (g.O.Sink.written c.answer_phrase.new.out) (g.S.Store.reads c.args.store.now) (g.S.Store.reads c.answer_phrase.new.store) c.answer_phrase.result)
+    c.self.view_is
     (answered_behind own.text.code collection c.args.phrase.now _ _ _ (g.S.Store.reads c.find_terms.new.store) _ _
     (c.answer_phrase.ensures.answer collection stands same)
     (lex_post _ _ _ _ _ _ c.in-Ok.ensures.looked) (lex_text _ _ _ _ _ _ c.in-Ok.ensures.looked))

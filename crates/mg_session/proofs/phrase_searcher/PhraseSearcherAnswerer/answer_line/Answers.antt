@@ -6,7 +6,9 @@ use Rattle.mg_session.proofs.PhraseReplyLaws.{line_part, phrases_asked}
 use Rattle.mg_session.proofs.phrase_searcher.PhraseSearcherAnswerer.answer_line.Goals as goal
 
 pub returns-clause-content : goal.returns-clause-content
-returns-clause-content g c = λ by answers. subst (λ (r : Settings → List ℕ → List ℕ). AfterPut (g.O.Sink.written c.args.out.now) (g.O.Sink.written c.answer_question.new.out) (r c.args._now.now c.args.line.now) c.answer_question.result) (sym answers.by_is)
+returns-clause-content g c = λ by answers. subst (λ (r : Settings → List ℕ → List ℕ).
+    AfterPut (g.O.Sink.written c.args.out.now) (g.O.Sink.written c.answer_question.new.out) (r c.args._now.now c.args.line.now) c.answer_question.result)
+    (sym answers.by_is)
     (c.answer_question.ensures.replied answers.collection answers.over).put
 
 pub returns-clause-after : goal.returns-clause-after

@@ -4,7 +4,8 @@ use Rattle.mg_session.proofs.ReplyLaws.{boolean_answered, boolean_refused, refus
 use Rattle.mg_session.proofs.searcher.Searcher.answer_boolean.Goals as goal
 
 pub returns-in-Err-clause-replied : goal.returns-in-Err-clause-replied
-returns-in-Err-clause-replied g c = λ code collection over. boolean_refused c.in-Err.why code collection _ _ _ _ _ _ _ _ c.in-Err.ensures.refused c.answer_refused.ensures.content c.answer_refused.ensures.cause
+returns-in-Err-clause-replied g c = λ code collection over.
+    boolean_refused c.in-Err.why code collection _ _ _ _ _ _ _ _ c.in-Err.ensures.refused c.answer_refused.ensures.content c.answer_refused.ensures.cause
 
 pub returns-in-Err-clause-cause : goal.returns-in-Err-clause-cause
 returns-in-Err-clause-cause g c = refused_cause _ _ _ _ _ c.answer_refused.ensures.later c.answer_refused.ensures.cause

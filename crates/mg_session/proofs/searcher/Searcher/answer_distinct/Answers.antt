@@ -11,7 +11,8 @@ use Rattle.mg_session.proofs.searcher.Searcher.answer_distinct.Goals as goal
 pub returns-in-Err-clause-answer : goal.returns-in-Err-clause-answer
 returns-in-Err-clause-answer g c = λ code collection over.
     nothing_answered code collection _ _ _ _ _ _ _
-    (part_sound c.in-Err.refusal _ _ c.from.ensures (c.in-Err.ensures.answer over.version collection over.limits (subst (λ (o : Opened). LexStands o.lex (g.S.Store.files c.args.store.now) collection) (sym c.self.view_is) over.lex)))
+    (part_sound c.in-Err.refusal _ _ c.from.ensures (c.in-Err.ensures.answer over.version collection over.limits
+    (subst (λ (o : Opened). LexStands o.lex (g.S.Store.files c.args.store.now) collection) (sym c.self.view_is) over.lex)))
     (lex_post _ _ _ _ _ _ c.in-Err.ensures.looked) (lex_text _ _ _ _ _ _ c.in-Err.ensures.looked)
 
 pub answer_terms-requires-clause-few : goal.answer_terms-requires-clause-few
@@ -20,9 +21,11 @@ answer_terms-requires-clause-few g c = omega (arith, ap length c.deref.ensures.v
 pub returns-clause-answer : goal.returns-clause-answer
 returns-clause-answer g c = λ code collection over.
     let own : Opened = record { base = c.self.inside.base.now; lex = c.self.inside.lex; texts = c.self.inside.texts; all = c.self.inside.all } in
-    let own_over : OpenedOver (g.S.Store.files c.args.store.now) own code collection = subst (λ (o : Opened). OpenedOver (g.S.Store.files c.args.store.now) o code collection) (sym c.self.view_is) over in
+    let own_over : OpenedOver (g.S.Store.files c.args.store.now) own code collection = subst
+    (λ (o : Opened). OpenedOver (g.S.Store.files c.args.store.now) o code collection) (sym c.self.view_is) over in
     let told = c.in-Ok.ensures.answer own_over.version collection own_over.limits own_over.lex in
-    let same : AreInfos collection c.args.terms.now c.deref.result.now = subst (λ (xs : List (Option TermInfo)). AreInfos collection c.args.terms.now xs) (sym c.deref.ensures.value) (subst (λ (ts : List (List ℕ)). AreInfos collection ts c.in-Ok.infos.items) (c.as_slice.ensures) told) in
+    let same : AreInfos collection c.args.terms.now c.deref.result.now = subst (λ (xs : List (Option TermInfo)). AreInfos collection c.args.terms.now xs)
+    (sym c.deref.ensures.value) (subst (λ (ts : List (List ℕ)). AreInfos collection ts c.in-Ok.infos.items) (c.as_slice.ensures) told) in
     let stands = answers_for _ _ own code collection c.in-Ok.ensures.looked.files own_over in
     answered_behind code collection _ _ _ _ _ _ (g.S.Store.reads c.find_terms.new.store) _ _
     (c.answer_terms.ensures.answer code collection stands c.args.terms.now same c.requires.apart)

@@ -4,7 +4,8 @@ use Rattle.mg_session.proofs.ReplyLaws.{ranked_answered, ranked_refused, refused
 use Rattle.mg_session.proofs.searcher.Searcher.answer_ranked.Goals as goal
 
 pub returns-in-Err-clause-replied : goal.returns-in-Err-clause-replied
-returns-in-Err-clause-replied g c = λ code collection over. ranked_refused c.in-Err.why code collection _ _ _ _ _ _ _ _ c.in-Err.ensures.refused c.answer_refused.ensures.content c.answer_refused.ensures.cause
+returns-in-Err-clause-replied g c = λ code collection over.
+    ranked_refused c.in-Err.why code collection _ _ _ _ _ _ _ _ c.in-Err.ensures.refused c.answer_refused.ensures.content c.answer_refused.ensures.cause
 
 pub returns-in-Err-clause-cause : goal.returns-in-Err-clause-cause
 returns-in-Err-clause-cause g c = refused_cause _ _ _ _ _ c.answer_refused.ensures.later c.answer_refused.ensures.cause

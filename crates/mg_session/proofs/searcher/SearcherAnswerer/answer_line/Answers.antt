@@ -6,7 +6,9 @@ use Rattle.mg_session.proofs.ReplyLaws.{asked_one, line_part, line_put}
 use Rattle.mg_session.proofs.searcher.SearcherAnswerer.answer_line.Goals as goal
 
 pub returns-clause-content : goal.returns-clause-content
-returns-clause-content g c = λ by answers. subst (λ (r : Settings → List ℕ → List ℕ). AfterPut (g.O.Sink.written c.args.out.now) (g.O.Sink.written c.answer_question.new.out) (r c.args.now.now c.args.line.now) c.answer_question.result) (sym answers.by_is)
+returns-clause-content g c = λ by answers. subst (λ (r : Settings → List ℕ → List ℕ).
+    AfterPut (g.O.Sink.written c.args.out.now) (g.O.Sink.written c.answer_question.new.out) (r c.args.now.now c.args.line.now) c.answer_question.result)
+    (sym answers.by_is)
     (line_put answers.code answers.collection _ _ _ _ _ _ _ (c.answer_question.ensures.replied answers.code answers.collection answers.over))
 
 pub returns-clause-after : goal.returns-clause-after

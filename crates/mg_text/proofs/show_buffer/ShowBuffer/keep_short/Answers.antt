@@ -4,12 +4,14 @@ use Rattle.std.proofs.lemmas.List.{take_all, take-append-le, with_items_is}
 use Rattle.mg_text.proofs.show_buffer.ShowBuffer.keep_short.Goals as goal
 
 -- what stands behind the piece is not held
-kept : (used n : ℕ) (inside bytes copied entry rest held : List ℕ) → take used inside ≡ held → bytes ≡ inside → copied ≡ drop 1 entry → n ≡ get_or entry 0 0 → used ≤ length inside → n ≤ length copied →
+kept : (used n : ℕ) (inside bytes copied entry rest held : List ℕ) → take used inside ≡ held → bytes ≡ inside → copied ≡ drop 1 entry → n ≡ get_or entry 0 0 →
+    used ≤ length inside → n ≤ length copied →
     take (used + n) (take used bytes ++ (copied ++ rest)) ≡ held ++ take (get_or entry 0 0) (drop 1 entry)
 kept used n inside bytes copied entry rest held view same same_copy count some within =
     let long : used ≡ length (take used inside) = omega (arith, length-take used inside, some) in
     ap (λ b. take (used + n) (take used b ++ (copied ++ rest))) same ∙ ap (λ k. take (k + n) (take used inside ++ (copied ++ rest))) long ∙ take-append-add (take used inside) (copied ++ rest) n
-    ∙ ap (λ t. take used inside ++ t) (take-append-le n copied rest within) ∙ ap (λ h. h ++ take n copied) view ∙ ap (λ k. held ++ take k copied) count ∙ ap (λ t. held ++ take (get_or entry 0 0) t) same_copy
+    ∙ ap (λ t. take used inside ++ t) (take-append-le n copied rest within) ∙ ap (λ h. h ++ take n copied) view ∙ ap (λ k. held ++ take k copied) count
+    ∙ ap (λ t. held ++ take (get_or entry 0 0) t) same_copy
 
 pub returns : goal.returns
 returns c =
@@ -22,9 +24,28 @@ returns c =
     let copy : c.copy_from_slice.new.self ≡ drop 1 c.args.entry.now = part ∙ take_all 15 (drop 1 c.args.entry.now) (omega (arith, length-drop 1 c.args.entry.now, c.told-entry)) in
     let fifteen : length c.copy_from_slice.new.self ≡ 15 = omega (arith, ap length copy, length-drop 1 c.args.entry.now, c.told-entry) in
     let count : c.from.result ≡ get_or c.args.entry.now 0 0 = omega (arith, c.from.ensures) in
-    let room : c.self.inside.used + 15 ≤ length c.self.inside.bytes.items = omega (arith, c.requires.room, ap length c.self.view_is, length-take c.self.inside.used c.self.inside.bytes.items, c.self.invariant.0, c.self.invariant.1) in
+    let room : c.self.inside.used + 15 ≤ length c.self.inside.bytes.items = omega (
+      arith,
+      c.requires.room,
+      ap length c.self.view_is,
+      length-take c.self.inside.used c.self.inside.bytes.items,
+      c.self.invariant.0,
+      c.self.invariant.1,
+    ) in
     let same : length c.deref_mut.result.now ≡ length c.self.inside.bytes.items = ap length c.deref_mut.ensures.value in
     let long : length (take used bytes ++ (copied ++ rest)) ≡ c.self.inside.bytes.len =
-    omega (arith, length-append (take used bytes) (copied ++ rest), length-append copied rest, length-take used bytes, length-drop (c.self.inside.used + 15 - c.self.inside.used) (drop used bytes), length-drop used bytes, fifteen, room, same, c.self.inside.bytes.ok.0) in
+    omega (
+      arith,
+      length-append (take used bytes) (copied ++ rest),
+      length-append copied rest,
+      length-take used bytes,
+      length-drop (c.self.inside.used + 15 - c.self.inside.used) (drop used bytes),
+      length-drop used bytes,
+      fifteen,
+      room,
+      same,
+      c.self.inside.bytes.ok.0,
+    ) in
     ap (take (c.self.inside.used + c.from.result)) (with_items_is c.self.inside.bytes (take used bytes ++ (copied ++ rest)) long)
-    ∙ kept used c.from.result c.self.inside.bytes.items bytes copied entry rest c.args.self.now c.self.view_is c.deref_mut.ensures.value copy count (omega (arith, room)) (omega (arith, count, fifteen, c.requires.short))
+    ∙ kept used c.from.result c.self.inside.bytes.items bytes copied entry rest c.args.self.now c.self.view_is c.deref_mut.ensures.value copy count
+    (omega (arith, room)) (omega (arith, count, fifteen, c.requires.short))

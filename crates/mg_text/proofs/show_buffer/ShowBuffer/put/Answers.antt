@@ -14,4 +14,5 @@ returns-in-Ok-clause-shown g c = λ before bytes shown.
     subst (λ l. Shown before (g.O.Sink.written c.flush.new.out) l (bytes ++ c.args.piece.now)) (sym (c.keep-in-Ok.ensures ∙ ap (λ l. l ++ c.args.piece.now) c.in-Ok.ensures.empty)) held
 
 pub returns-in-Err-clause-shown : goal.returns-in-Err-clause-shown
-returns-in-Err-clause-shown g c = λ before bytes shown. grew_first _ _ bytes c.args.piece.now (shown_grew before (g.O.Sink.written c.args.out.now) (g.O.Sink.written c.flush.new.out) c.args.self.now bytes shown c.in-Err.ensures.content)
+returns-in-Err-clause-shown g c = λ before bytes shown. grew_first _ _ bytes c.args.piece.now
+    (shown_grew before (g.O.Sink.written c.args.out.now) (g.O.Sink.written c.flush.new.out) c.args.self.now bytes shown c.in-Err.ensures.content)

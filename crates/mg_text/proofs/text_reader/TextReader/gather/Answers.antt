@@ -6,7 +6,9 @@ pub returns-clause-content : goal.returns-clause-content
 returns-clause-content g c = λ collection before bytes stands shown. ends_first c.gather_behind.result _ _ _ _ (c.gather_behind.ensures.answer collection before bytes stands shown)
 
 pub returns-clause-never_bad : goal.returns-clause-never_bad
-returns-clause-never_bad g c = λ collection stands. ends_good c.gather_behind.result _ _ (c.gather_behind.ensures.answer collection _ _ stands (shown_from (g.O.Sink.written c.args.out.now) c.args.buffer.now))
+returns-clause-never_bad g c = λ collection stands. ends_good c.gather_behind.result _ _
+    (c.gather_behind.ensures.answer collection _ _ stands (shown_from (g.O.Sink.written c.args.out.now) c.args.buffer.now))
 
 pub returns-clause-pages : goal.returns-clause-pages
-returns-clause-pages g c = λ collection stands. ends_second c.gather_behind.result _ _ _ (c.gather_behind.ensures.answer collection _ _ stands (shown_from (g.O.Sink.written c.args.out.now) c.args.buffer.now))
+returns-clause-pages g c = λ collection stands. ends_second c.gather_behind.result _ _ _
+    (c.gather_behind.ensures.answer collection _ _ stands (shown_from (g.O.Sink.written c.args.out.now) c.args.buffer.now))

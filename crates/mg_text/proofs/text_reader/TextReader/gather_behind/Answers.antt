@@ -29,6 +29,7 @@ returns-clause-answer g c =
     (λ collection before bytes stands shown.
     let within = rw (← c.self.view_is) at c.requires.within in
     let wanted = place_wanted _ _ collection c.args.number stands c.requires.some within in
-    gather_told c.gather_doc.result _ _ _ collection c.args.number c.in-Ok.from c.seek.new.self.place _ c.seek.new.self.feed _ _ _ _ before _ _ _ _ bytes stands c.requires.some within c.in-Ok.ensures.looked.files
+    gather_told c.gather_doc.result _ _ _ collection c.args.number c.in-Ok.from c.seek.new.self.place _ c.seek.new.self.feed _ _ _ _ before _ _ _ _ bytes stands
+    c.requires.some within c.in-Ok.ensures.looked.files
     (c.in-Ok.ensures.told stands.told (place_after c.self.inside.model collection (c.args.number - 1)) wanted.0 wanted.1 wanted.2)
     c.seek.ensures.place c.seek.ensures.feed c.self.invariant.0 (c.in-Ok.ensures.looked.others part.Text (ap (same_part part.Text) c.self.invariant.1)) shown c.gather_doc.ensures.told)
