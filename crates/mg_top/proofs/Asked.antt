@@ -3,8 +3,8 @@ use Rattle.std.proofs.Common.{◌≡◌, List, Option, Some, None, refl, sym, su
 use Rattle.mg_dev.specs.declared.fault.Fault.{Fault}
 use Rattle.mg_dev.specs.declared.fault.Fault.TheVariants.{Usage}
 use Rattle.mg_dev.specs.declared.status.Status.{Status}
-use Rattle.mg_words.specs.Plain.{Word}
-use Rattle.mg_words.specs.Tasks.{Task, build, query, decode, scan, trial, migrate, check, wild, phrase, merge, task_of, IsRefused}
+use Rattle.mg_args.specs.Plain.{Word}
+use Rattle.mg_args.specs.Tasks.{Task, build, query, decode, scan, trial, migrate, check, wild, phrase, merge, task_of, IsRefused}
 use Rattle.mg_top.specs.Ends.{ToldWhy}
 use Rattle.mg_dev.specs.Runs.{IfStopped, Run, Stops}
 use Rattle.mg_build.specs.Made.{Made}

@@ -26,8 +26,8 @@ use Rattle.mg_session.specs.WildAnswers.{NeverReadByPatterns, ReadsPatterns}
 use Rattle.mg_session.specs.WildServes.{CountsTooMany}
 use Rattle.mg_plain.specs.Stops.{ScanStops}
 use Rattle.mg_decode.specs.Outcomes.{DecodeStops}
-use Rattle.mg_words.specs.Plain.{Word}
-use Rattle.mg_words.specs.Tasks.{Task, build, query, decode, scan, trial, migrate, check, wild, phrase, merge, task_of}
+use Rattle.mg_args.specs.Plain.{Word}
+use Rattle.mg_args.specs.Tasks.{Task, build, query, decode, scan, trial, migrate, check, wild, phrase, merge, task_of}
 use Rattle.mg_top.specs.Ends.{LacksAtOnce, Prints, SilentOnOutput, ToldWhy}
 use Rattle.mg_dev.specs.Runs.{IfStopped, Run, SaysNothing, KeepsFiles, Stops, StoreFailed, InputFailed, OutputFailed}
 use Rattle.mg_top.specs.Checked.{Checked, standing_line}

@@ -2,8 +2,8 @@
 use Rattle.std.specs.Prelude.{◌≡◌, ◌⊎◌, List, Some, None, String, map, string_bytes}
 use Rattle.std.specs.declared.option.Option.{Option}
 use Rattle.mg_dev.specs.declared.fault.Fault.TheVariants.{Usage, Memory}
-use Rattle.mg_words.specs.Plain.{Word}
-use Rattle.mg_words.specs.Tasks.{Task, build, query, decode, scan, migrate, merge, trial, check, phrase, wild, task_of, IsRefused}
+use Rattle.mg_args.specs.Plain.{Word}
+use Rattle.mg_args.specs.Tasks.{Task, build, query, decode, scan, migrate, merge, trial, check, phrase, wild, task_of, IsRefused}
 use Rattle.mg_top.specs.Ends.{ToldWhy}
 use Rattle.mg_dev.specs.Runs.{Run, Stops}
 use Rattle.mg_top.specs.Built.{Built}

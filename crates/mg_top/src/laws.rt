@@ -4,7 +4,7 @@ ghost use Rattle.mg_dev.specs.declared.fault.Fault.{Fault};
 ghost use Rattle.mg_dev.specs.declared.fault.Fault.TheVariants.{Usage, Memory};
 ghost use Rattle.mg_dev.specs.declared.status.Status.{Status};
 ghost use Rattle.mg_dev.specs.declared.status.Status.TheVariants.{Done, Stopped};
-ghost use Rattle.mg_words.specs.Tasks.{Task};
+ghost use Rattle.mg_args.specs.Tasks.{Task};
 ghost use Rattle.mg_top.specs.Does.{Does};
 ghost use Rattle.mg_top.specs.Ends.{EndsBy, SilentOnOutput, StopsByOutput};
 ghost use Rattle.mg_dev.specs.Runs.{IfStopped, OutputFailed, Run, StoppedFor, Stops, StopsUnless};

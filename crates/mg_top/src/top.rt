@@ -14,8 +14,8 @@ use crate::tool_query::run_query;
 use crate::tool_scan::run_scan;
 use crate::tool_trial::run_trial;
 use crate::tool_wild::run_wild;
+use mg_args::{Task, read_words};
 use mg_dev::{Fault, Sink, Source, Status, Store};
-use mg_words::{Task, read_words};
 use std::alloc::{AllocError, Global};
 
 /// Carries out the words after the program's name, and answers the status.

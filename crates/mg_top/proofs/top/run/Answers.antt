@@ -1,6 +1,6 @@
 use Rattle.std.proofs.Common.{◌≡◌, ◌∙◌, None, Ok, option_map, ap, inl, refl, rules, sym}
 use Rattle.mg_top.proofs.NothingDone.{ran_nothing}
-use Rattle.mg_words.specs.Tasks.{as_task, build, check, decode, merge, migrate, phrase, query, scan, trial, wild}
+use Rattle.mg_args.specs.Tasks.{as_task, build, check, decode, merge, migrate, phrase, query, scan, trial, wild}
 use Rattle.mg_top.proofs.Asked.{ran_by, ran_refused}
 use Rattle.mg_top.proofs.top.run.Goals as goal
 

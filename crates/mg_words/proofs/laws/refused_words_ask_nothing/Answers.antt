@@ -1,5 +1,0 @@
-use Rattle.mg_words.proofs.RefusedLaws.{refused_none}
-use Rattle.mg_words.proofs.laws.refused_words_ask_nothing.Goals as goal
-
-pub returns : goal.returns
-returns c = refused_none
