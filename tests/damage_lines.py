@@ -206,32 +206,36 @@ def ones(content):
     return b"\xff" * len(content)
 
 
-# Parts damaged so, and a line of each kind that needs what is damaged.
+# Parts damaged so, a line of each kind that needs what is damaged, and what begins the damage's line. Skip has an entry of 128
+# bits for each block: those of late and of rare, then the four of x. A search for x looks at the last of its entries first.
 OVER_DAMAGE = [
-    ("post", half, "x", KINDS),
-    ("post", half, "late & x", ["Boolean", "shown"]),
-    ("post", ones, "x", KINDS),
-    ("skip", half, "x", KINDS),
-    ("skip", half, "late & x", ["Boolean", "shown"]),
-    ("skip", ones, "x", KINDS),
-    ("weights", zeros, "late", ["ranked", "shown by rank"]),
-    ("weights", half, "late", ["ranked", "shown by rank"]),
-    ("text", ones, "late", ["shown", "shown by rank"]),
-    ("text", half, "late", ["shown", "shown by rank"]),
+    ("post", half, "x", KINDS, "post at "),
+    ("post", half, "late & x", ["Boolean", "shown"], "post at "),
+    ("post", ones, "x", KINDS, "post at "),
+    ("skip", half, "x", KINDS, "skip at "),
+    ("skip", half, "late & x", ["Boolean", "shown"], "skip at "),
+    ("skip", ones, "x", KINDS, "skip at "),
+    ("skip", zeros, "x", KINDS, "skip at 640: found 0, wanted 1 to 1\n"),
+    ("skip", zeros, "late & x", ["Boolean", "shown"], "skip at 0: found 0, wanted 1 to 1\n"),
+    ("weights", zeros, "late", ["ranked", "shown by rank"], "weights at "),
+    ("weights", half, "late", ["ranked", "shown by rank"], "weights at "),
+    ("text", ones, "late", ["shown", "shown by rank"], "text at "),
+    ("text", half, "late", ["shown", "shown by rank"], "text at "),
 ]
 
 
 def lines_over_damage(suite):
     """A damage that a line meets is told, whatever kind of line it is: it is no answer of fewer documents."""
     sound = build(Collection(MANY), BUDGET, 2)
-    for ending, change, line, kinds in OVER_DAMAGE:
+    for ending, change, line, kinds, damage in OVER_DAMAGE:
         write_parts(suite.folder / "set", sound | {ending: change(sound[ending])})
         for kind in kinds:
             first, asked = KINDS[kind], KINDS[kind] + line.encode() + b"\n"
             whole = session(Collection(MANY), asked)
             status, out, told = suite.run(["query", "set"], asked)
             name = f"{line}, {kind}, over {change.__name__} of {ending}"
-            suite.check(f"{name}: status and part", (status, told.split(b" at ")[0]), (6, b"mg: damaged: part " + ending.encode()))
+            begun = b"mg: damaged: part " + damage.encode()
+            suite.check(f"{name}: status and place", (status, told[: len(begun)]), (6, begun))
             suite.check(f"{name}: the line before is answered", out.startswith(session(Collection(MANY), first)), True)
             suite.check(f"{name}: a front of the answer", whole.startswith(out) and len(out) < len(whole), True)
     remove(suite, "set")

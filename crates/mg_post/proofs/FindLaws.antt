@@ -1,5 +1,5 @@
 -- What stands where a skip entry is read.
-use Rattle.std.proofs.Common.{arith, ◌≡◌, ◌+◌, ◌-◌, ◌*◌, ◌/◌, ◌^◌, ◌%◌, ◌≤◌, ◌<◌, ℕ, List, ◌++◌, length, take, drop, Option, Some, None, Result, Ok, Err, refl, sym, ◌∙◌, ap, subst, length-append, IfOk, ◌⊎◌, inl, inr}
+use Rattle.std.proofs.Common.{arith, suc, zero, ◌≡◌, ◌+◌, ◌-◌, ◌*◌, ◌/◌, ◌^◌, ◌%◌, ◌≤◌, ◌<◌, ℕ, List, [], ◌∷◌, ◌++◌, length, take, drop, Option, Some, None, Result, Ok, Err, refl, sym, ◌∙◌, ap, subst, length-append, IfOk, ◌⊎◌, inl, inr}
 use Rattle.std.proofs.lemmas.List.{take-append-drop}
 use Rattle.mg_defs.specs.declared.Posting.{Posting}
 use Rattle.mg_defs.specs.Bits.{Bits, Begins, FromPlace, Shows, digits}
@@ -7,7 +7,7 @@ use Rattle.mg_defs.specs.Lists.{SkipEntry, bits_after, last_doc, Rises, doc_befo
 use Rattle.mg_defs.proofs.PageLaws.{pages_some}
 use Rattle.mg_defs.proofs.BitLaws.{length_digits, digits_same}
 use Rattle.mg_defs.proofs.FrontLaws.{begins_length, shows_left, shows_right}
-use Rattle.mg_defs.proofs.ListLaws.{bits_append, rises_left, last_within}
+use Rattle.mg_defs.proofs.ListLaws.{bits_append, last_above, rises_left, last_within}
 use Rattle.mg_bits.specs.Feed.{Feeding, lacks}
 use Rattle.mg_bits.specs.Reader.{AnswersBits, DeviceCause}
 use Rattle.mg_bits.proofs.CallerLemmas.{lacks_next}
@@ -16,7 +16,7 @@ use Rattle.mg_bits.specs.declared.bit_err.BitErr.TheVariants as bits
 use Rattle.mg_post.specs.declared.refusal.Refusal.{Refusal}
 use Rattle.mg_post.specs.declared.refusal.Refusal.TheVariants.{Device, Damaged}
 use Rattle.mg_post.specs.Stands.{SkipStands}
-use Rattle.mg_post.specs.Finding.{LacksAnEntry, LacksBits, LacksLast, LacksNumber, ReadTo, SkipReads, TellsBefore, TellsBlock, TellsLast, entry_page, entries_pages}
+use Rattle.mg_post.specs.Finding.{IsCeiling, IsFloor, LacksAnEntry, LacksBits, LacksLast, LacksNumber, LacksRise, ReadTo, SkipReads, TellsBefore, TellsBlock, TellsLast, entry_page, entries_pages}
 use Rattle.mg_post.specs.Searching.{HoldsPage}
 use Rattle.mg_post.specs.Answers.{IfDamaged, IsNumber, OnDamage, OrDevice, RefusalCause, of_bits}
 
@@ -62,12 +62,49 @@ pub doc_within : (all n : ℕ) (ps : List Posting) → Rises all 0 ps → doc_be
 unfolding doc_before
 doc_within all n ps h = last_within all 0 (take n ps) (omega arith) (rises_front all n ps h)
 
+-- the last documents of more and more postings rise
+takes_rise : (all d m n : ℕ) (ps : List Posting) → Rises all d ps → m < n → m < length ps → last_doc d (take m ps) < last_doc d (take n ps)
+unfolding Rises last_doc
+takes_rise all d m n [] h lt some = absurd (omega (arith, some))
+takes_rise all d m zero (p ∷ ps) h lt some = absurd (omega (arith, lt))
+takes_rise all d zero (suc n) (p ∷ ps) h lt some =
+    let front : Rises all p.doc (take n ps) = rises_left all p.doc (take n ps) (drop n ps) (subst (Rises all p.doc) (sym (take-append-drop n ps)) h.1) in
+    omega (arith, h.0.after, last_above all p.doc (take n ps) front)
+takes_rise all d (suc m) (suc n) (p ∷ ps) h lt some = takes_rise all p.doc m n ps h.1 (omega (arith, lt)) (omega (arith, some))
+
+-- the last documents before the blocks of a list rise
+pub blocks_rise : (all b : ℕ) (skip : Option (List ℕ)) (skip_at blocks m n : ℕ) (ps : List Posting) → SkipStands all b skip skip_at blocks ps → m < n → m < blocks →
+    doc_before (64 * m) ps < doc_before (64 * n) ps
+unfolding doc_before
+blocks_rise all b skip skip_at blocks m n ps stands lt there =
+    takes_rise all 0 (64 * m) (64 * n) ps stands.rises (omega (arith, lt)) (omega (arith, there, stands.most))
+
 -- the answer of a read of a block's last document, where the entries stand
-pub last_answer : (all b : ℕ) (told now : Option (List ℕ)) (skip_at blocks k : ℕ) (ps : List Posting) (result : Result ℕ Refusal) → now ≡ told → SkipStands all b told skip_at blocks ps → k < blocks →
-    ((e : SkipEntry) → e.last ≤ all → Shows now (128 * (skip_at + k)) (entry_bits e) → OrDevice result (λ last. last ≡ e.last)) →
+pub last_answer : (all b : ℕ) (told now : Option (List ℕ)) (skip_at blocks k after most : ℕ) (ps : List Posting) (result : Result ℕ Refusal) → now ≡ told →
+    SkipStands all b told skip_at blocks ps → k < blocks → after < doc_before (64 * (k + 1)) ps → doc_before (64 * (k + 1)) ps ≤ most →
+    ((e : SkipEntry) → after < e.last → e.last ≤ most → Shows now (128 * (skip_at + k)) (entry_bits e) → OrDevice result (λ last. last ≡ e.last)) →
     OrDevice result (λ last. last ≡ doc_before (64 * (k + 1)) ps)
-last_answer all b told now skip_at blocks k ps result same stands lt answers =
-    answers (entry_of b k ps) (doc_within all (64 * (k + 1)) ps stands.rises) (subst (λ t. Shows t (128 * (skip_at + k)) (entry_bits (entry_of b k ps))) (sym same) (stands.entries k lt))
+last_answer all b told now skip_at blocks k after most ps result same stands lt low high answers =
+    answers (entry_of b k ps) low high (subst (λ t. Shows t (128 * (skip_at + k)) (entry_bits (entry_of b k ps))) (sym same) (stands.entries k lt))
+
+-- the same of a page's last block, where the last document before the page is known
+pub page_answer : (all b : ℕ) (told now : Option (List ℕ)) (skip_at blocks low k before : ℕ) (ps : List Posting) (result : Result ℕ Refusal) → now ≡ told →
+    SkipStands all b told skip_at blocks ps → low ≤ k → k < blocks → before ≡ doc_before (64 * low) ps →
+    ((e : SkipEntry) → before < e.last → e.last ≤ all → Shows now (128 * (skip_at + k)) (entry_bits e) → OrDevice result (λ last. last ≡ e.last)) →
+    OrDevice result (λ last. last ≡ doc_before (64 * (k + 1)) ps)
+page_answer all b told now skip_at blocks low k before ps result same stands le lt is answers =
+    last_answer all b told now skip_at blocks k before all ps result same stands lt
+    (omega (arith, is, blocks_rise all b told skip_at blocks low (k + 1) ps stands (omega (arith, le)) (omega (arith, le, lt)))) (doc_within all (64 * (k + 1)) ps stands.rises) answers
+
+-- the same of a block between two of a page, where the last document before the one and that of the other are known
+pub middle_answer : (all b : ℕ) (told now : Option (List ℕ)) (skip_at blocks from k to passed end : ℕ) (ps : List Posting) (result : Result ℕ Refusal) → now ≡ told →
+    SkipStands all b told skip_at blocks ps → from ≤ k → k < to → to < blocks → passed ≡ doc_before (64 * from) ps → end ≡ doc_before (64 * (to + 1)) ps →
+    ((e : SkipEntry) → passed < e.last → e.last ≤ end - 1 → Shows now (128 * (skip_at + k)) (entry_bits e) → OrDevice result (λ last. last ≡ e.last)) →
+    OrDevice result (λ last. last ≡ doc_before (64 * (k + 1)) ps)
+middle_answer all b told now skip_at blocks from k to passed end ps result same stands le lt there is last answers =
+    last_answer all b told now skip_at blocks k passed (end - 1) ps result same stands (omega (arith, lt, there))
+    (omega (arith, is, blocks_rise all b told skip_at blocks from (k + 1) ps stands (omega (arith, le)) (omega (arith, le, lt, there))))
+    (omega (arith, last, blocks_rise all b told skip_at blocks (k + 1) (to + 1) ps stands (omega (arith, lt)) (omega (arith, lt, there)))) answers
 
 -- and of the bits before it
 pub bits_answer : (all b : ℕ) (told now : Option (List ℕ)) (skip_at blocks k : ℕ) (ps : List Posting) (result : Result ℕ Refusal) → now ≡ told → SkipStands all b told skip_at blocks ps → k < blocks →
@@ -218,11 +255,11 @@ ends_number told bits.Device place answers = tt
 ends_number None (bits.End at) place answers = tt
 ends_number (Some bytes) (bits.End at) place answers = answers.0
 
-pub lacks_last : (told : Option (List ℕ)) (refusal : Refusal) (skip_at all block place : ℕ) → place ≡ 128 * (skip_at + block) →
+pub lacks_last : (told : Option (List ℕ)) (refusal : Refusal) (skip_at block after most place : ℕ) → place ≡ 128 * (skip_at + block) →
     OnDamage refusal (λ at. at ≡ place) → OnDamage refusal (λ at. LacksNumber told place) →
-    OnDamage refusal (LacksLast told skip_at all block)
-lacks_last told refusal skip_at all block place is at ends =
-    damaged_at refusal place (LacksNumber told place) (LacksLast told skip_at all block) (λ h. record { at_is = is; missing = inl h }) at ends
+    OnDamage refusal (LacksLast told skip_at block after most)
+lacks_last told refusal skip_at block after most place is at ends =
+    damaged_at refusal place (LacksNumber told place) (LacksLast told skip_at block after most) (λ h. record { at_is = is; missing = inl h }) at ends
 
 pub lacks_bits : (told : Option (List ℕ)) (result : Result ℕ Refusal) (skip_at block place : ℕ) → place ≡ 128 * (skip_at + block) + 64 →
     IfDamaged result (λ at. at ≡ place) → IfDamaged result (λ at. LacksNumber told place) →
@@ -231,8 +268,73 @@ lacks_bits told (Ok value) skip_at block place is at ends = tt
 lacks_bits told (Err refusal) skip_at block place is at ends =
     damaged_at refusal place (LacksNumber told place) (LacksBits told skip_at block) (λ h. record { at_is = is; missing = h }) at ends
 
-pub lacks_wider : (skip : Option (List ℕ)) (skip_at all low high from to at : ℕ) → from ≤ low → high ≤ to → LacksAnEntry skip skip_at all low high at → LacksAnEntry skip skip_at all from to at
-lacks_wider skip skip_at all low high from to at le most h = (h.0, omega (arith, le, h.1), omega (arith, most, h.2), h.3)
+-- the last document before a block is a floor for those behind it
+floor_of : (skip : Option (List ℕ)) (skip_at low known from block after : ℕ) → low ≤ from → from ≤ block → TellsBefore skip skip_at low known from after → IsFloor skip skip_at low known block after
+floor_of skip skip_at low known from block after le more tells =
+    elim (order low from) [
+      | inl below ↦ inr (from - 1, omega (arith, below), omega (arith, below, more), tells.later below)
+      | inr above ↦ inl (tells.first (omega (arith, le, above)))
+    ]
+  where
+    order : (a b : ℕ) → (a < b) ⊎ (b ≤ a)
+    order a b = grind arith
+
+-- a floor among some blocks is one among more of them
+floor_wider : (skip : Option (List ℕ)) (skip_at from known low before block after : ℕ) → from ≤ low → low ≤ block → TellsBefore skip skip_at from known low before →
+    IsFloor skip skip_at low before block after → IsFloor skip skip_at from known block after
+floor_wider skip skip_at from known low before block after le more tells (inl is) =
+    subst (IsFloor skip skip_at from known block) (sym is) (floor_of skip skip_at from known low block before le more tells)
+floor_wider skip skip_at from known low before block after le more tells (inr h) = inr (h.0, omega (arith, le, h.1), h.2, h.3)
+
+ceiling_wider : (skip : Option (List ℕ)) (skip_at all high to block most : ℕ) → high ≤ to → IsCeiling skip skip_at all high block most → IsCeiling skip skip_at all to block most
+ceiling_wider skip skip_at all high to block most le (inl is) = inl is
+ceiling_wider skip skip_at all high to block most le (inr h) = inr (h.0, h.1, omega (arith, le, h.2), h.3)
+
+entry_wider : (skip : Option (List ℕ)) (skip_at all from known low before high to block at : ℕ) → from ≤ low → low ≤ block → high ≤ to → TellsBefore skip skip_at from known low before →
+    LacksRise skip skip_at all before low high block at ⊎ LacksBits skip skip_at block at → LacksRise skip skip_at all known from to block at ⊎ LacksBits skip skip_at block at
+entry_wider skip skip_at all from known low before high to block at le there most tells (inl h) =
+    inl record {
+      after = h.after;
+      floor = floor_wider skip skip_at from known low before block h.after le there tells h.floor;
+      most = h.most;
+      ceiling = ceiling_wider skip skip_at all high to block h.most most h.ceiling;
+      lacks = h.lacks;
+    }
+entry_wider skip skip_at all from known low before high to block at le there most tells (inr h) = inr h
+
+-- an entry that does not stand among the blocks of a page
+pub lacks_wider : (skip : Option (List ℕ)) (skip_at all from known low before high to at : ℕ) → from ≤ low → high ≤ to → TellsBefore skip skip_at from known low before →
+    LacksAnEntry skip skip_at all before low high at → LacksAnEntry skip skip_at all known from to at
+lacks_wider skip skip_at all from known low before high to at le most tells h =
+    (h.0, omega (arith, le, h.1), omega (arith, most, h.2), entry_wider skip skip_at all from known low before high to h.0 at le h.1 most tells h.3)
+
+-- the entry of a page's last block, where the last document before the page is known
+pub lacks_on : (skip : Option (List ℕ)) (skip_at all from known low before block high at : ℕ) → from ≤ low → low ≤ block → block < high → TellsBefore skip skip_at from known low before →
+    LacksLast skip skip_at block before all at → LacksAnEntry skip skip_at all known from high at
+lacks_on skip skip_at all from known low before block high at le there most tells lacks = (
+  block,
+  omega (arith, le, there),
+  most,
+  inl record { after = before; floor = floor_of skip skip_at from known low block before le there tells; most = all; ceiling = inl refl; lacks = lacks },
+)
+
+-- the entry of a block between two of a page, where the last document before the one and that of the other are known
+pub lacks_within : (skip : Option (List ℕ)) (skip_at all low before from passed block to end high at : ℕ) → low ≤ from → from ≤ block → block < to → to < high → 0 < end →
+    TellsBefore skip skip_at low before from passed → TellsLast skip skip_at to end →
+    LacksLast skip skip_at block passed (end - 1) at → LacksAnEntry skip skip_at all before low high at
+lacks_within skip skip_at all low before from passed block to end high at le there lt most some tells last lacks =
+    let e : end ≡ end - 1 + 1 = omega (arith, some) in (
+      block,
+      omega (arith, le, there),
+      omega (arith, lt, most),
+      inl record {
+        after = passed;
+        floor = floor_of skip skip_at low before from block passed le there tells;
+        most = end - 1;
+        ceiling = inr (to, lt, most, subst (TellsLast skip skip_at to) e last);
+        lacks = lacks;
+      },
+    )
 
 -- ---- the page of a number in an entry
 

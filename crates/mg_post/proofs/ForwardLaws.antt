@@ -1,5 +1,5 @@
 -- Going on within a block leaves the postings from a document on, where the documents rise.
-use Rattle.std.proofs.Common.{arith, ◌≡◌, ◌<◌, ◌≤◌, ℕ, true, false, List, [], ◌∷◌, length, refl, sym, ◌∙◌, ap, inl, inr, nat_lt, drop, one-add}
+use Rattle.std.proofs.Common.{arith, ◌≡◌, ◌+◌, ◌<◌, ◌≤◌, ℕ, true, false, List, [], ◌∷◌, length, refl, sym, ◌∙◌, ap, inl, inr, nat_lt, drop, one-add}
 use Rattle.std.specs.List.{prefix_len}
 use Rattle.std.proofs.lemmas.Bool.{cases_lt}
 use Rattle.mg_defs.specs.declared.Posting.{Posting}
@@ -26,6 +26,22 @@ unfolding forward_to
 forward_next doc p ps lt =
     let t : nat_lt p.doc doc ≡ true = grind arith in
     rw t (ap (λ n. drop n (p ∷ ps)) (one-add (prefix_len (λ (q : Posting). nat_lt q.doc doc) ps)))
+
+-- all of a list lies behind the document before it
+pub forward_all : (all d : ℕ) (ps : List Posting) → Rises all d ps → forward_to (d + 1) ps ≡ ps
+unfolding Rises
+forward_all all d [] h = forward_nothing (d + 1)
+forward_all all d (p ∷ ps) h = forward_here (d + 1) p ps (omega (arith, h.0.after))
+
+-- where postings are left from a document on, the last one is
+pub forward_last : (d e doc : ℕ) (ps : List Posting) → 0 < length (forward_to doc ps) → last_doc d (forward_to doc ps) ≡ last_doc e ps
+unfolding last_doc
+forward_last d e doc [] some = absurd (omega (arith, some, ap length (forward_nothing doc)))
+forward_last d e doc (p ∷ ps) some =
+    elim (cases_lt p.doc doc) [
+      | inl below ↦ rw (forward_next doc p ps below) (forward_last d p.doc doc ps (rw (forward_next doc p ps below) at some))
+      | inr above ↦ rw (forward_here doc p ps above) refl
+    ]
 
 pub forward_from : (all d doc : ℕ) (ps : List Posting) → Rises all d ps → forward_to doc ps ≡ from_doc doc ps
 unfolding Rises

@@ -1,5 +1,6 @@
 -- What each way out of a cursor's call promises.
 use Rattle.std.proofs.Common.{arith, ◌≡◌, ◌+◌, ◌-◌, ◌*◌, ◌^◌, ◌≤◌, ◌<◌, ℕ, Bool, true, false, List, [], ◌∷◌, length, drop, min, Option, Some, None, Ok, Err, IfSome, refl, sym, ◌∙◌, ap, subst}
+use Rattle.std.proofs.lemmas.List.{length-drop}
 use Rattle.std.specs.Prelude.{Result}
 use Rattle.mg_dev.specs.Files.{Files, Reads}
 use Rattle.mg_dev.specs.PartCauses.{IsCaused}
@@ -15,7 +16,7 @@ use Rattle.mg_defs.specs.Bits.{Shows}
 use Rattle.mg_defs.specs.declared.Posting.{Posting}
 use Rattle.mg_defs.specs.Lists.{bits_after, block_count, block_pages, from_doc}
 use Rattle.mg_post.specs.Answers.{IsRefused, OnDamage, RefusalCause}
-use Rattle.mg_post.specs.Cursor.{AnswersRest, CursorFits, Cursoring, Enters, ForList, HeldRises, IsFrom, StandsAt, StandsOn, after, entered_pages, forward_to, head_of, next_doc, post_pages}
+use Rattle.mg_post.specs.Cursor.{AnswersRest, CursorFits, Cursoring, Enters, ForList, GoesToNext, HeldNone, HeldRises, IsFrom, StandsAt, StandsOn, after, entered_pages, forward_to, head_of, next_doc, post_pages}
 use Rattle.mg_post.specs.CursorSteps.{CursorStep}
 use Rattle.mg_post.specs.Entering.{EntersFound}
 use Rattle.mg_post.specs.Finding.{IsFoundAt, LacksAnEntry, entries_pages}
@@ -30,7 +31,7 @@ use Rattle.mg_post.specs.declared.refusal.Refusal.{Refusal}
 use Rattle.mg_post.specs.declared.refusal.Refusal.TheVariants.{Device, Damaged}
 use Rattle.mg_post.proofs.CursorLaws.{at_end, in_block, next_beyond, next_low, next_within, on_block, raised_by, raised_most, reads_two, refused_answer, same_file, walks_of}
 use Rattle.mg_post.proofs.FindLaws.{any_cause, reads_within}
-use Rattle.mg_post.proofs.SoundLaws.{entry_cause, in_held, last_small, names_none, names_own, names_post, names_skip, next_held, next_sound, no_entry_cause, post_cause, skip_cause}
+use Rattle.mg_post.proofs.SoundLaws.{entry_cause, goes_next, in_held, names_none, names_own, names_post, names_skip, next_few, next_held, next_inside, next_is, next_sound, no_entry_cause, post_cause, skip_cause}
 
 -- ---- refusals
 
@@ -55,10 +56,11 @@ min_low a b most le = omega arith
 -- the postings at hand go on
 step_unread : (c : Cursoring) (held : List Posting) (doc wanted : ℕ) (rest : List Posting → List Posting) (found : Option Posting) (files : Option Files) (reads : Reads) (faults : ℕ) →
     CursorFits c files → post_pages c ≤ entered_pages c → c.reached ≤ block_count c.docs → found ≡ head_of held → IfSome found (IsFrom doc c.all) →
+    (doc ≡ next_doc c.held → GoesToNext c (record c { held = held }) found) →
     ForList c files (λ ps left. (found ≡ head_of (rest left)) × StandsAt (record c { held = held }) ps (rest left)) →
     ForList c files (λ ps left. Enters (Ok found) ps c doc (record c { held = held })) →
     CursorStep c (record c { held = held }) doc wanted rest (Ok found) files files reads reads faults faults
-step_unread c held doc wanted rest found files reads faults fits first reached current sound answer entered = record {
+step_unread c held doc wanted rest found files reads faults fits first reached current sound next answer entered = record {
   fits = record { post = fits.post; skip = fits.skip; entries = fits.entries };
   same = record { post = refl; skip = refl; post_at = refl; skip_at = refl; docs = refl; all = refl; parameter = refl };
   answer = answer;
@@ -76,6 +78,7 @@ step_unread c held doc wanted rest found files reads faults fits first reached c
   };
   current = current;
   sound = sound;
+  next = next;
   forward = omega arith;
   part = tt;
   post = λ ps left stands at. tt;
@@ -97,10 +100,11 @@ after_nothing (p ∷ held) = refl
 
 -- it has ended
 pub step_ended : (c : Cursoring) (doc wanted : ℕ) (rest : List Posting → List Posting) (files : Option Files) (reads : Reads) (faults : ℕ) →
-    CursorFits c files → post_pages c ≤ entered_pages c → c.reached ≤ block_count c.docs → c.ended ≡ true → c.held ≡ [] → rest [] ≡ [] →
+    CursorFits c files → post_pages c ≤ entered_pages c → c.reached ≤ block_count c.docs → c.ended ≡ true → c.held ≡ [] → HeldNone c.docs c.reached c.last c.held c.ended → rest [] ≡ [] →
     CursorStep c c doc wanted rest (Ok None) files files reads reads faults faults
-step_ended c doc wanted rest files reads faults fits first reached ended empty none =
+step_ended c doc wanted rest files reads faults fits first reached ended empty all none =
     step_unread c c.held doc wanted rest None files reads faults fits first reached (sym (ap head_of empty)) tt
+    (λ is. (omega (arith, ap length empty, all.all ended), all.all ended))
     (λ ps left stands at.
     let is : left ≡ [] = ended_left c.ended ps c.reached c.last c.held left ended at.on in
     let e : rest left ≡ [] = ap rest is ∙ none in
@@ -109,10 +113,13 @@ step_ended c doc wanted rest files reads faults fits first reached ended empty n
 
 -- the document lies in the block at hand
 pub step_within : (c : Cursoring) (held : List Posting) (doc : ℕ) (found : Option Posting) (files : Option Files) (reads : Reads) (faults : ℕ) →
-    CursorFits c files → post_pages c ≤ entered_pages c → c.reached ≤ block_count c.docs → HeldRises c.all c.last c.held → c.ended ≡ false → 1 ≤ doc → doc ≤ c.last →
+    CursorFits c files → post_pages c ≤ entered_pages c → c.reached ≤ block_count c.docs → HeldRises c.all c.last c.held → HeldNone c.docs c.reached c.last c.held c.ended → c.ended ≡ false → 1 ≤ doc → doc ≤ c.last →
     held ≡ forward_to doc c.held → found ≡ head_of held → CursorStep c (record c { held = held }) doc doc (from_doc doc) (Ok found) files files reads reads faults faults
-step_within c held doc found files reads faults fits first reached rises on some within went got =
+step_within c held doc found files reads faults fits first reached rises none on some within went got =
     step_unread c held doc doc (from_doc doc) found files reads faults fits first reached got (in_held c.all c.last doc c.held held found rises went got)
+    (λ is.
+    let n = next_inside c.all c.last doc c.held held rises (λ empty. (none.first on empty).1) within went is in
+    goes_next c (record c { held = held }) found got n.1 (omega (arith, n.0)))
     (λ ps left stands at.
     let r = in_block c.ended c.all doc ps c.reached c.last c.held left held found on stands.list.entries.rises some within at.on went got in
     (r.0, record { on = r.1 }))
@@ -124,7 +131,9 @@ pub step_next : (c : Cursoring) (held : List Posting) (p : Posting) (files : Opt
     1 < length c.held → held ≡ drop 1 c.held → head_of held ≡ Some p →
     CursorStep c (record c { held = held }) (next_doc c.held) (c.last + 1) (after c.held) (Ok (Some p)) files files reads reads faults faults
 step_next c held p files reads faults fits first reached rises on more went here =
+    let less : length held ≡ length c.held - 1 = ap length went ∙ length-drop 1 c.held in
     step_unread c held (next_doc c.held) (c.last + 1) (after c.held) (Some p) files reads faults fits first reached (sym here) (next_held c.all c.last c.held held p rises more went here)
+    (λ is. goes_next c (record c { held = held }) (Some p) (sym here) (omega (arith, less, more)) (omega (arith, less, more)))
     (λ ps left stands at.
     let r = next_within c.ended ps c.reached c.last c.held left held p on more went here at.on in
     (r.0, record { on = r.1 }))
@@ -132,19 +141,10 @@ step_next c held p files reads faults fits first reached rises on more went here
     let low = next_low c.ended c.all ps c.reached c.last c.held left on stands.list.entries.rises more at.on in
     (λ le. refl, λ lt. absurd (omega (arith, lt, low))))
 
--- no document has a higher number than the block's last
-pub step_top : (c : Cursoring) (held : List Posting) (files : Option Files) (reads : Reads) (faults : ℕ) →
-    CursorFits c files → post_pages c ≤ entered_pages c → c.reached ≤ block_count c.docs → c.ended ≡ false → 2 ^ 32 - 1 ≤ c.last → held ≡ [] →
-    CursorStep c (record c { held = held }) (next_doc c.held) (c.last + 1) (after c.held) (Ok None) files files reads reads faults faults
-step_top c held files reads faults fits first reached on top empty =
-    step_unread c held (next_doc c.held) (c.last + 1) (after c.held) None files reads faults fits first reached (sym (ap head_of empty)) tt
-    (λ ps left stands at. absurd (omega (arith, last_small c.ended c.all ps c.reached c.last c.held left on stands.list.entries.rises at.on, stands.list.few, top)))
-    (λ ps left stands at. absurd (omega (arith, last_small c.ended c.all ps c.reached c.last c.held left on stands.list.entries.rises at.on, stands.list.few, top)))
-
 -- where the block at hand has no next posting, the next is behind the block's last document
-pub step_beyond : (c v : Cursoring) (result : Result (Option Posting) PartErr) (f g : Option Files) (r s : Reads) (m n : ℕ) → c.ended ≡ false → HeldRises c.all c.last c.held → length c.held ≤ 1 →
-    CursorStep c v (c.last + 1) (c.last + 1) (from_doc (c.last + 1)) result f g r s m n → CursorStep c v (next_doc c.held) (c.last + 1) (after c.held) result f g r s m n
-step_beyond c v result f g r s m n on rises few step = record {
+pub step_beyond : (c v : Cursoring) (result : Result (Option Posting) PartErr) (f g : Option Files) (r s : Reads) (m n : ℕ) → c.ended ≡ false → HeldRises c.all c.last c.held →
+    HeldNone c.docs c.reached c.last c.held c.ended → length c.held ≤ 1 → CursorStep c v (c.last + 1) (c.last + 1) (from_doc (c.last + 1)) result f g r s m n → CursorStep c v (next_doc c.held) (c.last + 1) (after c.held) result f g r s m n
+step_beyond c v result f g r s m n on rises none few step = record {
   fits = step.fits;
   same = step.same;
   answer = λ ps left stands at.
@@ -156,6 +156,7 @@ step_beyond c v result f g r s m n on rises few step = record {
   reads = step.reads;
   current = step.current;
   sound = next_sound c.all c.last c.held result rises few step.sound;
+  next = λ is. step.next (next_is c.all c.last c.held rises (λ empty. (none.first on empty).1) few);
   forward = step.forward;
   part = step.part;
   post = step.post;
@@ -177,14 +178,34 @@ pub record MayGo (c : Cursoring) (files : Option Files) (doc blocks : ℕ) : Typ
   pub post : c.post.part ≡ Post
   pub skip : c.skip.part ≡ Skip
   pub on : c.ended ≡ false
+  pub rises : HeldRises c.all c.last c.held
+  pub none : HeldNone c.docs c.reached c.last c.held c.ended
   pub beyond : c.last < doc
   pub count : blocks ≡ block_count c.docs
   pub reached : c.reached ≤ blocks
 
 pub may_go : (c : Cursoring) (files : Option Files) (doc blocks : ℕ) → CursorFits c files → post_pages c ≤ entered_pages c → entered_pages c < 2 ^ 64 → c.post.part ≡ Post → c.skip.part ≡ Skip →
-    c.ended ≡ false → c.last < doc → blocks ≡ block_count c.docs → c.reached ≤ block_count c.docs → MayGo c files doc blocks
-may_go c files doc blocks fits first small post skip on beyond count reached =
-    record { fits = fits; first = first; small = small; post = post; skip = skip; on = on; beyond = beyond; count = count; reached = subst (λ n. c.reached ≤ n) (sym count) reached }
+    c.ended ≡ false → HeldRises c.all c.last c.held → HeldNone c.docs c.reached c.last c.held c.ended → c.last < doc → blocks ≡ block_count c.docs → c.reached ≤ block_count c.docs →
+    MayGo c files doc blocks
+may_go c files doc blocks fits first small post skip on rises none beyond count reached = record {
+  fits = fits;
+  first = first;
+  small = small;
+  post = post;
+  skip = skip;
+  on = on;
+  rises = rises;
+  none = none;
+  beyond = beyond;
+  count = count;
+  reached = subst (λ n. c.reached ≤ n) (sym count) reached;
+}
+
+-- where the next posting is asked for beyond the block at hand, at most one posting is at hand, and the next block is searched
+goes_beyond : (c : Cursoring) (files : Option Files) (doc blocks : ℕ) → MayGo c files doc blocks → doc ≡ next_doc c.held → (length c.held ≤ 1) × (doc ≡ c.last + 1)
+goes_beyond c files doc blocks k is =
+    let few = next_few c.all c.last doc c.held k.rises k.beyond is in
+    (few, is ∙ sym (next_is c.all c.last c.held k.rises (λ empty. (k.none.first k.on empty).1) few))
 
 abbrev pub search_of : Cursoring → ℕ → ℕ → SkipSearch
 search_of c doc blocks = record { skip_at = c.skip_at; blocks = blocks; reached = c.reached; last = c.last; all = c.all; doc = doc }
@@ -221,13 +242,14 @@ module _ {Dev : Type 0} {device : Dev → Seen} {c : Cursoring} {d0 d1 : Dev} {d
     reads = reads_two c (record c { skip = skip.feed }) (device d0) (device d1) (device d1) k.post k.skip s.calm (calm_none (feeding_of 4096 c.post) (device d1)) k.first;
     current = tt;
     sound = tt;
+    next = λ next. tt;
     forward = omega arith;
     part = names_skip refusal e is;
     post = λ ps left stands at.
         names_none refusal Skip Post e _ is
         (s.does.told ps c.parameter (at_blocks c (device d0).files blocks ps k.count stands.entries) (walks_of c.ended ps c.reached c.last c.held left k.on at.on).last_is);
     block = skip_cause refusal e c (device d0).files doc is;
-    entry = entry_cause refusal e _ is (subst (λ n. OnDamage refusal (LacksAnEntry (told_at (device d0).files c.skip.name) c.skip_at c.all c.reached n)) k.count s.does.lacks);
+    entry = entry_cause refusal e _ is (subst (λ n. OnDamage refusal (LacksAnEntry (told_at (device d0).files c.skip.name) c.skip_at c.all c.last c.reached n)) k.count s.does.lacks);
     kept = record { reached = refl; last = refl; held = refl; ended = refl };
     files = s.calm.files;
     memory = λ same. not_memory refusal Skip e is cc;
@@ -253,6 +275,10 @@ module _ {Dev : Type 0} {device : Dev → Seen} {c : Cursoring} {d0 d1 : Dev} {d
         (calm_none (feeding_of 4096 c.post) (device d1)) k.first;
     current = sym (ap head_of empty);
     sound = tt;
+    next = λ next.
+        let beyond = goes_beyond c (device d0).files doc blocks k next in
+        let all : c.reached ≡ blocks = s.does.next beyond.1 in
+        (omega (arith, beyond.0, all, k.count), k.count);
     forward = k.reached;
     part = tt;
     post = λ ps left stands at. tt;
@@ -322,6 +348,7 @@ module _ {Dev : Type 0} {device : Dev → Seen} {c : Cursoring} {d0 d1 : Dev} {d
           reads = reads_two c (record c { skip = skip.feed; post = post.feed; entered = entered }) (device d0) (device d1) (device d2) k.post k.skip s.calm w.calm first;
           current = tt;
           sound = tt;
+          next = λ next. tt;
           forward = omega arith;
           part = names_post refusal e is;
           post = λ ps left stands on. names_own refusal Post e is;
@@ -401,6 +428,14 @@ module _ {Dev : Type 0} {device : Dev → Seen} {c : Cursoring} {d0 d1 : Dev} {d
               (device d0) (device d1) (device d2) k.post k.skip s.calm w.calm first;
           current = sym (ap head_of swapped ∙ w.does.current);
           sound = w.does.from;
+          next = λ next.
+              let beyond = goes_beyond c (device d0).files doc blocks k next in
+              let at_next = s.does.next beyond.1 in
+              let whole : length block ≡ min (c.docs - 64 * found.block) 64 = w.does.whole (omega (arith, beyond.1, at_next.1)) in
+              let same : length held ≡ length block = ap length swapped in
+              let there : 64 * found.block < c.docs = omega (arith, s.does.found.there, k.count) in
+              goes_next c (record c { skip = skip.feed; post = post.feed; reached = found.block + 1; last = found.last; held = held; entered = entered }) (Some inside.posting)
+              (sym (ap head_of swapped ∙ w.does.current)) (omega (arith, whole, same, there)) (omega (arith, whole, same, there, beyond.0, at_next.0));
           forward = omega (arith, s.does.found.from);
           part = tt;
           post = λ ps left stands on. tt;

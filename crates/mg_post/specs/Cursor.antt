@@ -163,10 +163,25 @@ pub record IsFrom (doc all : ℕ) (p : Posting) : Type 0 where
   pub within : p.doc ≤ all
   pub some : 1 ≤ p.freq
 
--- postings of rising documents, none behind the last one
+-- postings of rising documents, up to the last one
 pub record HeldRises (all last : ℕ) (held : List Posting) : Type 0 where
   pub rises : Rises all 0 held
   pub within : last_doc 0 held ≤ last
+  pub ends : 0 < length held → last_doc 0 held ≡ last
+
+-- where no posting is at hand, the first one was not asked for, or all blocks were reached
+pub record HeldNone (docs reached last : ℕ) (held : List Posting) (ended : Bool) : Type 0 where
+  pub first : ended ≡ false → length held ≡ 0 → (reached ≡ 0) × (last ≡ 0)
+  pub all : ended ≡ true → reached ≡ block_count docs
+
+-- how many postings of its list are left behind the current one; before the first one, all
+abbrev pub count_behind : Cursoring → ℕ
+count_behind c = (length c.held - 1) + (c.docs - 64 * c.reached)
+
+-- the posting behind the current one was asked for: it is one of those that were left, and none is answered only where none was left and all blocks were reached
+abbrev pub GoesToNext : Cursoring → Cursoring → Option Posting → Type 0
+GoesToNext c v None = (count_behind c ≡ 0) × (v.reached ≡ block_count v.docs)
+GoesToNext c v (Some p) = (count_behind c ≡ count_behind v + 1) × (next_doc v.held ≡ p.doc + 1)
 
 -- a damage is one of Post or Skip: nothing of what is to stand at a bit of it was found there
 abbrev pub NamesItsPart : PartErr → Type 0

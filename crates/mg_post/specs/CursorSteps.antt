@@ -8,7 +8,7 @@ use Rattle.mg_dev.specs.declared.part_err.PartErr.TheVariants as err
 use Rattle.mg_defs.specs.declared.Posting.{Posting}
 use Rattle.mg_defs.specs.Lists.{block_count}
 use Rattle.mg_post.specs.Finding.{entries_pages}
-use Rattle.mg_post.specs.Cursor.{AnswersRest, CursorFits, Cursoring, Enters, ForList, IsFrom, NamesItsPart, ReadsTwo, SameList, SamePlace, StandsAt, entered_pages, head_of, post_pages, skip_pages}
+use Rattle.mg_post.specs.Cursor.{AnswersRest, CursorFits, Cursoring, Enters, ForList, GoesToNext, IsFrom, NamesItsPart, ReadsTwo, SameList, SamePlace, StandsAt, entered_pages, head_of, next_doc, post_pages, skip_pages}
 use Rattle.mg_post.specs.Damages.{EntriesStand, HasPostCause, HasSkipCause, NamesPart}
 
 -- a cursor goes to the first posting of the rest of its list from a document on; where it looks for another block, it looks for that of the document `wanted`
@@ -33,6 +33,8 @@ pub record CursorStep (c v : Cursoring) (doc wanted : ℕ) (rest : List Posting 
   pub current : IfOk result (λ found. found ≡ head_of v.held)
   -- whatever the parts have, it is one from the document on
   pub sound : IfOk result (λ found. IfSome found (IsFrom doc c.all))
+  -- whatever the parts have, where the posting behind the current one is asked for, none is passed over: a walk ends only behind the last posting of the list's last block
+  pub next : doc ≡ next_doc c.held → IfOk result (GoesToNext c v)
   -- no block is gone back
   pub forward : c.reached ≤ v.reached
   -- a damage is one of Post or Skip
@@ -42,7 +44,7 @@ pub record CursorStep (c v : Cursoring) (doc wanted : ℕ) (rest : List Posting 
       IfErr result (NamesPart Post)
   -- a damage of Post is told where a block is missing
   pub block : IfErr result (HasPostCause c files_before wanted)
-  -- a damage of Skip is told where an entry is missing
+  -- a damage of Skip is told where an entry is missing or does not rise
   pub entry : IfErr result (HasSkipCause c files_before)
   -- after a refusal the cursor stands where it stood
   pub kept : OnErr result (SamePlace c v)

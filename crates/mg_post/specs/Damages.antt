@@ -52,7 +52,7 @@ pub record BlockIsMissing (c : Cursoring) (files : Option Files) (doc at : ℕ) 
 abbrev pub HasPostCause : Cursoring → Option Files → ℕ → PartErr → Type 0
 HasPostCause c files doc refusal = IfNames Post refusal (BlockIsMissing c files doc)
 
--- a damage of Skip has a cause: of a block from where the cursor stands on, no entry stands, and a number of it is missing at the bit where it is told
+-- a damage of Skip has a cause: of a block from where the cursor stands on, no entry stands, and at the bit where it is told a number of it is missing, or is a last document that does not rise
 abbrev pub HasSkipCause : Cursoring → Option Files → PartErr → Type 0
 HasSkipCause c files refusal = IfNames Skip refusal
-    (LacksAnEntry (told_at files c.skip.name) c.skip_at c.all c.reached (block_count c.docs))
+    (LacksAnEntry (told_at files c.skip.name) c.skip_at c.all c.last c.reached (block_count c.docs))

@@ -40,6 +40,8 @@ pub record EntersFound (list : ListPlace) (found : Found) (doc : ℕ) (held : Li
   pub sound : OnOk result (HeldRises list.all found.last held)
   pub from : IfOk result (λ i. IsFrom doc list.all i.posting)
   pub current : IfOk result (λ i. head_of held ≡ Some i.posting)
+  -- and where the next document is asked for, all postings of the block are at hand
+  pub whole : doc ≡ found.before + 1 → OnOk result (length held ≡ min (list.docs - 64 * found.block) 64)
   -- no more pages are read than are answered
   pub count : IfOk result (λ i. new.count ≤ old.count + i.pages)
   -- where the list stands, the block is entered at its first posting from the document on, or the device failed

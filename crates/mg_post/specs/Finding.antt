@@ -55,6 +55,11 @@ pub record TellsBlock (skip : Option (List ℕ)) (skip_at reached known block be
 abbrev pub TellsFound : Option (List ℕ) → ℕ → ℕ → ℕ → Found → Type 0
 TellsFound skip skip_at reached known f = TellsBlock skip skip_at reached known f.block f.before f.last f.at
 
+-- a search for the next document finds the next block, or none where all were reached
+abbrev pub FindsNext : ℕ → ℕ → ℕ → Option Found → Type 0
+FindsNext reached blocks last None = reached ≡ blocks
+FindsNext reached blocks last (Some f) = (f.block ≡ reached) × (f.before ≡ last)
+
 -- where the last document of the last block is told by its entry, what was found is told by the entries
 abbrev pub TellsOnPage : Option (List ℕ) → ℕ → ℕ → ℕ → ℕ → ℕ → Result Found Refusal → Type 0
 TellsOnPage skip skip_at low high before last result = TellsLast skip skip_at high last →
@@ -64,24 +69,39 @@ TellsOnPage skip skip_at low high before last result = TellsLast skip skip_at hi
 abbrev pub LacksNumber : Option (List ℕ) → ℕ → Type 0
 LacksNumber skip at = FromPlace skip at (λ bits. length bits < 64)
 
--- in the entry of a block no last document stands, among so many documents: Skip ends before its end, or it is beyond all; this bit is its first
-pub record LacksLast (skip : Option (List ℕ)) (skip_at all block at : ℕ) : Type 0 where
+-- in the entry of a block no last document stands that is behind one and at most another: Skip ends before its end, or it tells one beyond these; this bit is its first
+pub record LacksLast (skip : Option (List ℕ)) (skip_at block after most at : ℕ) : Type 0 where
   pub at_is : at ≡ 128 * (skip_at + block)
-  pub missing : LacksNumber skip at ⊎ ((last : ℕ) × (all < last) × TellsLast skip skip_at block last)
+  pub missing : LacksNumber skip at
+      ⊎ ((last : ℕ) × ((last ≤ after) ⊎ (most < last)) × TellsLast skip skip_at block last)
+
+-- a block's last document is behind this one: the last before the blocks that are searched, or that of an earlier one of them
+abbrev pub IsFloor : Option (List ℕ) → ℕ → ℕ → ℕ → ℕ → ℕ → Type 0
+IsFloor skip skip_at low known block after = (after ≡ known)
+    ⊎ ((k : ℕ) × (low ≤ k) × (k < block) × TellsLast skip skip_at k after)
+
+-- it is at most this one: the last of all documents, or the one before that of a later block
+abbrev pub IsCeiling : Option (List ℕ) → ℕ → ℕ → ℕ → ℕ → ℕ → Type 0
+IsCeiling skip skip_at all high block most = (most ≡ all)
+    ⊎ ((k : ℕ) × (block < k) × (k < high) × TellsLast skip skip_at k (most + 1))
+
+-- of the entries of some blocks, that of this one tells no last document that rises
+pub record LacksRise (skip : Option (List ℕ)) (skip_at all known low high block at : ℕ) : Type 0 where
+  pub after : ℕ
+  pub floor : IsFloor skip skip_at low known block after
+  pub most : ℕ
+  pub ceiling : IsCeiling skip skip_at all high block most
+  pub lacks : LacksLast skip skip_at block after most at
 
 -- in the entry of a block the bits before it do not stand: Skip ends before the end of their number; this bit is its first
 pub record LacksBits (skip : Option (List ℕ)) (skip_at block at : ℕ) : Type 0 where
   pub at_is : at ≡ 128 * (skip_at + block) + 64
   pub missing : LacksNumber skip at
 
--- no entry of a block among so many documents stands; this bit is the first of the number in it that does not
-abbrev pub LacksEntry : Option (List ℕ) → ℕ → ℕ → ℕ → ℕ → Type 0
-LacksEntry skip skip_at all block at = LacksLast skip skip_at all block at ⊎ LacksBits skip skip_at block at
-
--- an entry does not stand of one of the blocks from a first one to before a last one; this bit is the first of the number in it that does not
-abbrev pub LacksAnEntry : Option (List ℕ) → ℕ → ℕ → ℕ → ℕ → ℕ → Type 0
-LacksAnEntry skip skip_at all low high at = (block : ℕ) × (low ≤ block) × (block < high)
-    × LacksEntry skip skip_at all block at
+-- an entry does not stand of one of the blocks from a first one to before a last one, where the last document before them is known; this bit is the first of the number in it that does not
+abbrev pub LacksAnEntry : Option (List ℕ) → ℕ → ℕ → ℕ → ℕ → ℕ → ℕ → Type 0
+LacksAnEntry skip skip_at all known low high at = (block : ℕ) × (low ≤ block) × (block < high)
+    × (LacksRise skip skip_at all known low high block at ⊎ LacksBits skip skip_at block at)
 
 -- ---- the pages of the entries
 

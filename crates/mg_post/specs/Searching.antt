@@ -4,7 +4,7 @@ use Rattle.mg_bits.specs.Feed.{Feeding, lacks}
 use Rattle.mg_defs.specs.Bits.{Begins, FromPlace, Shows, digits}
 use Rattle.mg_defs.specs.Lists.{SkipEntry}
 use Rattle.mg_post.specs.Answers.{AnswersThis, IfDamaged}
-use Rattle.mg_post.specs.Finding.{FindsBlock, FindsOnPage, IsSound, LacksAnEntry, LacksBits, LacksLast, LacksNumber, SkipReads, TellsBits, TellsFound, TellsLast, TellsOnPage, blocks_after, entries_pages, entry_page}
+use Rattle.mg_post.specs.Finding.{FindsBlock, FindsNext, FindsOnPage, IsSound, LacksAnEntry, LacksBits, LacksLast, LacksNumber, SkipReads, TellsBits, TellsFound, TellsLast, TellsOnPage, blocks_after, entries_pages, entry_page}
 use Rattle.mg_post.specs.Stands.{ShowsEntry}
 use Rattle.mg_post.specs.declared.find.Found.{Found}
 use Rattle.mg_post.specs.declared.find.PageBlocks.{PageBlocks}
@@ -25,14 +25,16 @@ pub record ReadsNumber (place : ℕ) (result : Result ℕ Refusal) (skip : Optio
     pub at : IfDamaged result (λ at. at ≡ place)
     pub told : (y : ℕ) → y < 2 ^ 64 → Shows skip place (digits 64 y) → AnswersThis result y
 
--- the last document of a block is read from its entry
-pub record ReadsLast (skip_at all block : ℕ) (result : Result ℕ Refusal) (skip : Option (List ℕ)) (old new : Feeding) :
-    Type 0 where
+-- the last document of a block, which is to be behind one and at most another, is read from its entry
+pub record ReadsLast (skip_at block after most : ℕ) (result : Result ℕ Refusal) (skip : Option (List ℕ))
+    (old new : Feeding) : Type 0 where
   pub page : HoldsPage (entry_page (skip_at + block)) result old new
-  pub within : IfOk result (λ last. last ≤ all)
+  pub behind : IfOk result (λ last. after < last)
+  pub within : IfOk result (λ last. last ≤ most)
   pub tells : IfOk result (TellsLast skip skip_at block)
-  pub lacks : IfDamaged result (LacksLast skip skip_at all block)
-  pub told : (e : SkipEntry) → e.last ≤ all → ShowsEntry skip skip_at block e → AnswersThis result e.last
+  pub lacks : IfDamaged result (LacksLast skip skip_at block after most)
+  pub told : (e : SkipEntry) → after < e.last → e.last ≤ most → ShowsEntry skip skip_at block e →
+      AnswersThis result e.last
 
 -- the bits of a list before a block are read from its entry
 pub record ReadsBits (skip_at block : ℕ) (result : Result ℕ Refusal) (skip : Option (List ℕ)) (old new : Feeding) : Type
@@ -49,7 +51,10 @@ pub record SearchesPage (s : SkipSearch) (p : PageBlocks) (result : Result Found
   pub held : OnOk result (new.held ≡ Some (entry_page (s.skip_at + p.high)))
   pub found : IfOk result (IsSound p.low (p.high + 1) s.all s.doc)
   pub tells : TellsOnPage skip s.skip_at p.low p.high p.before p.last result
-  pub lacks : IfDamaged result (LacksAnEntry skip s.skip_at s.all p.low (p.high + 1))
+  pub lacks : TellsLast skip s.skip_at p.high p.last →
+      IfDamaged result (LacksAnEntry skip s.skip_at s.all p.before p.low (p.high + 1))
+  -- whatever the entries are, a search for the next document finds the first of these blocks
+  pub next : s.doc ≡ p.before + 1 → IfOk result (λ f. FindsNext p.low (p.high + 1) p.before (Some f))
   pub told : FindsOnPage skip s.skip_at s.all p.low p.high p.before p.last s.doc result
 
 -- the block of a document is searched: the pages of the entries are read in rising order, each once
@@ -59,5 +64,7 @@ pub record SearchesBlock (s : SkipSearch) (result : Result (Option Found) Refusa
   pub most : new.count ≤ entries_pages s.skip_at s.blocks
   pub found : IfOk result (λ found. IfSome found (IsSound s.reached s.blocks s.all s.doc))
   pub tells : IfOk result (λ found. IfSome found (TellsFound skip s.skip_at s.reached s.last))
-  pub lacks : IfDamaged result (LacksAnEntry skip s.skip_at s.all s.reached s.blocks)
+  pub lacks : IfDamaged result (LacksAnEntry skip s.skip_at s.all s.last s.reached s.blocks)
+  -- whatever the entries are, a search for the next document finds the next block, or none where all were reached
+  pub next : s.doc ≡ s.last + 1 → IfOk result (FindsNext s.reached s.blocks s.last)
   pub told : FindsBlock skip s.skip_at s.all s.blocks s.reached s.last s.doc result

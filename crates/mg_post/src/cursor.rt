@@ -9,7 +9,7 @@ ghost use Rattle.mg_defs.specs.Codes.{golomb_parameter};
 ghost use Rattle.mg_defs.specs.Lists.{block_count, from_doc};
 ghost use Rattle.mg_post.specs.Damages.{EntriesStand, HasPostCause, HasSkipCause, NamesPart};
 ghost use Rattle.mg_post.specs.Finding.{entries_pages};
-ghost use Rattle.mg_post.specs.Cursor.{head_of, after, next_doc, post_pages, entered_pages, skip_pages, CursorFits, SameList, SamePlace, StandsAt, IsFrom, NamesItsPart};
+ghost use Rattle.mg_post.specs.Cursor.{head_of, after, count_behind, next_doc, post_pages, entered_pages, skip_pages, CursorFits, GoesToNext, SameList, SamePlace, StandsAt, IsFrom, NamesItsPart};
 ghost use Rattle.mg_post.specs.CursorSteps.{CursorStep};
 ghost use Rattle.mg_post.specs.TermLists.{AnswersForTerm, ReadsLists, CursorForInfo, TermPages, IsOverInfo, ForTerm};
 ghost use Rattle.mg_post.specs.WholeLists.{WalkStep};
@@ -37,12 +37,17 @@ use std::mem::swap;
 /// entered, and the pages of Skip that were read. Of a block whose reading was refused, the second
 /// number has the pages that were read. After a refusal the cursor stands where it stood.
 ///
+/// A walk from posting to posting passes none over, whatever the parts have: it ends only behind the
+/// last posting of the list's last block. A search far ahead passes blocks by their entries alone; where
+/// these rise but are not those of the list, it may pass a posting.
+///
 /// A damage is told of one part, with the first bit of what is missing. Where the skip entries are those
 /// of the list, none is told of Skip.
 ///
 /// | Part | What does not stand | Bit |
 /// |---|---|---|
 /// | Skip | an entry of a block that is searched | the first of the number in it that doesn't stand |
+/// | Skip | an entry that does not rise above those before it, up to those behind it | its first |
 /// | Post | a posting of the block that the entries lead to | the first of its gap, or of its count where the gap stands |
 /// | Post | a block that ends with the document that its entry tells | the first of the block |
 #[derive(Drop)]
@@ -66,7 +71,7 @@ impl<'a, S: Store> Model for Cursor<'a, S> {
     ghost use Rattle.std.specs.Prelude.{◌≡◌, ◌≤◌, ◌<◌, ◌-◌, ◌^◌, min, true, []};
     ghost use Rattle.mg_dev.specs.declared.part.Part.TheVariants as part;
     ghost use Rattle.mg_defs.specs.Lists.{block_count};
-    ghost use Rattle.mg_post.specs.Cursor.{Cursoring, HeldRises};
+    ghost use Rattle.mg_post.specs.Cursor.{Cursoring, HeldNone, HeldRises};
 
     ghost Value = { Cursoring };
 
@@ -87,7 +92,7 @@ impl<'a, S: Store> Model for Cursor<'a, S> {
 
     ghost invariant = { λ c. (1 ≤ c.parameter) × (c.parameter < 2 ^ 48) × (c.last ≤ c.all) × (c.reached ≤ block_count c.docs) × (c.post.feed.part ≡ part.Post) ×
         (c.skip.feed.part ≡ part.Skip) × (c.entered < 2 ^ 64) × (c.ended ≡ true → c.block ≡ []) × HeldRises c.all c.last c.block ×
-        (min c.post.feed.count (2 ^ 64 - 1) ≤ c.entered) };
+        (min c.post.feed.count (2 ^ 64 - 1) ≤ c.entered) × HeldNone c.docs c.reached c.last c.block c.ended };
 }
 
 /// How many blocks so many postings have.
@@ -109,6 +114,13 @@ fn parameter_for(all: u32, docs: u32) -> u64
     parameter_of(all, docs)
 }
 
+/// The number behind a document's, which may be more than a document can have.
+fn number_behind(document: u32) -> u64
+    ensures { result ≡ document + 1 }
+{
+    u64::from(document) + 1
+}
+
 impl<'a, S: Store> Cursor<'a, S> {
     /// Stands before the first posting of the list that the lexicon tells of, in a set with so many
     /// documents. Nothing is read.
@@ -125,6 +137,7 @@ impl<'a, S: Store> Cursor<'a, S> {
         ensures term { IfOk result (CursorForInfo base.entry.now info.entry.now all) }
         ensures at { IfOk result (λ c. (ps : List Posting) → StandsAt c ps ps) }
         ensures before { IfOk result (λ c. c.held ≡ []) }
+        ensures whole { IfOk result (λ c. count_behind c ≡ info.entry.now.docs) }
         ensures nothing { IfOk result
             (λ c. (post_pages c ≡ 0) × (entered_pages c ≡ 0) × (skip_pages c ≡ 0)) }
     {
@@ -186,13 +199,13 @@ impl<'a, S: Store> Cursor<'a, S> {
             self.block.forward(doc);
             return Ok(self.block.current());
         }
-        self.enter_next(store, doc)
+        self.enter_next(store, u64::from(doc))
     }
 
     /// Goes to the first posting beyond the block whose document is at least `doc`. It stands apart so
     /// that `advance_to` is short within a block.
     #[inline(never)]
-    fn enter_next(&mut self, store: &mut S, doc: u32) -> Result<Option<Posting>, PartErr>
+    fn enter_next(&mut self, store: &mut S, doc: u64) -> Result<Option<Posting>, PartErr>
         requires fits { CursorFits self.old (S.files store.old) }
         requires on { self.old.ended ≡ false }
         requires beyond { self.old.last < doc }
@@ -224,7 +237,14 @@ impl<'a, S: Store> Cursor<'a, S> {
                     parameter: self.parameter,
                     all: self.all,
                 };
-                match enter(&mut self.post, store, &mut self.spare, &list, found, doc) {
+                match enter(
+                    &mut self.post,
+                    store,
+                    &mut self.spare,
+                    &list,
+                    found,
+                    doc as u32,
+                ) {
                     Err(refusal) => {
                         let read = self.post.feed().reads() - before;
                         self.entered = self.entered.saturating_add(read);
@@ -260,12 +280,7 @@ impl<'a, S: Store> Cursor<'a, S> {
             Some(posting) => Ok(Some(posting)),
             None => {
                 let last = self.last;
-                if last == u32::MAX {
-                    // No document has a higher number, so that nothing is read from here on.
-                    self.block.clear();
-                    return Ok(None);
-                }
-                self.advance_to(store, last + 1)
+                self.enter_next(store, number_behind(last))
             }
         }
     }
@@ -287,6 +302,8 @@ impl<'a, S: Store> Cursor<'a, S> {
             (block_count self.new.docs) }
         ensures reads { ReadsLists (S.reads store.old) (S.reads store.new) }
         ensures sound { IfOk result (λ found. IfSome found (IsFrom doc self.old.all)) }
+        ensures next { doc ≡ next_doc self.old.held →
+            IfOk result (GoesToNext self.old self.new) }
         ensures part { IfErr result NamesItsPart }
         ensures post { (ps left : List Posting) → EntriesStand self.old (S.files store.old) ps →
             StandsAt self.old ps left → IfErr result (NamesPart part.Post) }

@@ -3,6 +3,9 @@
 //! The entries of a list rise, so a page of them is passed by a look at its last one, and within a
 //! page the entry is found by halves. Each page is read at most once, and in rising order: over a
 //! cursor's life the reads of Skip are at most the pages of the list's entries.
+//!
+//! An entry that is read and does not rise is damage. So a search for the next document finds the
+//! next block over any entries, and none only where all blocks were reached.
 ghost use Rattle.std.specs.Prelude.{◌≡◌, ◌+◌, ◌*◌, ◌%◌, ◌<◌, ◌≤◌, ◌^◌, Some};
 ghost use Rattle.mg_post.specs.Finding.{SkipReads, entry_page};
 ghost use Rattle.mg_post.specs.Reading.{FeedsPages, ReadsFeed};
@@ -23,7 +26,7 @@ pub struct Found {
 
 /// The search for the block of a document: the number of the list's first skip entry, how many
 /// blocks the list has, those from `reached` on that are searched, the last document before these,
-/// and the number of documents.
+/// the number of documents, and the document, which may be one more than a list can have.
 #[derive(Clone, Copy)]
 pub struct SkipSearch {
     pub skip_at: u32,
@@ -31,7 +34,15 @@ pub struct SkipSearch {
     pub reached: u32,
     pub last: u32,
     pub all: u32,
-    pub doc: u32,
+    pub doc: u64,
+}
+
+/// What bounds the last document that an entry is to tell: it is behind one document, and at most
+/// another.
+#[derive(Clone, Copy)]
+pub struct LastBounds {
+    pub after: u32,
+    pub most: u32,
 }
 
 /// The blocks from `low` to `high`, whose entries lie on one page, with the last document before
@@ -66,22 +77,25 @@ fn entry_place(skip_at: u32, block: u32) -> u64
     128 * (u64::from(skip_at) + u64::from(block))
 }
 
-/// The last document of a block, by its skip entry.
+/// The last document of a block, by its skip entry. One that is not within the bounds is refused.
 fn last_of<F: Feed>(
     r: &mut BitReader<F>,
     dev: &mut F::Dev,
     skip_at: u32,
     block: u32,
-    all: u32,
+    bounds: LastBounds,
 ) -> Result<u32, Refusal>
     requires { FeedsPages F.fits F.feeding F.device r.old dev.old }
-    ensures { ReadsFeed (ReadsLast skip_at all block) F.fits F.feeding F.device
+    ensures { ReadsFeed (ReadsLast skip_at block bounds.after bounds.most) F.fits F.feeding F.device
         r.old r.new dev.old dev.new result }
 {
     let place = entry_place(skip_at, block);
     match number_at(r, dev, place) {
         Ok(last) => {
-            if last > u64::from(all) {
+            if last <= u64::from(bounds.after) {
+                return Err(Refusal::Damaged { at: place });
+            }
+            if last > u64::from(bounds.most) {
                 return Err(Refusal::Damaged { at: place });
             }
             Ok(last as u32)
@@ -119,7 +133,8 @@ fn page_end(skip_at: u32, block: u32, blocks: u32) -> u32
 }
 
 /// The first of the blocks of a page whose last document is at least that which is searched. The
-/// page with their entries is held.
+/// page with their entries is held. An entry that is read has to tell a document behind those of the
+/// blocks that are passed, and before that of a later block that was read.
 fn search_page<F: Feed>(
     r: &mut BitReader<F>,
     dev: &mut F::Dev,
@@ -145,9 +160,13 @@ fn search_page<F: Feed>(
     let mut end = page.last;
     let mut middle = page.low;
     while from < to {
-        match last_of(r, dev, search.skip_at, middle, search.all) {
+        let bounds = LastBounds {
+            after: passed,
+            most: end - 1,
+        };
+        match last_of(r, dev, search.skip_at, middle, bounds) {
             Ok(here) => {
-                if search.doc <= here {
+                if search.doc <= u64::from(here) {
                     to = middle;
                     end = here;
                 } else {
@@ -189,9 +208,13 @@ pub fn find_block<F: Feed>(
     let mut before = search.last;
     while low < search.blocks {
         let high = page_end(search.skip_at, low, search.blocks);
-        match last_of(r, dev, search.skip_at, high, search.all) {
+        let bounds = LastBounds {
+            after: before,
+            most: search.all,
+        };
+        match last_of(r, dev, search.skip_at, high, bounds) {
             Ok(last) => {
-                if search.doc <= last {
+                if search.doc <= u64::from(last) {
                     let page = PageBlocks {
                         low,
                         high,

@@ -2,7 +2,7 @@ use Rattle.std.proofs.Common.{arith, ◌≡◌, ◌+◌, ◌*◌, ◌≤◌, len
 use Rattle.mg_bits.proofs.CallerLemmas.{calm_none}
 use Rattle.mg_defs.specs.Lists.{block_of, bits_before, last_doc}
 use Rattle.mg_post.specs.Cursor.{HeldRises, forward_to}
-use Rattle.mg_post.proofs.ForwardLaws.{forward_some}
+use Rattle.mg_post.proofs.ForwardLaws.{forward_all, forward_some}
 use Rattle.mg_post.proofs.FindLaws.{bits_fit, damaged_weaker}
 use Rattle.mg_post.proofs.ReadLaws.{any_refused}
 use Rattle.mg_post.proofs.EnterLaws.{block_answer, block_ends, block_filled, filled_some, head_none, found_some, entered, count_most, refused_pages}
@@ -19,6 +19,7 @@ returns-in_default g c =
         sound = tt;
         from = tt;
         current = tt;
+        whole = λ is. tt;
         count = tt;
         told = λ ps blocks rises whole shows small found. absurd (omega (arith, bits_fit list.parameter (64 * c.args.found.block) ps, found.bits, far, small));
         most = λ ps blocks rises whole shows small found. absurd (omega (arith, bits_fit list.parameter (64 * c.args.found.block) ps, found.bits, far, small));
@@ -42,6 +43,7 @@ returns-then-last-found g c =
         sound = tt;
         from = tt;
         current = tt;
+        whole = λ is. tt;
         count = tt;
         told = λ ps blocks rises whole shows small found.
             let at : c.seek.new.self.place ≡ 8 * list.post_at + bits_before list.parameter (64 * f.block) ps = place ∙ ap (λ n. 8 * list.post_at + n) found.bits in
@@ -90,6 +92,10 @@ returns-in-Some-current g c =
         sound = sound;
         from = from_held list.all f.last c.args.doc c.fill.new.self c.forward.new.self c.in-Some-current.posting sound c.forward.ensures (sym c.in-Some-current.ensures);
         current = sym c.in-Some-current.ensures;
+        whole = λ is.
+            let all : c.forward.new.self ≡ c.fill.new.self =
+            c.forward.ensures ∙ ap (λ n. forward_to n c.fill.new.self) is ∙ forward_all list.all f.before c.fill.new.self e.rises in
+            ap length all ∙ e.whole ∙ c.min.ensures;
         count = rw (c.pages_of-pages.ensures, c.place.ensures, ← c.seek.ensures.place, ← c.seek.ensures.feed) most;
         told = λ ps blocks rises whole shows small found.
             let at : c.seek.new.self.place ≡ 8 * list.post_at + bits_before list.parameter (64 * f.block) ps = place ∙ ap (λ n. 8 * list.post_at + n) found.bits in
@@ -129,6 +135,7 @@ returns-in-None g c =
         sound = tt;
         from = tt;
         current = tt;
+        whole = λ is. tt;
         count = tt;
         told = λ ps blocks rises whole shows small found.
             let at : c.seek.new.self.place ≡ 8 * list.post_at + bits_before list.parameter (64 * f.block) ps = place ∙ ap (λ n. 8 * list.post_at + n) found.bits in
@@ -171,6 +178,7 @@ returns-in-Err g c =
         sound = tt;
         from = tt;
         current = tt;
+        whole = λ is. tt;
         count = tt;
         told = λ ps blocks rises whole shows small found.
             let at : c.seek.new.self.place ≡ 8 * list.post_at + bits_before list.parameter (64 * f.block) ps = place ∙ ap (λ n. 8 * list.post_at + n) found.bits in

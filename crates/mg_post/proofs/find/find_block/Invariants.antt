@@ -1,4 +1,4 @@
-use Rattle.std.proofs.Common.{◌≡◌, ◌-◌, ◌*◌, ◌≤◌, ◌<◌, ℕ, List}
+use Rattle.std.proofs.Common.{◌≡◌, ◌+◌, ◌-◌, ◌*◌, ◌≤◌, ◌<◌, ℕ, List}
 use Rattle.mg_bits.specs.Feed.{Calm}
 use Rattle.mg_defs.specs.declared.Posting.{Posting}
 use Rattle.mg_defs.specs.Lists.{doc_before}
@@ -15,6 +15,7 @@ invariant-loop-low g l = record {
   there : l.low ≤ l.search.blocks;
   known : l.before ≤ l.search.all;
   below : l.before < l.search.doc;
+  next : l.search.doc ≡ l.search.last + 1 → (l.low ≡ l.search.reached) × (l.before ≡ l.search.last);
   before_is : TellsBefore ((g.F.Feed.feeding l.fn.r.feed).source (g.F.Feed.device l.fn.dev).files) l.search.skip_at l.search.reached l.search.last l.low l.before;
   told : (ps : List Posting) (b : ℕ) → SkipStands l.search.all b ((g.F.Feed.feeding l.fn.r.feed).source (g.F.Feed.device l.fn.dev).files) l.search.skip_at l.search.blocks ps →
       l.search.last ≡ doc_before (64 * l.search.reached) ps → l.before ≡ doc_before (64 * l.low) ps;

@@ -1,12 +1,12 @@
-use Rattle.std.proofs.Common.{arith, ◌≡◌, ◌+◌, ◌*◌, ◌<◌, ◌≤◌, ◌∙◌, ℕ, ap, subst, inl, inr, Some, Ok, Err}
+use Rattle.std.proofs.Common.{arith, ◌≡◌, ◌+◌, ◌-◌, ◌*◌, ◌<◌, ◌≤◌, ◌∙◌, ℕ, ap, subst, inr, Some, Ok, Err}
 use Rattle.mg_bits.proofs.CallerLemmas.{calm_more, same_told}
 use Rattle.mg_defs.specs.Lists.{doc_before, bits_before}
 use Rattle.mg_post.specs.Finding.{LacksBits, LacksLast, TellsBefore, TellsLast, entry_page}
 use Rattle.mg_post.specs.declared.find.Found.{Found}
 use Rattle.mg_post.proofs.ReadLaws.{any_refused}
-use Rattle.mg_post.proofs.FindLaws.{last_answer, bits_answer, page_between, count_same, damaged_weaker, tells_next, any_cause}
+use Rattle.mg_post.proofs.FindLaws.{lacks_within, middle_answer, bits_answer, page_between, count_same, damaged_weaker, tells_next, any_cause}
 use Rattle.mg_post.proofs.find.search_page.Goals as goal
-use Rattle.mg_post.proofs.find.search_page.Goals.{then-search-here, else-search-here}
+use Rattle.mg_post.proofs.find.search_page.Goals.{then-search-from, else-search-from}
 
 pub loop-from-preserved : goal.loop-from-preserved
 loop-from-preserved g c =
@@ -17,8 +17,8 @@ loop-from-preserved g c =
     let step = count_same _ _ _ _ _ c.loop-from.invariant.held page c.in-Ok.ensures.does.page.count in
     let here : TellsLast ((g.F.Feed.feeding c.args.r.now.feed).source (g.F.Feed.device c.args.dev.now).files) c.args.search.now.skip_at c.loop-from.middle
     c.in-Ok.here = rw (same_told _ _ _ _ c.loop-from.invariant.calm) at c.in-Ok.ensures.does.tells in
-    elim c.if-search-here.branch [
-      | then-search-here w ↦ record {
+    elim c.if-search-from.branch [
+      | then-search-from w ↦ record {
         fits = c.in-Ok.ensures.fits;
         calm = calm_more _ _ _ _ _ _ c.loop-from.invariant.calm c.in-Ok.ensures.calm;
         count = omega (arith, step, c.loop-from.invariant.count);
@@ -30,18 +30,20 @@ loop-from-preserved g c =
         before_to = λ lt. omega (arith, lt);
         known = omega (arith, w.passed-is, c.loop-from.invariant.known);
         below = omega (arith, w.passed-is, c.loop-from.invariant.below);
-        within = omega (arith, w.end-is, w.if-search-here.true);
-        most = omega (arith, w.end-is, c.in-Ok.ensures.does.within);
+        within = omega (arith, w.end-is, w.if-search-from.true, c.from.ensures);
+        most = omega (arith, w.end-is, c.in-Ok.ensures.does.within, c.loop-from.invariant.most);
+        next = λ is. rw (w.from-is, w.passed-is) (c.loop-from.invariant.next is);
         passed_is = rw (w.from-is, w.passed-is) c.loop-from.invariant.passed_is;
         end_is = λ last. rw (w.to-is, w.end-is) here;
         told = λ ps b blocks stands lt before last.
             let old = c.loop-from.invariant.told ps b blocks stands lt before last in
             let got : c.in-Ok.here ≡ doc_before (64 * (c.loop-from.middle + 1)) ps =
-            last_answer c.args.search.now.all b _ _ c.args.search.now.skip_at blocks c.loop-from.middle ps (Ok c.in-Ok.here)
-            (same_told _ _ _ _ c.loop-from.invariant.calm) stands (omega (arith, inside, c.loop-from.invariant.high, lt)) c.in-Ok.ensures.does.told in
+            middle_answer c.args.search.now.all b _ _ c.args.search.now.skip_at blocks c.loop-from.from c.loop-from.middle c.loop-from.to c.loop-from.passed c.loop-from.end ps
+            (Ok c.in-Ok.here) (same_told _ _ _ _ c.loop-from.invariant.calm) stands c.loop-from.invariant.middle inside (omega (arith, c.loop-from.invariant.high, lt)) old.0 old.1
+            c.in-Ok.ensures.does.told in
             (rw (w.passed-is, w.from-is) old.0, rw (w.end-is, w.to-is) got);
       }
-      | else-search-here w ↦ record {
+      | else-search-from w ↦ record {
         fits = c.in-Ok.ensures.fits;
         calm = calm_more _ _ _ _ _ _ c.loop-from.invariant.calm c.in-Ok.ensures.calm;
         count = omega (arith, step, c.loop-from.invariant.count);
@@ -51,18 +53,20 @@ loop-from-preserved g c =
         high = omega (arith, w.to-is, c.loop-from.invariant.high);
         middle = omega arith;
         before_to = λ lt. omega (arith, lt);
-        known = omega (arith, w.passed-is, c.in-Ok.ensures.does.within);
-        below = omega (arith, w.passed-is, w.if-search-here.false);
+        known = omega (arith, w.passed-is, c.in-Ok.ensures.does.within, c.loop-from.invariant.most);
+        below = omega (arith, w.passed-is, w.if-search-from.false, c.from.ensures);
         within = omega (arith, w.end-is, c.loop-from.invariant.within);
         most = omega (arith, w.end-is, c.loop-from.invariant.most);
+        next = λ is. absurd (omega (arith, is, (c.loop-from.invariant.next is).1, c.in-Ok.ensures.does.behind, w.if-search-from.false, c.from.ensures));
         passed_is = rw (w.from-is, w.passed-is) (tells_next _ c.args.search.now.skip_at c.args.page.low c.args.page.before c.loop-from.middle c.in-Ok.here
             (omega (arith, c.loop-from.invariant.low, c.loop-from.invariant.middle)) here);
         end_is = λ last. rw (w.to-is, w.end-is) (c.loop-from.invariant.end_is last);
         told = λ ps b blocks stands lt before last.
             let old = c.loop-from.invariant.told ps b blocks stands lt before last in
             let got : c.in-Ok.here ≡ doc_before (64 * (c.loop-from.middle + 1)) ps =
-            last_answer c.args.search.now.all b _ _ c.args.search.now.skip_at blocks c.loop-from.middle ps (Ok c.in-Ok.here)
-            (same_told _ _ _ _ c.loop-from.invariant.calm) stands (omega (arith, inside, c.loop-from.invariant.high, lt)) c.in-Ok.ensures.does.told in
+            middle_answer c.args.search.now.all b _ _ c.args.search.now.skip_at blocks c.loop-from.from c.loop-from.middle c.loop-from.to c.loop-from.passed c.loop-from.end ps
+            (Ok c.in-Ok.here) (same_told _ _ _ _ c.loop-from.invariant.calm) stands c.loop-from.invariant.middle inside (omega (arith, c.loop-from.invariant.high, lt)) old.0 old.1
+            c.in-Ok.ensures.does.told in
             (rw (w.passed-is, w.from-is) got, rw (w.end-is, w.to-is) old.1);
       }
     ]
@@ -74,7 +78,6 @@ returns-in-Err g c =
     let s = c.args.search.now in
     let low : c.args.page.low ≤ c.loop-from.middle = omega (arith, i.low, i.middle) in
     let inside : c.loop-from.middle < c.loop-from.to = i.before_to c.loop-from-test.true in
-    let high : c.loop-from.middle < c.args.page.high + 1 = omega (arith, inside, i.high) in
     let page = page_between s.skip_at c.args.page.low c.loop-from.middle c.args.page.high c.requires.one_page low (omega (arith, inside, i.high)) in
     let step = count_same _ _ _ _ _ i.held page e.does.page.count in
     record {
@@ -83,11 +86,17 @@ returns-in-Err g c =
         held = tt;
         found = tt;
         tells = λ last. tt;
-        lacks = damaged_weaker c.in-Err.refusal (LacksLast ((g.F.Feed.feeding c.args.r.now.feed).source (g.F.Feed.device c.args.dev.now).files) s.skip_at s.all c.loop-from.middle) _
-            (λ at lacks. (c.loop-from.middle, low, high, inl lacks)) (rw (same_told _ _ _ _ i.calm) at e.does.lacks);
+        lacks = λ last. damaged_weaker c.in-Err.refusal
+            (LacksLast ((g.F.Feed.feeding c.args.r.now.feed).source (g.F.Feed.device c.args.dev.now).files) s.skip_at c.loop-from.middle c.loop-from.passed (c.loop-from.end - 1)) _
+            (λ at lacks. lacks_within _ s.skip_at s.all c.args.page.low c.args.page.before c.loop-from.from c.loop-from.passed c.loop-from.middle c.loop-from.to c.loop-from.end
+            (c.args.page.high + 1) at i.low i.middle inside (omega (arith, i.high)) (omega (arith, i.below, i.within)) i.passed_is (i.end_is last) lacks)
+            (rw (same_told _ _ _ _ i.calm) at e.does.lacks);
+        next = λ is. tt;
         told = λ ps b blocks stands lt before last.
+            let old = i.told ps b blocks stands lt before last in
             any_refused c.in-Err.refusal _ _
-            (last_answer s.all b _ _ s.skip_at blocks c.loop-from.middle ps (Err c.in-Err.refusal) (same_told _ _ _ _ i.calm) stands (omega (arith, inside, i.high, lt)) e.does.told);
+            (middle_answer s.all b _ _ s.skip_at blocks c.loop-from.from c.loop-from.middle c.loop-from.to c.loop-from.passed c.loop-from.end ps (Err c.in-Err.refusal)
+            (same_told _ _ _ _ i.calm) stands i.middle inside (omega (arith, i.high, lt)) old.0 old.1 e.does.told);
       };
       fits = e.fits;
       calm = calm_more _ _ _ _ _ _ i.calm e.calm;
@@ -114,7 +123,8 @@ returns-in-Ok-bits_of g c =
           last_is = i.end_is last;
           at_is = rw (same_told _ _ _ _ i.calm) at e.does.tells;
         };
-        lacks = tt;
+        lacks = λ last. tt;
+        next = λ is. let at_first = i.next is in (omega (arith, same, at_first.0), at_first.1);
         told = λ ps b blocks stands lt before last.
             let old = i.told ps b blocks stands lt before last in
             let from : c.loop-from.passed ≡ doc_before (64 * c.loop-from.to) ps = old.0 ∙ ap (λ n. doc_before (64 * n) ps) same in
@@ -149,7 +159,8 @@ returns-in-Err-bits_of g c =
         held = tt;
         found = tt;
         tells = λ last. tt;
-        lacks = damaged_weaker c.in-Err-bits_of.refusal (LacksBits ((g.F.Feed.feeding c.args.r.now.feed).source (g.F.Feed.device c.args.dev.now).files) s.skip_at c.loop-from.to) _
+        next = λ is. tt;
+        lacks = λ last. damaged_weaker c.in-Err-bits_of.refusal (LacksBits ((g.F.Feed.feeding c.args.r.now.feed).source (g.F.Feed.device c.args.dev.now).files) s.skip_at c.loop-from.to) _
             (λ at lacks. (c.loop-from.to, low, high, inr lacks)) (rw (same_told _ _ _ _ i.calm) at e.does.lacks);
         told = λ ps b blocks stands lt before last.
             any_refused c.in-Err-bits_of.refusal _ _

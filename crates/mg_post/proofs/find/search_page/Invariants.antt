@@ -21,6 +21,7 @@ invariant-loop-from g l = record {
   below : l.passed < l.search.doc;
   within : l.search.doc ≤ l.end;
   most : l.end ≤ l.search.all;
+  next : l.search.doc ≡ l.fn.page.before + 1 → (l.from ≡ l.fn.page.low) × (l.passed ≡ l.fn.page.before);
   passed_is : TellsBefore ((g.F.Feed.feeding l.fn.r.feed).source (g.F.Feed.device l.fn.dev).files) l.search.skip_at l.fn.page.low l.fn.page.before l.from l.passed;
   end_is : TellsLast ((g.F.Feed.feeding l.fn.r.feed).source (g.F.Feed.device l.fn.dev).files) l.search.skip_at l.fn.page.high l.fn.page.last →
       TellsLast ((g.F.Feed.feeding l.fn.r.feed).source (g.F.Feed.device l.fn.dev).files) l.search.skip_at l.to l.end;

@@ -2,7 +2,7 @@ use Rattle.std.proofs.Common.{arith, refl, sym, ◌∙◌, ap, Ok}
 use Rattle.mg_defs.specs.Lists.{from_doc}
 use Rattle.std.proofs.lemmas.Bool.{false≢true}
 use Rattle.mg_post.proofs.ForwardLaws.{from_nothing}
-use Rattle.mg_post.proofs.SoundLaws.{current_low, forward_held, stays_here}
+use Rattle.mg_post.proofs.SoundLaws.{current_low, forward_held, forward_none, stays_here}
 use Rattle.mg_post.proofs.StepLaws.{step_ended, step_within}
 use Rattle.mg_post.proofs.cursor.Cursor.advance_to.Goals as goal
 
@@ -10,14 +10,14 @@ pub returns-then-self-clause-step : goal.returns-then-self-clause-step
 returns-then-self-clause-step g c =
     let i = c.self.invariant in
     let fits = rw (← c.self.view_is) at c.requires.fits in
-    rw (← c.self.view_is) (step_ended _ c.args.doc c.args.doc (from_doc c.args.doc) _ _ _ fits i.9 i.3 c.if-self.true (i.7 c.if-self.true) (from_nothing c.args.doc))
+    rw (← c.self.view_is) (step_ended _ c.args.doc c.args.doc (from_doc c.args.doc) _ _ _ fits i.9 i.3 c.if-self.true (i.7 c.if-self.true) i.10 (from_nothing c.args.doc))
 
 pub returns-then-doc-self-clause-step : goal.returns-then-doc-self-clause-step
 returns-then-doc-self-clause-step g c =
     let i = c.self.invariant in
     let fits = rw (← c.self.view_is) at c.requires.fits in
     rw (← c.self.view_is)
-    (step_within _ c.forward.new.self c.args.doc c.current.result _ _ _ fits i.9 i.3 i.8 c.if-self.false c.requires.some c.if-doc-self.true c.forward.ensures c.current.ensures)
+    (step_within _ c.forward.new.self c.args.doc c.current.result _ _ _ fits i.9 i.3 i.8 i.10 c.if-self.false c.requires.some c.if-doc-self.true c.forward.ensures c.current.ensures)
 
 pub invariant_of-self : goal.invariant_of-self
 invariant_of-self g c =
@@ -32,6 +32,8 @@ invariant_of-self g c =
       λ e. absurd (false≢true (sym c.if-self.false ∙ e)),
       forward_held c.self.inside.all c.self.inside.last c.args.doc c.self.inside.block c.forward.new.self i.8 c.forward.ensures,
       i.9,
+      forward_none c.self.inside.all c.self.inside.last c.args.doc c.self.inside.docs c.self.inside.reached c.self.inside.block c.forward.new.self c.self.inside.ended i.8 i.10 c.if-self.false
+          c.requires.some c.if-doc-self.true c.forward.ensures,
     )
 
 pub returns-then-doc-self-clause-stays : goal.returns-then-doc-self-clause-stays

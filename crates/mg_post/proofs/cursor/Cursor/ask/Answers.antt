@@ -26,6 +26,9 @@ returns-clause-third g c = c.advance_to.ensures.step.third
 pub returns-clause-sound : goal.returns-clause-sound
 returns-clause-sound g c = c.advance_to.ensures.step.sound
 
+pub returns-clause-next : goal.returns-clause-next
+returns-clause-next g c = c.advance_to.ensures.step.next
+
 pub returns-clause-part : goal.returns-clause-part
 returns-clause-part g c = c.advance_to.ensures.step.part
 

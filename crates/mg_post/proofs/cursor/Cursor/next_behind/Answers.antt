@@ -16,6 +16,7 @@ returns g c =
           omega (arith, pages_in_list collection asked t, (e.pages base collection asked t (list_may_ask base collection t c.args.last _ _ stand f)).within);
       post = λ base collection t stand f. (e.pages base collection (numbers_in (postings collection t)) t (list_may_ask base collection t c.args.last _ _ stand f)).post;
       sound = e.sound;
+      next = e.next;
       reads = e.reads;
       files = e.files;
       memory = e.memory;

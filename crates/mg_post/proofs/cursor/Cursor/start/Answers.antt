@@ -1,4 +1,4 @@
-use Rattle.std.proofs.Common.{arith, false, refl, ap, ◌∙◌}
+use Rattle.std.proofs.Common.{arith, false, length, refl, ap, ◌∙◌}
 use Rattle.std.proofs.lemmas.Bool.{false≢true}
 use Rattle.mg_bits.specs.Pages.{Paging}
 use Rattle.mg_post.specs.Cursor.{Cursoring}
@@ -40,6 +40,9 @@ returns-clause-term g c = λ collection asked t n told all.
     refl
     (omega (arith, ap (λ (p : Paging). p.count) c.new-5.ensures.feed, c.in_ok-post.ensures.count))
 
+pub returns-clause-whole : goal.returns-clause-whole
+returns-clause-whole g c = omega (arith, ap length c.in_ok-block.ensures)
+
 pub invariant_of-result : goal.invariant_of-result
 invariant_of-result g c = (
   c.parameter_for.ensures.some,
@@ -52,4 +55,5 @@ invariant_of-result g c = (
   λ e. absurd (false≢true e),
   nothing_held c.args.all 0 c.in_ok-block.block c.in_ok-block.ensures,
   omega (arith, ap (λ (p : Paging). p.count) c.new-5.ensures.feed, c.in_ok-post.ensures.count),
+  record { first = λ on none. (refl, refl); all = λ off. absurd (false≢true off) },
 )
