@@ -8,6 +8,8 @@ use Rattle.mg_dev.specs.Files.{Files, file_at, bytes_at, HasSize}
 use Rattle.mg_dev.specs.Laws.{read_count, size_is}
 use Rattle.mg_defs.specs.Replies.{session, reply}
 use Rattle.mg_defs.specs.Session.{session_of}
+use Rattle.mg_defs.specs.declared.session.Hearing.{Hearing}
+use Rattle.mg_reply.specs.Served.{PrintedInTurn}
 
 -- a file that is told to have a size is there
 there : (o : Option (List ℕ)) (size : ℕ) → ◌≡◌ {A = Option ℕ} (Some size) (option_map length o) → (b : List ℕ) × (o ≡ Some b)
@@ -56,3 +58,10 @@ vec_front n buf items e = ap (λ k. take k (buf ++ drop (length buf) items)) e �
 pub session_over : (files : Option Files) (name text given : List ℕ) → file_at files name ≡ Some text → session (bytes_at files name) given ≡ session_of (reply text) given
 unfolding session
 session_over files name text given there = ap (λ o. session_of (reply (unwrap_or o [])) given) there
+
+-- and so are the replies of one who answers from it
+pub turns_over : (hearing : Hearing) (files : Option Files) (name text : List ℕ) {input input_now before now : Option (List ℕ)} →
+    file_at files name ≡ Some text → PrintedInTurn hearing (reply text) input input_now before now →
+    PrintedInTurn hearing (reply (bytes_at files name)) input input_now before now
+turns_over hearing files name text {input} {input_now} {before} {now} there turns =
+    subst (λ o. PrintedInTurn hearing (reply (unwrap_or o [])) input input_now before now) (sym there) turns

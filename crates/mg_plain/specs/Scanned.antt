@@ -6,10 +6,11 @@ use Rattle.mg_dev.specs.declared.part.Part.{Part}
 use Rattle.mg_dev.specs.declared.part.Part.TheVariants.{Plain}
 use Rattle.mg_dev.specs.declared.fault.Fault.TheVariants.{NoCollection, TooLarge, Memory}
 use Rattle.mg_dev.specs.declared.status.Status.TheVariants.{Done}
-use Rattle.mg_defs.specs.Replies.{session}
+use Rattle.mg_defs.specs.Replies.{reply, session}
+use Rattle.mg_defs.specs.declared.session.Hearing.TheVariants.{Commands}
 use Rattle.mg_defs.specs.InputLimit.{is_too_much}
 use Rattle.mg_defs.specs.Limits.{input_limit, held_bytes}
-use Rattle.mg_reply.specs.Served.{LeftEnough}
+use Rattle.mg_reply.specs.Served.{LeftEnough, PrintedInTurn}
 use Rattle.mg_plain.specs.Stops.{ScanStops}
 use Rattle.mg_dev.specs.Runs.{IfStopped, Run, StoreFailed, InputFailed, OutputFailed, SaysNothing, KeepsFiles, Stops, StopsUnless}
 
@@ -24,6 +25,9 @@ pub record Scanned (name : List ℕ) (run : Run) : Type 0 where
   -- every status: a prefix of the session is printed, and nothing after the statuses 7 and 8
   pub prefix : IsSome run.store.files → (given : List ℕ) → run.input.left ≡ Some given
       → GrewByPrefix run.out.written run.out_now.written (session (bytes_at run.store.files name) given)
+  -- every status: no reply is held back; it is printed before more of the input is taken than a piece behind its line
+  pub in_turn : IsSome run.store.files → PrintedInTurn Commands (reply (bytes_at run.store.files name))
+      run.input.left run.input_now.left run.out.written run.out_now.written
   pub silent : Stops run NoCollection → SaysNothing run
   pub silent_large : (size most : ℕ) → Stops run (TooLarge size most) → SaysNothing run
   -- the cause of every other status; 7 and 8 come exactly where they have it, unless the store fails or memory is wanting

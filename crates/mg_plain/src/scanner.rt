@@ -7,12 +7,13 @@ ghost use Rattle.mg_dev.specs.declared.part.Part.{Part};
 ghost use Rattle.mg_dev.specs.declared.part.Part.TheVariants.{Plain};
 ghost use Rattle.mg_dev.specs.declared.fault.Fault.TheVariants.{NoCollection, TooLarge};
 ghost use Rattle.mg_dev.specs.declared.part_err.PartErr.TheVariants as part;
+ghost use Rattle.mg_defs.specs.declared.session.Hearing.TheVariants.{Commands};
 ghost use Rattle.mg_defs.specs.Replies.{session, reply as reply_spec};
 ghost use Rattle.mg_defs.specs.InputLimit.{is_too_much};
 ghost use Rattle.mg_defs.specs.Limits.{input_limit};
 ghost use Rattle.mg_dev.specs.Runs.{RefusedFor};
 ghost use Rattle.mg_reply.specs.Printed.{PrintsAll, PrintsPrefix, Runs, StopsBy};
-ghost use Rattle.mg_reply.specs.Served.{LeftEnough};
+ghost use Rattle.mg_reply.specs.Served.{LeftEnough, PrintedInTurn};
 ghost use Rattle.mg_plain.specs.Scanned.{Scanned};
 ghost use Rattle.mg_plain.specs.Stops.{RefusesLarge, ScanStops};
 
@@ -87,6 +88,9 @@ fn scan_text<S: Store, I: Source, O: Sink>(
     ensures prefix { IsSome (S.files store.old) →
         PrintsPrefix I.left O.written input.old out.old out.new session
         (bytes_at (S.files store.old) name.now) }
+    ensures in_turn { IsSome (S.files store.old) →
+        PrintedInTurn Commands (reply_spec (bytes_at (S.files store.old) name.now))
+        (I.left input.old) (I.left input.new) (O.written out.old) (O.written out.new) }
     ensures silent { IsErrOf result NoCollection → O.written out.new ≡ O.written out.old }
     ensures silent_large { (size most : ℕ) → IsErrOf result (TooLarge size most) →
         O.written out.new ≡ O.written out.old }
@@ -111,7 +115,8 @@ fn scan_text<S: Store, I: Source, O: Sink>(
 
 /// Prints the session that the input asks of the collection of this name.
 ///
-/// The collection is read once, before the first line; nothing is printed where that is refused.
+/// The collection is read once, before the first line; nothing is printed where that is refused. No
+/// reply is held back: it is printed before more than 4,096 bytes behind its line are taken.
 ///
 /// # Errors
 ///

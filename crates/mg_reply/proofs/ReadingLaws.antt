@@ -31,6 +31,10 @@ none_held xs at end le within = (
   λ e. eq-eqb at end (let z : length (drop at (take end xs)) ≡ 0 = ap length e in omega (arith, length-drop at (take end xs), length-take end xs)),
 )
 
+-- no more than so many are held
+pub few_held : (xs : List ℕ) (at end : ℕ) → end ≤ 4096 → length (drop at (take end xs)) ≤ 4096
+few_held xs at end most = omega (arith, length-drop at (take end xs), length-take end xs, most)
+
 pub filled_none : (held0 held : List ℕ) (l0 l1 : Option (List ℕ)) → held0 ≡ [] → l0 ≡ prepended held l1 → IsAtEnd l0 → (prepended held l1 ≡ prepended held0 l0) × IsAtEnd (prepended held0 l0)
 filled_none held0 held l0 l1 gone took end =
     let e : prepended held0 l0 ≡ l0 = ap (λ h. prepended h l0) gone ∙ prepended-nil l0 in
@@ -157,6 +161,11 @@ nothing_left u0 u1 b now next line n g same end none used =
     let gone : g.front ≡ [] = empty g.front (g.count ∙ none) in
     let e : b ≡ now = g.taken ∙ ap (λ (l : List ℕ). prepended l now) gone ∙ prepended-nil now in
     (subst IsAtEnd (sym e) end, same ∙ sym e, used)
+
+-- the input failed in the line
+pub breaks_off : (b now next : Option (List ℕ)) (line : List ℕ) (n : ℕ) → Going b now line n → next ≡ now →
+    (front : List ℕ) × HasNoEnd front × (b ≡ prepended front next)
+breaks_off b now next line n g same = (g.front, g.plain, g.taken ∙ ap (prepended g.front) (sym same))
 
 pub runs_on : (b now next : Option (List ℕ)) (line : List ℕ) (n x : ℕ) → Going b now line n → now ≡ prepended (x ∷ []) next → RunsOn n b next
 runs_on b now next line n x g took = record { front = g.front; byte = x; plain = g.plain; count = g.count; taken = g.taken ∙ ap (prepended g.front) took ∙ prepended-prepended next g.front (x ∷ []) }

@@ -7,7 +7,7 @@ use Rattle.std.proofs.lemmas.List.{take-append-le}
 use Rattle.std.proofs.lemmas.List.Folds.{list_any-append}
 use Rattle.std.proofs.lemmas.Bool.{cases_Bool, false≢true, lt-ltb, le-ltb, and_from, and_left, and_right, or_left, or_right, cond_both}
 use Rattle.mg_dev.specs.Streams.{appended, prepended, GrewByPrefix, IsAtEnd}
-use Rattle.mg_dev.specs.StreamLaws.{appended-nil, appended-appended, grew_first, grew_second, grew_nothing}
+use Rattle.mg_dev.specs.StreamLaws.{appended-nil, appended-appended, prepended-nil, prepended-prepended, grew_first, grew_second, grew_nothing}
 use Rattle.mg_defs.specs.declared.session.Settings.{Settings}
 use Rattle.mg_defs.specs.declared.session.Command.{Command}
 use Rattle.mg_defs.specs.declared.session.Command.TheVariants.{Skip, Ask, Quit, Wrong, Set}
@@ -21,8 +21,8 @@ use Rattle.mg_defs.specs.InputLimit.{is_quit, ended_lines, has_quit, is_too_much
 use Rattle.mg_defs.specs.Limits.{input_limit}
 use Rattle.mg_defs.proofs.SessionLaws.{Gives, gives_end, gives_line, ends_long, ends_short}
 use Rattle.mg_defs.proofs.LimitLaws.{ends_always, ended-line, ended-none}
-use Rattle.mg_reply.specs.Reading.{IsFirst, RunsOn}
-use Rattle.mg_reply.specs.Served.{Served, Counted, AnsweredSome, LeftEnough, RepliedInTurn}
+use Rattle.mg_reply.specs.Reading.{IsFirst, RunsOn, piece_bytes}
+use Rattle.mg_reply.specs.Served.{Served, Counted, AnsweredSome, LeftEnough, PrintedInTurn, RepliedInTurn, TakenAhead}
 use Rattle.mg_reply.proofs.ReadingLaws.{first_line, left_now, empty}
 
 -- ---- what was printed and answered
@@ -234,18 +234,67 @@ answered_asked hearing After old new next reply answering before left left2 w0 w
 
 -- ---- replies are written in turn
 
+-- the line that was taken last, with what was taken behind it
+pub ahead_line : (held : List ℕ) {line : List ℕ} {size : ℕ} {left now : Option (List ℕ)} → IsFirst line size left (prepended held now) →
+    length held ≤ piece_bytes → TakenAhead left now
+ahead_line held {line} {left} {now} first few =
+    elim first.ends [
+      | inl e ↦ record {
+        line = line;
+        behind = 10 ∷ held;
+        plain = first.plain;
+        few = omega (arith, few);
+        taken = e.1 ∙ prepended-prepended now (line ++ 10 ∷ []) held ∙ ap (λ x. prepended x now) (append_assoc line (10 ∷ []) held);
+      }
+      | inr e ↦ record {
+        line = line;
+        behind = held;
+        plain = first.plain;
+        few = omega (arith, few);
+        taken = e.2 ∙ prepended-prepended now line held;
+      }
+    ]
+
+-- a line that went on to the limit
+pub ahead_past : (held : List ℕ) {size : ℕ} {left now : Option (List ℕ)} → RunsOn size left (prepended held now) →
+    length held ≤ piece_bytes → TakenAhead left now
+ahead_past held {left} {now} on few = record {
+  line = on.front;
+  behind = on.byte ∷ held;
+  plain = on.plain;
+  few = omega (arith, few);
+  taken = on.taken ∙ prepended-prepended now (on.front ++ on.byte ∷ []) held
+      ∙ ap (λ x. prepended x now) (append_assoc on.front (on.byte ∷ []) held);
+}
+
+-- a line in which the input failed
+pub ahead_broken : (held : List ℕ) {left now : Option (List ℕ)} →
+    ((front : List ℕ) × HasNoEnd front × (left ≡ prepended front (prepended held now))) → length held ≤ piece_bytes → TakenAhead left now
+ahead_broken held {left} {now} broken few = record {
+  line = broken.0;
+  behind = held;
+  plain = broken.1;
+  few = omega (arith, few);
+  taken = broken.2 ∙ prepended-prepended now broken.0 held;
+}
+
+-- no line
+pub ahead_none : (held : List ℕ) {left now : Option (List ℕ)} → prepended held now ≡ left → length held ≤ piece_bytes → TakenAhead left now
+ahead_none held {left} {now} same few = record { line = []; behind = held; plain = tt; few = omega (arith, few); taken = sym same }
+
 -- no line was taken up since
 pub turn_rests : {A : Type 0} {hearing : Hearing} {After : A → A → List Question → Type 0} {old new : A}
-    {reply : Settings → List ℕ → List ℕ} {before left w0 w1 : Option (List ℕ)} {now : Settings} →
-    After new new [] → Served hearing After old new reply before left w0 w1 now →
-    RepliedInTurn hearing After old new reply before w0 w1
-turn_rests {new} {left} {w1} {now} none s = record {
+    {reply : Settings → List ℕ → List ℕ} {before left end w0 w1 : Option (List ℕ)} {now : Settings} →
+    After new new [] → Served hearing After old new reply before left w0 w1 now → TakenAhead left end →
+    RepliedInTurn hearing After old new reply before end w0 w1
+turn_rests {new} {left} {w1} {now} none s ahead = record {
   then = new;
   now = now;
   left = left;
   printed = w1;
   whole = s;
   last = inr (none, refl);
+  ahead = ahead;
 }
 
 line_next : (line : List ℕ) (size : ℕ) (left after : Option (List ℕ)) → IsFirst line size left after →
@@ -255,12 +304,12 @@ line_next line size left after first rest told =
     (lines f.0, f.2)
 
 -- a line that is too long
-pub turn_long : {A : Type 0} {hearing : Hearing} {After : A → A → List Question → Type 0} {old new : A}
-    {reply : Settings → List ℕ → List ℕ} {before left after w0 w1 w2 : Option (List ℕ)} {now : Settings} {line : List ℕ} {size : ℕ} →
-    After new new [] → Served hearing After old new reply before left w0 w1 now → IsFirst line size left after →
-    1024 < length line → GrewByPrefix w1 w2 line_too_long → RepliedInTurn hearing After old new reply before w0 w2
+pub turn_long : (held : List ℕ) {A : Type 0} {hearing : Hearing} {After : A → A → List Question → Type 0} {old new : A}
+    {reply : Settings → List ℕ → List ℕ} {before left end w0 w1 w2 : Option (List ℕ)} {now : Settings} {line : List ℕ} {size : ℕ} →
+    After new new [] → Served hearing After old new reply before left w0 w1 now → IsFirst line size left (prepended held end) →
+    length held ≤ piece_bytes → 1024 < length line → GrewByPrefix w1 w2 line_too_long → RepliedInTurn hearing After old new reply before end w0 w2
 unfolding asked line_text
-turn_long {new} {left} {after} {w1} {now} {line} {size} none s first long grew = record {
+turn_long held {new} {left} {end} {w1} {now} {line} {size} none s first few long grew = record {
   then = new;
   now = now;
   left = left;
@@ -268,20 +317,21 @@ turn_long {new} {left} {after} {w1} {now} {line} {size} none s first long grew =
   whole = s;
   last = inl (record {
     line = line;
-    next = line_next line size left after first;
+    next = line_next line size left (prepended held end) first;
     answered = rw (lt-ltb 1024 (length line) long) none;
     front = rw (lt-ltb 1024 (length line) long) grew;
   });
+  ahead = ahead_line held first few;
 }
 
 -- a line that was answered, in part or whole
-pub turn_answers : {A : Type 0} {hearing : Hearing} {After : A → A → List Question → Type 0} {old then new : A}
-    {reply answering : Settings → List ℕ → List ℕ} {before left after w0 w1 w2 : Option (List ℕ)} {now : Settings} {line cut : List ℕ} {size : ℕ} →
-    Served hearing After old then reply before left w0 w1 now → IsFirst line size left after → Answered reply answering now line cut →
-    After then new (asked_by now cut (heard hearing now cut)) → GrewByPrefix w1 w2 (answer hearing answering now cut) →
-    RepliedInTurn hearing After old new reply before w0 w2
+pub turn_answers : (held : List ℕ) {A : Type 0} {hearing : Hearing} {After : A → A → List Question → Type 0} {old then new : A}
+    {reply answering : Settings → List ℕ → List ℕ} {before left end w0 w1 w2 : Option (List ℕ)} {now : Settings} {line cut : List ℕ} {size : ℕ} →
+    Served hearing After old then reply before left w0 w1 now → IsFirst line size left (prepended held end) → length held ≤ piece_bytes →
+    Answered reply answering now line cut → After then new (asked_by now cut (heard hearing now cut)) →
+    GrewByPrefix w1 w2 (answer hearing answering now cut) → RepliedInTurn hearing After old new reply before end w0 w2
 unfolding asked line_text
-turn_answers {hearing} {After} {then} {new} {reply} {answering} {left} {after} {w1} {w2} {now} {line} {cut} {size} s first a step grew = record {
+turn_answers held {hearing} {After} {then} {new} {reply} {answering} {left} {end} {w1} {w2} {now} {line} {cut} {size} s first few a step grew = record {
   then = then;
   now = now;
   left = left;
@@ -289,11 +339,48 @@ turn_answers {hearing} {After} {then} {new} {reply} {answering} {left} {after} {
   whole = s;
   last = inl (record {
     line = line;
-    next = line_next line size left after first;
+    next = line_next line size left (prepended held end) first;
     answered = rw (le-ltb 1024 (length line) a.short) (subst (λ l. After then new (asked_by now l (heard hearing now l))) a.cut_is step);
     front = rw (le-ltb 1024 (length line) a.short) (subst (λ l. GrewByPrefix w1 w2 (answer hearing reply now l)) a.cut_is
         (subst (λ r. GrewByPrefix w1 w2 (answer hearing r now cut)) a.same grew));
   });
+  ahead = ahead_line held first few;
+}
+
+-- what is told of the input and the output alone
+pub printed_in_turn : {A : Type 0} {hearing : Hearing} {After : A → A → List Question → Type 0} {old new : A}
+    {reply : Settings → List ℕ → List ℕ} {before end w0 w1 : Option (List ℕ)} → RepliedInTurn hearing After old new reply before end w0 w1 →
+    PrintedInTurn hearing reply before end w0 w1
+printed_in_turn {hearing} {reply} {w0} {w1} turn =
+    let done = turn.whole.done in
+    let some : (some : List ℕ) × (w1 ≡ appended w0 (done ++ some)) = elim turn.last [
+      | inl took ↦
+          let grew = took.front in
+          let text = line_text hearing reply turn.now took.line in
+          (take grew.count text, grew.is ∙ ap (λ w. appended w (take grew.count text)) turn.whole.given ∙ appended-appended w0 done (take grew.count text))
+      | inr rests ↦ ([], rests.1 ∙ turn.whole.given ∙ ap (appended w0) (sym (append-nil done)))
+    ] in
+    record {
+      now = turn.now;
+      left = turn.left;
+      done = done;
+      some = some.0;
+      goes_on = λ all told. let r = turn.whole.goes_on all told in (r.rest, r.told, r.goes_on);
+      printed = some.1;
+      ahead = turn.ahead;
+    }
+
+-- nothing was taken, and nothing was printed
+pub none_in_turn : (hearing : Hearing) (reply : Settings → List ℕ → List ℕ) {before end w0 w1 : Option (List ℕ)} → end ≡ before → w1 ≡ w0 →
+    PrintedInTurn hearing reply before end w0 w1
+none_in_turn hearing reply {before} {end} {w0} {w1} untouched silent = record {
+  now = first_settings;
+  left = before;
+  done = [];
+  some = [];
+  goes_on = λ all told. (all, told, refl);
+  printed = silent ∙ sym (appended-nil w0);
+  ahead = ahead_none [] (prepended-nil end ∙ untouched) (omega arith);
 }
 
 -- ---- how many bytes were used

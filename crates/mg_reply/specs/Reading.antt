@@ -11,6 +11,10 @@ use Rattle.mg_reply.specs.declared.reader.LineEvent.TheVariants.{Line, TooLong, 
 use Rattle.mg_reply.specs.declared.reader.LineErr.{LineErr}
 use Rattle.mg_reply.specs.declared.reader.LineErr.TheVariants.{Read, TooMuch}
 
+-- the most bytes that are taken from an input at once
+abbrev pub piece_bytes : ℕ
+piece_bytes = 4096
+
 -- what a line reader holds: bytes that were taken and not used, the line's first bytes, and how many bytes were used
 pub record Reading : Type 0 where
   pub held : List ℕ
@@ -60,7 +64,7 @@ AfterLine old new before after (Ok Line) = (size : ℕ) × IsFirst new.line size
 AfterLine old new before after (Ok TooLong) = (line : List ℕ) × (size : ℕ) × IsFirst line size before after
     × (line_bytes < length line) × (new.used ≡ old.used + size) × (new.used ≤ input_limit)
 AfterLine old new before after (Ok End) = IsAtEnd before × (after ≡ before) × (new.used ≡ old.used)
-AfterLine old new before after (Err Read) = Unit {0}
+AfterLine old new before after (Err Read) = (front : List ℕ) × HasNoEnd front × (before ≡ prepended front after)
 AfterLine old new before after (Err TooMuch) = (size : ℕ) × RunsOn size before after × (old.used + size ≡ input_limit)
 
 -- The bytes taken since the line began, of which the line keeps the first 1,024.

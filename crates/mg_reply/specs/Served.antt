@@ -1,9 +1,9 @@
 -- A session that is under way, and one that is over.
-use Rattle.std.specs.Prelude.{◌≡◌, ◌⊎◌, ℕ, ◌<◌, false, List, [], ◌∷◌, ◌++◌, length, Some}
+use Rattle.std.specs.Prelude.{◌≡◌, ◌⊎◌, ℕ, ◌+◌, ◌<◌, ◌≤◌, false, List, [], ◌∷◌, ◌++◌, length, Some}
 use Rattle.std.specs.List.{list_any}
 use Rattle.std.specs.declared.option.Option.{Option}
 use Rattle.mg_dev.specs.Faults.{fault_of_show}
-use Rattle.mg_dev.specs.Streams.{appended, GrewByPrefix}
+use Rattle.mg_dev.specs.Streams.{appended, prepended, GrewByPrefix}
 use Rattle.mg_dev.specs.declared.fault.Fault.{Fault}
 use Rattle.mg_dev.specs.declared.fault.Fault.TheVariants.{InputTooLong, ReadFault}
 use Rattle.mg_dev.specs.declared.part_err.PartErr.{PartErr}
@@ -11,10 +11,11 @@ use Rattle.mg_dev.specs.declared.show_err.ShowErr.{ShowErr}
 use Rattle.mg_dev.specs.declared.show_err.ShowErr.TheVariants as show
 use Rattle.mg_defs.specs.declared.session.Settings.{Settings}
 use Rattle.mg_defs.specs.Commands.{first_settings}
-use Rattle.mg_defs.specs.Lines.{lines}
+use Rattle.mg_defs.specs.Lines.{HasNoEnd, lines}
 use Rattle.mg_defs.specs.declared.session.Hearing.{Hearing}
 use Rattle.mg_defs.specs.Session.{replies, Question, questions, heard_questions, asked, line_text}
 use Rattle.mg_defs.specs.InputLimit.{is_quit, ended_lines, IsReadEnough}
+use Rattle.mg_reply.specs.Reading.{piece_bytes}
 use Rattle.mg_reply.specs.declared.serve.ServeErr.{ServeErr}
 use Rattle.mg_reply.specs.declared.serve.ServeErr.TheVariants as serve
 
@@ -74,9 +75,18 @@ pub record TookUp {A : Type 0} (hearing : Hearing) (After : A → A → List Que
   pub answered : After old new (asked hearing now line)
   pub front : GrewByPrefix written_old written (line_text hearing reply now line)
 
--- No reply is held back: those to the first lines were written whole when a line more was taken up, or none was.
+-- Of an input that had this left no more was taken than a line, its end, and a piece behind it.
+pub record TakenAhead (left now : Option (List ℕ)) : Type 0 where
+  pub line : List ℕ
+  pub behind : List ℕ
+  pub plain : HasNoEnd line
+  pub few : length behind ≤ piece_bytes + 1
+  pub taken : left ≡ prepended (line ++ behind) now
+
+-- No reply is held back: those to the first lines were written whole when a line more was taken up, or none was; no more
+-- of the input was taken by then than that line and a piece behind it.
 pub record RepliedInTurn {A : Type 0} (hearing : Hearing) (After : A → A → List Question → Type 0) (old new : A)
-    (reply : Settings → List ℕ → List ℕ) (input written_old written : Option (List ℕ)) : Type 0 where
+    (reply : Settings → List ℕ → List ℕ) (input input_now written_old written : Option (List ℕ)) : Type 0 where
   -- the moment at which that line was taken up
   pub then : A
   pub now : Settings
@@ -84,6 +94,20 @@ pub record RepliedInTurn {A : Type 0} (hearing : Hearing) (After : A → A → L
   pub printed : Option (List ℕ)
   pub whole : Served hearing After old then reply input left written_old printed now
   pub last : TookUp hearing After then new reply now left printed written ⊎ (After then new [] × (written ≡ printed))
+  pub ahead : TakenAhead left input_now
+
+-- The same of an input and an output alone: the replies were written to all but what was left of a told input at a moment,
+-- and no more was taken since than a line and a piece behind it.
+pub record PrintedInTurn (hearing : Hearing) (reply : Settings → List ℕ → List ℕ)
+    (input input_now written_old written : Option (List ℕ)) : Type 0 where
+  pub now : Settings
+  pub left : Option (List ℕ)
+  pub done : List ℕ
+  pub some : List ℕ
+  pub goes_on : (all : List ℕ) → input ≡ Some all → (rest : List ℕ) × (left ≡ Some rest)
+      × (replies hearing reply first_settings (lines all) ≡ done ++ replies hearing reply now (lines rest))
+  pub printed : written ≡ appended written_old (done ++ some)
+  pub ahead : TakenAhead left input_now
 
 -- So many bytes were used of what was told, the rest is left, and no line among the first ended the session.
 pub record Used (left : Option (List ℕ)) (used : ℕ) (all : List ℕ) : Type 0 where

@@ -2,7 +2,7 @@
 ghost use Rattle.std.specs.Prelude.{◌≡◌, ℕ, ◌+◌, ◌-◌, ◌<◌, ◌≤◌, List, [], ◌∷◌, length, take, drop, IsTrue, ◌↔◌};
 ghost use Rattle.mg_dev.specs.Causes.{HasCause};
 ghost use Rattle.mg_dev.specs.Streams.{prepended};
-ghost use Rattle.mg_reply.specs.Reading.{AfterByte, AfterFill};
+ghost use Rattle.mg_reply.specs.Reading.{AfterByte, AfterFill, piece_bytes};
 
 use mg_dev::{Failed, Source};
 use std::marker::Model;
@@ -40,6 +40,7 @@ impl Held {
     fn fill<I: Source>(&mut self, input: &mut I) -> Result<usize, Failed>
         requires { self.old ≡ [] }
         ensures filled { AfterFill self.new (I.left input.old) (I.left input.new) result }
+        ensures few { length self.new ≤ piece_bytes }
         ensures cause { HasCause (I.faults input.old) (I.faults input.new) result }
     {
         self.at = 0;
@@ -51,7 +52,8 @@ impl Held {
 
     fn first(&mut self) -> u8
         requires { 0 < length self.old }
-        ensures { self.old ≡ result ∷ self.new }
+        ensures is { self.old ≡ result ∷ self.new }
+        ensures few { length self.old ≤ piece_bytes }
     {
         let byte = self.buffer[self.at];
         self.at += 1;
@@ -68,6 +70,7 @@ impl Held {
     pub fn byte<I: Source>(&mut self, input: &mut I) -> Result<Option<u8>, Failed>
         ensures took { AfterByte (prepended self.old (I.left input.old))
             (prepended self.new (I.left input.new)) result }
+        ensures few { length self.new ≤ piece_bytes }
         ensures cause { HasCause (I.faults input.old) (I.faults input.new) result }
     {
         if !self.is_empty() {

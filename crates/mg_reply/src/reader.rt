@@ -1,9 +1,9 @@
 //! Lines of an input whose bytes come in pieces.
-ghost use Rattle.std.specs.Prelude.{◌≡◌, ◌+◌, ◌-◌, ◌<◌, ◌≤◌, [], IsErrOf};
+ghost use Rattle.std.specs.Prelude.{◌≡◌, ◌+◌, ◌-◌, ◌<◌, ◌≤◌, [], IsErrOf, length};
 ghost use Rattle.mg_dev.specs.Causes.{Rose};
 ghost use Rattle.mg_dev.specs.Streams.{prepended};
 ghost use Rattle.mg_defs.specs.Lines.{without_return};
-ghost use Rattle.mg_reply.specs.Reading.{AfterLine, IsEvent};
+ghost use Rattle.mg_reply.specs.Reading.{AfterLine, IsEvent, piece_bytes};
 ghost use Rattle.mg_reply.specs.declared.reader.LineErr.TheVariants.{Read};
 
 use crate::held::Held;
@@ -91,6 +91,7 @@ impl LineReader {
     pub fn next<I: Source>(&mut self, input: &mut I) -> Result<LineEvent, LineErr>
         ensures line { AfterLine self.old self.new (prepended self.old.held (I.left input.old))
             (prepended self.new.held (I.left input.new)) result }
+        ensures few { length self.new.held ≤ piece_bytes }
         ensures later { I.faults input.old ≤ I.faults input.new }
         ensures read { IsErrOf result LineErr.Read →
             Rose (I.faults input.old) (I.faults input.new) }

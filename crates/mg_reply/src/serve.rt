@@ -139,8 +139,9 @@ fn serve_line<O: Sink, A: Answerer>(
 /// It reads ahead, so bytes of the input behind a line `.quit` may be taken too. Where the input is
 /// told, it is too long exactly where it has more than 2^32 bytes and no line `.quit` ends within
 /// the first 2^32; the lines up to there are answered. Nothing else ends a session, however its
-/// lines are heard. No reply is held back: whatever ends the session, the replies to the lines before
-/// the last that was taken up were written whole.
+/// lines are heard. No reply is held back: whatever ends the session, the replies to the lines
+/// before the last that was taken up were written whole, and of what stands behind that line at
+/// most 4,096 bytes were taken.
 pub fn serve_lines<I: Source, O: Sink, A: Answerer>(
     hearing: Hearing,
     answerer: &mut A,
@@ -162,7 +163,7 @@ pub fn serve_lines<I: Source, O: Sink, A: Answerer>(
     ensures in_turn { ForEach (A.answers (A.state answerer.old dev.old))
         (λ reply. RepliedInTurn hearing A.after (A.state answerer.old dev.old)
         (A.state answerer.new dev.new)
-        reply (I.left input.old) (O.written out.old) (O.written out.new)) }
+        reply (I.left input.old) (I.left input.new) (O.written out.old) (O.written out.new)) }
     ensures read_later { I.faults input.old ≤ I.faults input.new }
     ensures write_later { O.faults out.old ≤ O.faults out.new }
     ensures cause { EndsWhere I.left I.faults O.faults A.state A.may_stop input.old input.new

@@ -1,9 +1,9 @@
-use Rattle.std.proofs.Common.{◌≡◌, List, ℕ, ap, sym, ◌∙◌, subst}
+use Rattle.std.proofs.Common.{◌≡◌, ap, sym, ◌∙◌, subst}
 use Rattle.std.proofs.lemmas.Option.{IfSome_then}
 use Rattle.mg_dev.specs.Streams.{AfterPut}
 use Rattle.mg_defs.specs.Replies.{ranked_reply}
 use Rattle.mg_defs.specs.ShownAnswers.{answer_text, ranked_as}
-use Rattle.mg_defs.specs.Weights.{Hit, hits, hits_over}
+use Rattle.mg_defs.specs.Weights.{hits, hits_over}
 use Rattle.mg_defs.proofs.FirstLaws.{hits_of_distinct}
 use Rattle.mg_defs.proofs.RankedLaws.{reads-list, terms-apart}
 use Rattle.mg_query.specs.RefusalOf.{refusal_of}

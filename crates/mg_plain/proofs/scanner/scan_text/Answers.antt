@@ -1,6 +1,7 @@
 use Rattle.std.proofs.Common.{refl}
 use Rattle.mg_dev.specs.StreamLaws.{grew_nothing}
-use Rattle.mg_plain.proofs.LoadLaws.{session_over}
+use Rattle.mg_reply.proofs.CallerLemmas.{none_in_turn, printed_in_turn}
+use Rattle.mg_plain.proofs.LoadLaws.{session_over, turns_over}
 use Rattle.mg_plain.proofs.scanner.scan_text.Goals as goal
 
 pub returns-in-Err-clause-prefix : goal.returns-in-Err-clause-prefix
@@ -17,3 +18,14 @@ returns-in-Ok-serve_lines-clause-prefix g c = λ told given left.
 pub returns-clause-prefix : goal.returns-clause-prefix
 returns-clause-prefix g c = λ told given left.
     rw (session_over _ _ _ given (c.in-Ok.ensures.content told)) (c.in-Err-serve_lines.ensures.prefix _ refl given left)
+
+pub returns-in-Err-clause-in_turn : goal.returns-in-Err-clause-in_turn
+returns-in-Err-clause-in_turn g c = λ told. none_in_turn _ _ refl refl
+
+pub returns-in-Ok-serve_lines-clause-in_turn : goal.returns-in-Ok-serve_lines-clause-in_turn
+returns-in-Ok-serve_lines-clause-in_turn g c = λ told.
+    turns_over _ _ _ _ (c.in-Ok.ensures.content told) (printed_in_turn (c.in-Ok-serve_lines.ensures.in_turn _ refl))
+
+pub returns-clause-in_turn : goal.returns-clause-in_turn
+returns-clause-in_turn g c = λ told.
+    turns_over _ _ _ _ (c.in-Ok.ensures.content told) (printed_in_turn (c.in-Err-serve_lines.ensures.in_turn _ refl))

@@ -2,7 +2,7 @@ use Rattle.std.proofs.Common.{arith, refl, sym, ◌∙◌, None}
 use Rattle.mg_reply.specs.Served.{silent}
 use Rattle.mg_dev.specs.StreamLaws.{prepended-nil}
 use Rattle.mg_defs.proofs.SessionLaws.{gives_long}
-use Rattle.mg_reply.proofs.ServedLaws.{none_appended, served_start, served_line, served_part, served_some, served_asked, served_all, answered_gives, answered_quits, answered_part, answered_asked, all_grew, counted_start, counted_line, counted_past, counted_all, counted_quit, left_at_end, left_at_quit, goes_long, quit_is, cut_short, turn_rests, turn_long, turn_answers}
+use Rattle.mg_reply.proofs.ServedLaws.{none_appended, served_start, served_line, served_part, served_some, served_asked, served_all, answered_gives, answered_quits, answered_part, answered_asked, all_grew, counted_start, counted_line, counted_past, counted_all, counted_quit, left_at_end, left_at_quit, goes_long, quit_is, cut_short, turn_rests, turn_long, turn_answers, ahead_broken, ahead_past, ahead_none}
 use Rattle.mg_reply.proofs.serve.serve_lines.Goals as goal
 
 pub lines-init : goal.lines-init
@@ -145,31 +145,34 @@ returns-in-Err-serve_line-clause-answered g c =
 pub returns-in-Err-Read-clause-in_turn : goal.returns-in-Err-Read-clause-in_turn
 returns-in-Err-Read-clause-in_turn g c = λ reply answers.
     turn_rests (g.met.A.Answerer.after_none (g.A.Answerer.state c.lines.answerer c.lines.dev)) (c.lines.invariant.served reply answers)
+    (ahead_broken _ (rw c.in-Err-Read.field-0-is at c.in-Err-Read.ensures.line) c.in-Err-Read.ensures.few)
 
 pub returns-in-Err-TooMuch-clause-in_turn : goal.returns-in-Err-TooMuch-clause-in_turn
 returns-in-Err-TooMuch-clause-in_turn g c = λ reply answers.
     turn_rests (g.met.A.Answerer.after_none (g.A.Answerer.state c.lines.answerer c.lines.dev)) (c.lines.invariant.served reply answers)
+    (ahead_past _ (rw c.in-Err-TooMuch.field-0-is at c.in-Err-TooMuch.ensures.line).1 c.in-Err-TooMuch.ensures.few)
 
 pub returns-in-End-clause-in_turn : goal.returns-in-End-clause-in_turn
 returns-in-End-clause-in_turn g c = λ reply answers.
     turn_rests (g.met.A.Answerer.after_none (g.A.Answerer.state c.lines.answerer c.lines.dev)) (c.lines.invariant.served reply answers)
+    (ahead_none _ (rw c.in-End.is at c.in-Ok.ensures.line).1 c.in-Ok.ensures.few)
 
 pub returns-in-Err-clause-in_turn : goal.returns-in-Err-clause-in_turn
 returns-in-Err-clause-in_turn g c = λ reply answers.
     let line = rw c.in-TooLong.is at c.in-Ok.ensures.line in
-    turn_long (g.met.A.Answerer.after_none (g.A.Answerer.state c.lines.answerer c.lines.dev))
-    (c.lines.invariant.served reply answers) line.2 line.3 c.in-Err.ensures.content
+    turn_long _ (g.met.A.Answerer.after_none (g.A.Answerer.state c.lines.answerer c.lines.dev))
+    (c.lines.invariant.served reply answers) line.2 c.in-Ok.ensures.few line.3 c.in-Err.ensures.content
 
 pub returns-in-Ok-true-clause-in_turn : goal.returns-in-Ok-true-clause-in_turn
 returns-in-Ok-true-clause-in_turn g c = λ reply answers.
     let line = rw c.in-Line.is at c.in-Ok.ensures.line in
     let served = c.lines.invariant.served reply answers in
-    turn_answers served line.1 (record { same = refl; cut_is = c.line.ensures; short = line.2 })
+    turn_answers _ served line.1 c.in-Ok.ensures.few (record { same = refl; cut_is = c.line.ensures; short = line.2 })
     c.in-Ok-true.ensures.after (all_grew _ _ _ (c.in-Ok-true.ensures.text reply (g.met.A.Answerer.same_reply _ _ _ reply served.after answers)))
 
 pub returns-in-Err-serve_line-clause-in_turn : goal.returns-in-Err-serve_line-clause-in_turn
 returns-in-Err-serve_line-clause-in_turn g c = λ reply answers.
     let line = rw c.in-Line.is at c.in-Ok.ensures.line in
     let served = c.lines.invariant.served reply answers in
-    turn_answers served line.1 (record { same = refl; cut_is = c.line.ensures; short = line.2 })
+    turn_answers _ served line.1 c.in-Ok.ensures.few (record { same = refl; cut_is = c.line.ensures; short = line.2 })
     c.in-Err-serve_line.ensures.after (c.in-Err-serve_line.ensures.text reply (g.met.A.Answerer.same_reply _ _ _ reply served.after answers))

@@ -1,5 +1,5 @@
 use Rattle.std.proofs.Common.{◌+◌, arith, refl}
-use Rattle.mg_reply.proofs.ReadingLaws.{going_start, going_more, closed, ended, nothing_left, runs_on}
+use Rattle.mg_reply.proofs.ReadingLaws.{going_start, going_more, closed, ended, nothing_left, breaks_off, runs_on}
 use Rattle.mg_reply.proofs.reader.LineReader.next.Goals as goal
 
 pub bytes-init : goal.bytes-init
@@ -32,6 +32,9 @@ returns-then-byte-eq10-clause-line g c =
     let took = rw c.in-Ok-Some.field-0-is at c.in-Ok-Some.ensures.took in
     closed c.args.self.now (record { held = c.byte.new.self; line = c.bytes.self-inside.line; used = c.bytes.self-inside.used + (c.bytes.size + 1) }) _ _ _ _ _
     c.bytes.invariant.going (rw c.if-byte-eq10.true at took) c.event_of-then-byte-eq10.ensures (omega arith) (omega arith)
+
+pub returns-in-Err-clause-line : goal.returns-in-Err-clause-line
+returns-in-Err-clause-line g c = breaks_off _ _ _ _ _ c.bytes.invariant.going c.in-Err.ensures.took
 
 pub bytes-preserved : goal.bytes-preserved
 bytes-preserved g c =
