@@ -21,7 +21,7 @@ use Rattle.mg_make.specs.Putting.{IsUnbuilt, OthersSame}
 use Rattle.mg_make.specs.Written.{SecondStops}
 use Rattle.mg_make.specs.Plans.{IsPlanOf, Plan}
 use Rattle.mg_make.specs.Outcomes.{Left}
-pub use Rattle.mg_make.proofs.CallerLemmas.{others_more, others_none, rose_behind}
+pub use Rattle.mg_make.proofs.CallerLemmas.{others_more, rose_behind}
 use Rattle.mg_build.specs.Building.{IsPlanFor, PassStops, WriteStops}
 use Rattle.mg_build.specs.Sources.{AreRead, ByteStops}
 

@@ -1,8 +1,7 @@
 -- The end of the bytes, and what the second pass hands on there.
-use Rattle.std.proofs.Common.{append-nil, arith, ◌≡◌, ◌≤◌, ◌<◌, ◌^◌, ◌∙◌, ℕ, List, [], ◌++◌, length, sym, subst, Ok, Err, IsSome, is_some}
+use Rattle.std.proofs.Common.{append-nil, ◌≡◌, ◌<◌, ◌^◌, ◌∙◌, ℕ, List, [], ◌++◌, length, sym, subst, Ok, Err, IsSome, is_some}
 use Rattle.std.specs.Prelude.{IfErr, IfOk, Result}
 use Rattle.std.specs.declared.option.Option.{Option}
-use Rattle.mg_dev.specs.Causes.{Rose}
 use Rattle.mg_dev.specs.declared.fault.Fault.{Fault}
 use Rattle.mg_dev.specs.declared.fault.Fault.TheVariants as cause
 use Rattle.mg_dev.specs.Files.{Files}
@@ -90,9 +89,6 @@ stops_finish rose now same told less before (cause.NameClash p) grows back still
 stops_finish rose now same told less before cause.InputTooLong grows back still stop = absurd stop
 stops_finish rose now same told less before cause.SameName grows back still stop = absurd stop
 stops_finish rose now same told less before (cause.TooManyRotations count) grows back still stop = absurd stop
-
-pub rose_behind : (a b c : ℕ) → a ≤ b → Rose b c → Rose a c
-rose_behind a b c up rose = omega (arith, up, rose)
 
 -- why the end is refused, by what was put
 pub end_refused : {T : Type 0} (r : Result T Fault) (scanning : Scanning) (old new : Inversion) (f g : Option Files) (next : List Mark) (rose now : Type 0) →

@@ -35,7 +35,7 @@ module _ (head : layout.Head) (name new : List ℕ) (f : Fault) where
     copied = λ told end. absurd (not_done f end);
     left = λ code c stands. inl refl;
     begun = λ told. inl refl;
-    others = others_none new files;
+    others = others_none new files files refl;
   }
 
   -- or there is no head yet

@@ -13,7 +13,7 @@ use Rattle.mg_make.specs.Listing.{ListStops}
 use Rattle.mg_make.specs.Plans.{IsPlanOf}
 use Rattle.mg_make.specs.Putting.{HasPut, IsHanded, IsReady, OthersSame, Putting}
 use Rattle.mg_make.specs.Written.{WroteSecond}
-use Rattle.mg_make.proofs.EndSteps.{rose_behind}
+use Rattle.mg_make.proofs.CallerLemmas.{rose_behind}
 use Rattle.mg_make.proofs.PutSteps.{writing}
 use Rattle.mg_make.proofs.ReadySteps.{TextLaws, handed_for, head_of_index, index_others, put_few, ready_all, ready_by, rest_refused}
 use Rattle.mg_make.proofs.SetFrames.{head_of_second, others_both, others_of_second}
