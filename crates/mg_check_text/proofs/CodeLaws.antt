@@ -22,7 +22,7 @@ use Rattle.mg_defs.proofs.ParseLaws.{parse_short}
 use Rattle.mg_defs.specs.Sorted.{number_of}
 use Rattle.mg_defs.specs.Vocabulary.{count_in, piece_of_pair}
 use Rattle.mg_defs.specs.declared.Stream.TheVariants.{Words, Others}
-use Rattle.mg_text.specs.Writing.{Began, IsOnText, TextWriting, text_bytes}
+use Rattle.mg_text_writer.specs.Writing.{Began, IsOnText, TextWriting, text_bytes}
 use Rattle.mg_check_text.specs.Decoding.{AreCounts, Counted, IsCodedAs, PutPairs, PutPiece, HasRoom, WherePut, WhereUnknown}
 use Rattle.mg_check_text.specs.declared.uses.Uses.{Uses}
 

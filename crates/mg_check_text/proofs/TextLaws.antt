@@ -31,7 +31,7 @@ use Rattle.mg_layout.specs.declared.head.Head.{Head}
 use Rattle.mg_text.proofs.CallerLemmas.{set_is_text}
 use Rattle.mg_text.specs.Places.{most_text, place_width}
 use Rattle.mg_text.specs.Reading.{TextReading, TextStands}
-use Rattle.mg_text.specs.Writing.{starts}
+use Rattle.mg_text_writer.specs.Writing.{starts}
 use Rattle.mg_check_text.specs.Checking.{HasAdded, HasRead, IsAtEnd, IsLoaded, IsMeant, IsNextDoc, docs_places, last_size}
 use Rattle.mg_check_text.specs.Decoding.{AreCounts, IsUsed}
 use Rattle.mg_check_text.specs.declared.progress.Progress.{Progress}

@@ -16,7 +16,7 @@ use Rattle.mg_defs.specs.Marks.{code_of}
 use Rattle.mg_defs.specs.Means.{HasCodewords, IsCodable}
 use Rattle.mg_defs.specs.Parse.{Pair}
 use Rattle.mg_defs.specs.Vocabulary.{count_in, piece_of_pair, pieces_in}
-use Rattle.mg_text.specs.Writing.{IsOnText, PutOne, TextWriting}
+use Rattle.mg_text_writer.specs.Writing.{IsOnText, PutOne, TextWriting}
 use Rattle.mg_check_text.specs.declared.uses.Uses.{Uses}
 
 -- ---- counts by symbol

@@ -7,7 +7,7 @@ ghost use Rattle.mg_defs.specs.Bits.{Bits};
 ghost use Rattle.mg_defs.specs.Marks.{code_of};
 ghost use Rattle.mg_defs.specs.Means.{HasCodewords, IsCodable, IsModel, IsStreamCode};
 ghost use Rattle.mg_parse.specs.Lent.{pair_of};
-ghost use Rattle.mg_text.specs.Writing.{IsOnText, turn};
+ghost use Rattle.mg_text_writer.specs.Writing.{IsOnText, turn};
 ghost use Rattle.std.specs.List.{AllByRecursion};
 ghost use Rattle.mg_defs.specs.Parse.{parse};
 ghost use Rattle.mg_check_text.specs.Decoding.{HasRoom, IsCodedAs, PutPairs, WhereCoded, WherePut, WhereUnknown, PutsPiece, text_in};
@@ -18,7 +18,7 @@ use mg_dev::{PutErr, Store};
 use mg_mem::SureStore;
 use mg_model::{Stream, TextModel, symbol_and_piece};
 use mg_parse::{Pair, Pairs};
-use mg_text::TextWriter;
+use mg_text_writer::TextWriter;
 use std::alloc::{AllocError, Global};
 
 // The base of the store that a document is coded into, and the full name of its text.

@@ -18,8 +18,8 @@ use Rattle.mg_laws.proofs.MarkLaws.{marks_are_closed, marks_have_occurrences, ma
 use Rattle.mg_runs.specs.Cursors.{NoDamage}
 use Rattle.mg_runs.specs.Fed.{IsFed}
 use Rattle.mg_runs.specs.Left.{Merging}
-use Rattle.mg_text.specs.Documents.{coded_docs}
-use Rattle.mg_text.specs.Writing.{DocumentsStand, IsOnText, text_bytes}
+use Rattle.mg_text_writer.specs.Documents.{coded_docs}
+use Rattle.mg_text_writer.specs.Writing.{DocumentsStand, IsOnText, text_bytes}
 use Rattle.mg_make.specs.DocCounting.{AreDocCounts, DocCounting}
 use Rattle.mg_make.specs.Finishing.{EndsWith, IsMergeOf}
 use Rattle.mg_make.specs.Indexes.{Indexing, OfRuns}

@@ -8,8 +8,8 @@ use Rattle.mg_dev.specs.Laws.{same_part_of_name}
 use Rattle.mg_dev.specs.Names.{full_name, number}
 use Rattle.mg_defs.specs.Bits.{Bits}
 use Rattle.mg_runs.specs.Fed.{Inverting, IsFed}
-use Rattle.mg_text.specs.Writing.{IsOnText, TextWriting}
-use Rattle.mg_text.proofs.CallerLemmas.{writer_stays}
+use Rattle.mg_text_writer.specs.Writing.{IsOnText, TextWriting}
+use Rattle.mg_text_writer.proofs.CallerLemmas.{writer_stays}
 use Rattle.mg_make.specs.Indexes.{HasTaken, Indexing, OfRuns}
 use Rattle.mg_make.specs.Written.{OfSecond, WroteParts, WroteSecond}
 

@@ -19,7 +19,7 @@ use Rattle.mg_defs.specs.Vocabulary.{all_pieces, sorted_pieces}
 use Rattle.mg_defs.proofs.SortedLaws.{contains-from, has-from, has-sorted, number-found, same-refl}
 use Rattle.mg_laws.proofs.MarkLaws.{marks_have_documents, marks_have_occurrences, marks_have_pairs, marks_have_pieces, pairs_append, pieces_append, starts_append, terms_append}
 use Rattle.mg_laws.proofs.SizeLaws.{few_occurrences}
-use Rattle.mg_text.specs.Writing.{turn}
+use Rattle.mg_text_writer.specs.Writing.{turn}
 use Rattle.mg_make.specs.Fronts.{IsFrontOf}
 use Rattle.mg_make.specs.Second.{term_at}
 

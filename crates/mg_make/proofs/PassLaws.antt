@@ -8,7 +8,7 @@ use Rattle.mg_dev.specs.Files.{Files, Reads, SameReads}
 use Rattle.mg_dev.specs.declared.device.PutErr.{PutErr}
 use Rattle.mg_dev.specs.declared.fault.Fault.{Fault}
 use Rattle.mg_defs.specs.Marks.{Mark}
-use Rattle.mg_text.specs.Writing.{TextWriting}
+use Rattle.mg_text_writer.specs.Writing.{TextWriting}
 use Rattle.mg_make.specs.Second.{Inversion, SamePass, StopsBefore, WroteMarks}
 use Rattle.mg_make.specs.Steps.{PassStep}
 use Rattle.mg_make.proofs.Frames.{OthersStay, text_wrote, wrote_both, wrote_for, wrote_none}

@@ -14,8 +14,8 @@ use Rattle.mg_defs.specs.Marks.{marks}
 use Rattle.mg_defs.specs.Occurrences.{occurrences}
 use Rattle.mg_defs.specs.RunBits.{run_part_bits}
 use Rattle.mg_defs.specs.Summaries.{run_cap}
-use Rattle.mg_text.specs.Documents.{TextHolds, coded_docs}
-use Rattle.mg_text.specs.Writing.{DocumentsStand, text_bytes}
+use Rattle.mg_text_writer.specs.Documents.{TextHolds, coded_docs}
+use Rattle.mg_text_writer.specs.Writing.{DocumentsStand, text_bytes}
 use Rattle.mg_make.specs.Finishing.{budget_of}
 use Rattle.mg_make.specs.Index.{IndexStands, OfIndex}
 use Rattle.mg_make.specs.Listing.{ListStops}

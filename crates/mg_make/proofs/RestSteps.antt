@@ -16,8 +16,8 @@ use Rattle.mg_laws.proofs.DocCountLaws.{last_is_low, met_in_order}
 use Rattle.mg_laws.proofs.MarkLaws.{marks_have_occurrences}
 use Rattle.mg_laws.proofs.SizeLaws.{few_occurrences}
 use Rattle.mg_model.specs.Terms.{TermNumbers}
-use Rattle.mg_text.specs.Documents.{coded_docs}
-use Rattle.mg_text.specs.Writing.{text_bytes}
+use Rattle.mg_text_writer.specs.Documents.{coded_docs}
+use Rattle.mg_text_writer.specs.Writing.{text_bytes}
 use Rattle.mg_make.specs.Finishing.{budget_of}
 use Rattle.mg_make.specs.Index.{IsInverted}
 use Rattle.mg_make.specs.Listing.{AreListSizes, ListStops}

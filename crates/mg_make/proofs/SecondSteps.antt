@@ -14,7 +14,7 @@ use Rattle.mg_defs.specs.Marks.{Mark, code_of, start, piece, stop, starts, piece
 use Rattle.mg_defs.specs.Sorted.{number_of}
 use Rattle.mg_laws.proofs.DocCountLaws.{met_in_order}
 use Rattle.mg_laws.proofs.MarkLaws.{coded_append, open_append, open_at_append, pieces_from_append, starts_append, terms_append}
-use Rattle.mg_text.specs.Writing.{Began, Ended, IsOnText, PutOne, TextWriting, turn}
+use Rattle.mg_text_writer.specs.Writing.{Began, Ended, IsOnText, PutOne, TextWriting, turn}
 use Rattle.mg_make.specs.Fronts.{IsFrontOf}
 use Rattle.mg_make.specs.Indexes.{HasTaken, Indexing, MayFollow}
 use Rattle.mg_make.specs.Plans.{IsPlan, Plan}

@@ -18,7 +18,7 @@ use Rattle.mg_defs.specs.RunBits.{run_part_bits}
 use Rattle.mg_defs.specs.Summaries.{pool_peak, run_cap}
 use Rattle.mg_runs.specs.Fed.{Inverting, cap_of}
 use Rattle.mg_runs.specs.Left.{IsMerging, Merging}
-use Rattle.mg_text.specs.Writing.{DocumentsStand, IsOnText, text_bytes}
+use Rattle.mg_text_writer.specs.Writing.{DocumentsStand, IsOnText, text_bytes}
 use Rattle.mg_make.specs.DocCounting.{AreDocCounts}
 use Rattle.mg_make.specs.Plans.{IsPlanOf}
 use Rattle.mg_make.specs.Second.{HasWritten, Inversion, coded_by, occurring_by}

@@ -11,7 +11,7 @@ use Rattle.mg_defs.specs.declared.Stream.{Stream}
 use Rattle.mg_defs.specs.declared.Stream.TheVariants.{Others, Words}
 use Rattle.mg_defs.specs.Bits.{Bits}
 use Rattle.mg_defs.specs.Marks.{Mark, coded_from, is_open_after, marks, open_from, piece_count_from, starts, term_in, terms_from}
-use Rattle.mg_text.specs.Writing.{IsOnText, TextWriting}
+use Rattle.mg_text_writer.specs.Writing.{IsOnText, TextWriting}
 use Rattle.mg_make.specs.Fronts.{IsFrontOf}
 use Rattle.mg_make.specs.Indexes.{HasTaken, Indexing}
 use Rattle.mg_make.specs.Plans.{IsPlan, IsPlanOf, Plan}

@@ -23,7 +23,7 @@ use mg_dev::{Fault, PutErr, Store, What};
 use mg_model::{symbol_and_piece, terms_are_the_dictionary, words_have_terms};
 use mg_parse::Stream;
 use mg_runs::{Pool, runs_stay};
-use mg_text::{TextWriter, pieces_make_documents};
+use mg_text_writer::{TextWriter, pieces_make_documents};
 use std::alloc::Global;
 use std::marker::Model;
 

@@ -36,7 +36,7 @@ use mg_dev::{Fault, FileRef, Part, PutErr, Store};
 use mg_layout::{BUILT, Head};
 use mg_model::Stream;
 use mg_runs::Pool;
-use mg_text::text_has_its_documents;
+use mg_text_writer::text_has_its_documents;
 use std::alloc::Global;
 
 /// Empties the head, so that the files stand for no collection.

@@ -25,7 +25,7 @@ use crate::set_parts::{end_pass, open_parts, reset_head, write_rest};
 use crate::summary::Summary;
 use mg_dev::{Fault, PutErr, Store};
 use mg_layout::Head;
-use mg_text::text_has_its_documents;
+use mg_text_writer::text_has_its_documents;
 use std::alloc::Global;
 use std::marker::Model;
 

@@ -2,6 +2,6 @@
 
 -- bytes that went to a sink or are held, step by step
 pub use Rattle.mg_text.proofs.Shows.{shown_none, shown_from, shown_grew, shown_prefix, added_none, added_more}
--- readers and writers, as long as their files stay
+-- readers, as long as their files stay
 pub use Rattle.mg_text.proofs.ReaderLaws.{text_fits, text_stays}
-pub use Rattle.mg_text.proofs.Sets.{set_is_text, writer_stays}
+pub use Rattle.mg_text.proofs.Sets.{set_is_text}

@@ -23,7 +23,7 @@ use Rattle.mg_layout.specs.declared.head.Head.{Head}
 use Rattle.mg_model.specs.Damage.{AnswersLoad}
 use Rattle.mg_defs.specs.Means.{IsModel}
 use Rattle.mg_model.specs.Models.{PartsStand}
-use Rattle.mg_text.specs.Documents.{TextHolds}
+use Rattle.mg_text_writer.specs.Documents.{TextHolds}
 use Rattle.mg_text.proofs.TextSizes.{text_small}
 use Rattle.mg_defs.proofs.StandDocs.{most}
 use Rattle.mg_defs.specs.Numbers.{eight, four}

@@ -1,5 +1,3 @@
-pub mod Documents
-pub mod Writing
 pub mod Decoding
 pub mod Refusals
 pub mod Places

@@ -29,7 +29,7 @@ use Rattle.mg_model.specs.Damage.{AnswersLoad}
 use Rattle.mg_defs.specs.Means.{IsModel, Tell}
 use Rattle.mg_model.specs.Models.{PartsStand}
 use Rattle.mg_text.specs.Decoding.{Ends, Gathers, Shown}
-use Rattle.mg_text.specs.Documents.{TextHolds}
+use Rattle.mg_text_writer.specs.Documents.{TextHolds}
 use Rattle.mg_text.specs.Places.{most_text, place_width}
 
 -- the feeds of Text and Places, the codes of both streams, the version of the places, how many documents there are, and the size of Text

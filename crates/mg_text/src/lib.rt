@@ -12,18 +12,14 @@ mod closing;
 mod decoder;
 mod feeds;
 mod held_document;
-mod laws;
 mod places;
 mod reader_laws;
 mod show_buffer;
 mod symbols;
 mod text_reader;
-mod text_writer;
 
 pub use closing::is_closed;
 pub use held_document::HeldDocument;
-pub use laws::{pieces_make_documents, text_has_its_documents, text_stays};
 pub use reader_laws::texts_stand;
 pub use show_buffer::ShowBuffer;
 pub use text_reader::TextReader;
-pub use text_writer::TextWriter;

@@ -1,5 +1,5 @@
-use Rattle.mg_text.proofs.WriterLaws.{took_ended}
-use Rattle.mg_text.proofs.text_writer.TextWriter.end_doc.Goals as goal
+use Rattle.mg_text_writer.proofs.WriterLaws.{took_ended}
+use Rattle.mg_text_writer.proofs.text_writer.TextWriter.end_doc.Goals as goal
 
 pub returns-clause-took : goal.returns-clause-took
 returns-clause-took g c =

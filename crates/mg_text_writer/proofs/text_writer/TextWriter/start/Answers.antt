@@ -1,6 +1,6 @@
 use Rattle.std.proofs.Common.{refl}
-use Rattle.mg_text.proofs.WriterLaws.{took_none}
-use Rattle.mg_text.proofs.text_writer.TextWriter.start.Goals as goal
+use Rattle.mg_text_writer.proofs.WriterLaws.{took_none}
+use Rattle.mg_text_writer.proofs.text_writer.TextWriter.start.Goals as goal
 
 pub returns-clause-took : goal.returns-clause-took
 returns-clause-took g c =

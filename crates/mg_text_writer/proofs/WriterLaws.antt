@@ -10,7 +10,7 @@ use Rattle.mg_dev.specs.declared.part.Part.TheVariants.{Text, Places}
 use Rattle.mg_bits.specs.Writer.{Writing, AreBytes, put_to, Wrote, WroteTo}
 use Rattle.mg_bits.specs.BitWriting.{BitWriting, Holds, WroteBits, bits_put}
 use Rattle.mg_bits.proofs.CallerLemmas.{bits_stay, holds_stay}
-use Rattle.mg_text.proofs.ByteLaws.{written_bytes}
+use Rattle.mg_text_writer.proofs.ByteLaws.{written_bytes}
 use Rattle.mg_defs.specs.Bits.{Bits, bits_of, digits, filled, to_byte, as_bytes}
 use Rattle.mg_defs.specs.Canon.{AreGood, codeword}
 use Rattle.mg_defs.specs.Codes.{gamma, log2}
@@ -24,7 +24,7 @@ use Rattle.mg_defs.proofs.CodeLaws.{length_gamma}
 use Rattle.mg_defs.proofs.FixedLaws.{IsLog, is_log}
 use Rattle.mg_codes.proofs.CallerLemmas.{log_small}
 use Rattle.mg_defs.specs.Means.{IsStreamCode}
-use Rattle.mg_text.specs.Writing.{TextWriting, IsOnText, DocumentsStand, text_bytes, sizes, starts, begun}
+use Rattle.mg_text_writer.specs.Writing.{TextWriting, IsOnText, DocumentsStand, text_bytes, sizes, starts, begun}
 
 told_back : (f g : Option Files) → is_some g ≡ is_some f → IsSome g → IsSome f
 told_back f g e told = cc

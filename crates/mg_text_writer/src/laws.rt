@@ -9,8 +9,8 @@ ghost use Rattle.mg_defs.specs.CodedText.{TextCode, coded_doc, text_part};
 ghost use Rattle.mg_defs.specs.Parse.{parse};
 ghost use Rattle.mg_defs.specs.TextBits.{most_text_bytes};
 ghost use Rattle.mg_defs.specs.Pieces.{pieces};
-ghost use Rattle.mg_text.specs.Documents.{TextHolds, coded_docs, pieces_bits, AddsPiece, ForCoded, ForWrittenDocuments};
-ghost use Rattle.mg_text.specs.Writing.{DocumentsStand, IsOnText, TextWriting, text_bytes, turn, WhereSameBase, text_at};
+ghost use Rattle.mg_text_writer.specs.Documents.{TextHolds, coded_docs, pieces_bits, AddsPiece, ForCoded, ForWrittenDocuments};
+ghost use Rattle.mg_text_writer.specs.Writing.{DocumentsStand, IsOnText, TextWriting, text_bytes, turn, WhereSameBase, text_at};
 
 /// The pieces of a document, put in turn behind the number of its pairs, are its bits. The stream
 /// of a piece is told by the number of those before it as well as by that of those to come.

@@ -4,7 +4,7 @@ use Rattle.std.specs.List.{All}
 use Rattle.std.proofs.lemmas.List.Elements.{All-nil, All-append}
 use Rattle.mg_bits.proofs.CallerLemmas.{bits_are_bytes, same_bytes}
 use Rattle.mg_defs.specs.Bits.{Bits, bits_of, as_bytes}
-use Rattle.mg_text.specs.Writing.{text_bytes}
+use Rattle.mg_text_writer.specs.Writing.{text_bytes}
 
 docs_bytes : (docs : List Bits) → All (λ byte. byte < 2 ^ 8) (text_bytes docs)
 docs_bytes [] = All-nil (λ byte. byte < 2 ^ 8)

@@ -1,6 +1,6 @@
 use Rattle.std.proofs.Common.{[]}
-use Rattle.mg_text.proofs.WriterLaws.{text_counts, text_finished}
-use Rattle.mg_text.proofs.text_writer.TextWriter.finish.Goals as goal
+use Rattle.mg_text_writer.proofs.WriterLaws.{text_counts, text_finished}
+use Rattle.mg_text_writer.proofs.text_writer.TextWriter.finish.Goals as goal
 
 pub returns-clause-finished : goal.returns-clause-finished
 returns-clause-finished g c =

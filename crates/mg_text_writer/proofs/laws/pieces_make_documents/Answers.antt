@@ -1,5 +1,5 @@
-use Rattle.mg_text.proofs.DocumentLaws.{next_piece, pieces_are_doc, pieces_count, same_turn}
-use Rattle.mg_text.proofs.laws.pieces_make_documents.Goals as goal
+use Rattle.mg_text_writer.proofs.DocumentLaws.{next_piece, pieces_are_doc, pieces_count, same_turn}
+use Rattle.mg_text_writer.proofs.laws.pieces_make_documents.Goals as goal
 
 pub returns-clause-document : goal.returns-clause-document
 returns-clause-document c = pieces_are_doc

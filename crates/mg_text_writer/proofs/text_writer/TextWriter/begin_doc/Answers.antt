@@ -1,6 +1,6 @@
 use Rattle.std.proofs.Common.{[]}
-use Rattle.mg_text.proofs.WriterLaws.{text_counts, took_begun}
-use Rattle.mg_text.proofs.text_writer.TextWriter.begin_doc.Goals as goal
+use Rattle.mg_text_writer.proofs.WriterLaws.{text_counts, took_begun}
+use Rattle.mg_text_writer.proofs.text_writer.TextWriter.begin_doc.Goals as goal
 
 pub returns-clause-took : goal.returns-clause-took
 returns-clause-took g c =

@@ -1,5 +1,5 @@
-use Rattle.mg_text.proofs.WriterLaws.{codeword_short, took_piece}
-use Rattle.mg_text.proofs.text_writer.TextWriter.put_piece.Goals as goal
+use Rattle.mg_text_writer.proofs.WriterLaws.{codeword_short, took_piece}
+use Rattle.mg_text_writer.proofs.text_writer.TextWriter.put_piece.Goals as goal
 
 pub returns-clause-took : goal.returns-clause-took
 returns-clause-took g c =

@@ -1,5 +1,5 @@
-use Rattle.mg_text.proofs.DocumentLaws.{text_holds, text_is, text_within}
-use Rattle.mg_text.proofs.laws.text_has_its_documents.Goals as goal
+use Rattle.mg_text_writer.proofs.DocumentLaws.{text_holds, text_is, text_within}
+use Rattle.mg_text_writer.proofs.laws.text_has_its_documents.Goals as goal
 
 pub returns-clause-text : goal.returns-clause-text
 returns-clause-text c = text_is

@@ -11,7 +11,7 @@ use Rattle.mg_defs.specs.CodedText.{IsTextCode, TextCode, coded_doc, text_part, 
 use Rattle.mg_defs.specs.Pieces.{other_kind}
 use Rattle.mg_defs.specs.Split.{documents}
 use Rattle.mg_defs.specs.Marks.{piece_bits}
-use Rattle.mg_text.specs.Writing.{DocumentsStand, turn}
+use Rattle.mg_text_writer.specs.Writing.{DocumentsStand, turn}
 
 abbrev pub coded_docs : TextCode → List ℕ → List Bits
 coded_docs code collection = map (coded_doc code) (documents collection)

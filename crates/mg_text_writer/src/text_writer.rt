@@ -11,7 +11,7 @@ ghost use Rattle.mg_defs.specs.Canon.{codeword};
 ghost use Rattle.mg_defs.specs.Codes.{gamma};
 ghost use Rattle.mg_defs.specs.Numbers.{eight};
 ghost use Rattle.mg_defs.specs.Marks.{code_of};
-ghost use Rattle.mg_text.specs.Writing.{Began, Ended, IsOnText, PutOne, DocumentsStand, text_bytes, turn, with_empty_text, TookBits, TookFirst, TookDoc, WhereClosed, text_at};
+ghost use Rattle.mg_text_writer.specs.Writing.{Began, Ended, IsOnText, PutOne, DocumentsStand, text_bytes, turn, with_empty_text, TookBits, TookFirst, TookDoc, WhereClosed, text_at};
 
 use mg_bits::{BitWriter, PageWriter};
 use mg_codes::put_gamma;
@@ -42,7 +42,7 @@ pub struct TextWriter<'a> {
 
 impl<'a> Model for TextWriter<'a> {
     ghost use Rattle.std.specs.Prelude.{◌≡◌};
-    ghost use Rattle.mg_text.specs.Writing.{TextWriting};
+    ghost use Rattle.mg_text_writer.specs.Writing.{TextWriting};
 
     ghost Value = { TextWriting };
 

@@ -19,8 +19,8 @@ use Rattle.mg_defs.specs.Split.{documents}
 use Rattle.mg_defs.specs.TextBits.{text_bits}
 use Rattle.mg_defs.proofs.BitLaws.{length_bits_of}
 use Rattle.mg_defs.proofs.TextBitsLaws.{text-within}
-use Rattle.mg_text.specs.Documents.{TextHolds, coded_docs, pieces_bits}
-use Rattle.mg_text.specs.Writing.{DocumentsStand, text_bytes, sizes, turn}
+use Rattle.mg_text_writer.specs.Documents.{TextHolds, coded_docs, pieces_bits}
+use Rattle.mg_text_writer.specs.Writing.{DocumentsStand, text_bytes, sizes, turn}
 
 -- ---- pieces in turn
 

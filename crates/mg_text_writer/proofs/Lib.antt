@@ -1,0 +1,5 @@
+pub mod CallerLemmas
+mod WriterLaws
+mod WriterStays
+mod DocumentLaws
+mod ByteLaws
