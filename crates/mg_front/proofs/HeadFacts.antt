@@ -9,31 +9,18 @@ use Rattle.mg_front.specs.declared.entry.FrontEntry.{FrontEntry}
 use Rattle.mg_front.specs.declared.entry.Head.{Head}
 use Rattle.mg_dev.specs.Files.{Reads}
 use Rattle.mg_bits.specs.Pages.{Paging}
-use Rattle.mg_front.specs.Looks.{ReadOn, ReadTo}
-use Rattle.mg_front.proofs.ReadPages.{on_as, on_more, on_to, to_more, to_wider}
+use Rattle.mg_front.specs.Looks.{ReadOn}
+use Rattle.mg_front.proofs.ReadPages.{on_as, on_more}
 use Rattle.mg_front.proofs.ReadFacts.{whole_short, whole_no_follow, whole_yes, cut_long, cut_over, cut_short, cut_no_rise, cut_yes, put_first, put_after}
-
-pub if_ok : {E : Type 0} (r : Result Bool E) (P Q : Bool → Type 0) → ((b : Bool) → P b → Q b) → IfOk r P → IfOk r Q
-if_ok (Ok b) P Q more fact = more b fact
-if_ok (Err e) P Q more fact = tt
 
 pub always_ok : {E : Type 0} (r : Result Bool E) (P : Bool → Type 0) → ((b : Bool) → P b) → IfOk r P
 always_ok (Ok b) P fact = fact b
 always_ok (Err e) P fact = tt
 
--- ---- pages, over one call and over two
-
-pub to_place : {a : Paging} {r s : Reads} {p q u : ℕ} → q ≤ u → ReadTo a r s p q → ReadTo a r s p u
-to_place wider read = to_wider _ _ _ _ _ _ wider read
-
-pub to_after : {a b : Paging} {r s t : Reads} {p q u v : ℕ} → u ≤ v → b.part ≡ a.part → ReadOn a b r s p q → ReadTo b s t q u → ReadTo a r t p v
-to_after {a} {b} {r} {s} {t} {p} {q} {u} wider part one two = to_place wider (to_more a b r s t p q u part one two)
+-- ---- pages, over two calls
 
 pub on_after : {a b c : Paging} {r s t : Reads} {p q u v : ℕ} → u ≡ v → b.part ≡ a.part → ReadOn a b r s p q → ReadOn b c s t q u → ReadOn a c r t p v
 on_after {a} {b} {c} {r} {s} {t} {p} {q} {u} {v} same part one two = on_as a c r t p u v same (on_more a b c r s t p q u part one two)
-
-pub on_place : {a b : Paging} {r s : Reads} {p q u : ℕ} → q ≤ u → ReadOn a b r s p q → ReadTo a r s p u
-on_place {a} {b} {r} {s} {p} {q} {u} wider read = on_to a b r s p q u wider read
 
 -- ---- heads
 

@@ -6,4 +6,5 @@ mod WriterLaws
 mod ReaderLaws
 mod OrderLaws
 mod ReadPages
+mod ReadSteps
 mod Stays

@@ -10,7 +10,7 @@ use Rattle.mg_defs.proofs.FrontOrder.{below_trans, rising, not_itself, same_ther
 use Rattle.mg_defs.proofs.FrontParts.{some_cons}
 use Rattle.mg_defs.specs.Numbers.{four}
 use Rattle.mg_dev.specs.Bads.{IsBad}
-use Rattle.mg_front.specs.Reading.{IsLost, IsLostAmong, Fronted, FrontStands, SameParts, Around, NoneAmong, IsAbsent, AnswersIn, AnswersFind}
+use Rattle.mg_front.specs.Reading.{IsLost, IsLostAmong, Fronted, FrontStands, SameParts, Around, NoneAmong, IsAbsent, AnswersBlock, AnswersIn, AnswersFind}
 use Rattle.mg_front.specs.declared.entry.FrontEntry.{FrontEntry}
 use Rattle.mg_dev.specs.declared.part_err.PartErr.{PartErr}
 use Rattle.mg_dev.specs.declared.part_err.PartErr.TheVariants.{Device, Memory, Bad}
@@ -122,6 +122,12 @@ lost_among (Err refusal) r s f g block within same e lost = (block, within, lost
 pub none_behind : (es : List Entry) (from most : ℕ) (string : List ℕ) → (length es ≤ from + most) ⊎ (4 ≤ most) → NoneAmong es from most string → NoneAmong es from 4 string
 none_behind es from most string (inl last) none k e within here same = let there : from + k < length es = slice_get_within es (from + k) e here in none k e (omega arith) here same
 none_behind es from most string (inr full) none k e within here same = none k e (omega arith) here same
+
+-- a refusal goes up
+pub block_refused : (width : ℕ) (es : List Entry) (string : List ℕ) (refusal : PartErr) (out : FrontEntry) → AnswersBlock (Err refusal) string es → AnswersFind (Err refusal) width string out es
+block_refused width es string Device out answer = tt
+block_refused width es string Memory out answer = answer
+block_refused width es string (Bad bad) out answer = answer
 
 -- the number of a string, from its block's answer
 pub found_in : (width : ℕ) (es : List Entry) (string : List ℕ) (block : ℕ) (r : Result (Option ℕ) PartErr) (out : FrontEntry) → AreEntries width 0 [] es →

@@ -1,5 +1,5 @@
 -- What the steps of reading an entry tell.
-use Rattle.std.proofs.Common.{arith, ◌≡◌, ◌+◌, ◌≤◌, ◌<◌, ◌==◌, ◌&&◌, ◌||◌, ◌++◌, ℕ, Bool, false, true, not, ◌⊎◌, inl, inr, List, [], ◌∷◌, length, take, drop, Some, None, refl, sym, ◌∙◌, ap, subst, length-drop, length-take, cond, nat_le, slice_get, IsSome}
+use Rattle.std.proofs.Common.{arith, ◌≡◌, ◌+◌, ◌≤◌, ◌<◌, ◌==◌, ◌&&◌, ◌||◌, ◌++◌, ℕ, Bool, false, true, not, ◌⊎◌, inl, inr, List, [], ◌∷◌, length, take, drop, Some, None, refl, sym, ◌∙◌, ap, subst, length-drop, length-take, cond, nat_le, slice_get, IsSome, IfOk, Result, Ok, Err}
 use Rattle.std.specs.declared.option.Option.{Option}
 use Rattle.std.proofs.lemmas.Bool.Decides.{nat_tests}
 use Rattle.std.proofs.lemmas.List.{drop_more, drop_all, drop-drop, take-take, drop_at}
@@ -12,6 +12,11 @@ use Rattle.mg_front.specs.Entries.{IsPut}
 -- a told fact, at the files and the name of an earlier step
 pub told_as : (P : List ℕ → Type 0) (f g : Option Files) (m n : List ℕ) → g ≡ f → n ≡ m → (IsSome g → P (bytes_at g n)) → IsSome f → P (bytes_at f m)
 told_as P f g m n e d fact told = subst (λ h. P (bytes_at h m)) e (subst (λ k. P (bytes_at g k)) d (fact (subst IsSome (sym e) told)))
+
+-- what follows from what an answer tells
+pub if_ok : {T E : Type 0} (r : Result T E) (P Q : T → Type 0) → ((x : T) → P x → Q x) → IfOk r P → IfOk r Q
+if_ok (Ok x) P Q more fact = more x fact
+if_ok (Err e) P Q more fact = tt
 
 pub head_is : (bytes : List ℕ) (at n : ℕ) → Some n ≡ slice_get bytes at → drop at bytes ≡ n ∷ drop (at + 1) bytes
 head_is bytes at n e = drop_more bytes at n (slice_get_within bytes at n (sym e)) ∙ ap (λ m. m ∷ drop (at + 1) bytes) (get_or_from_slice_get bytes at n n (sym e))

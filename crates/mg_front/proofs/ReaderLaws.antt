@@ -1,5 +1,5 @@
 -- The places of whole entries, and entries read from a whole one on.
-use Rattle.std.proofs.Common.{arith, suc, ◌≡◌, ◌≢◌, ◌^◌, ◌+◌, ◌-◌, ◌*◌, ◌%◌, ◌≤◌, ◌<◌, ◌==◌, ◌++◌, ℕ, Bool, true, false, List, [], ◌∷◌, length, take, drop, Some, None, refl, sym, ◌∙◌, ap, subst, cond, length-append, length-take, length-drop, slice_get, IfSome, ◌⊎◌, inl, inr}
+use Rattle.std.proofs.Common.{arith, suc, ◌≡◌, ◌≢◌, ◌^◌, ◌+◌, ◌-◌, ◌*◌, ◌%◌, ◌≤◌, ◌<◌, ◌==◌, ◌++◌, ℕ, Bool, true, false, List, [], ◌∷◌, length, take, drop, Some, None, refl, sym, ◌∙◌, ap, subst, cond, length-append, length-take, length-drop, slice_get, IfSome, IsSome, ◌⊎◌, inl, inr}
 use Rattle.std.specs.declared.option.Option.{Option}
 use Rattle.mg_defs.specs.Numbers.{four}
 use Rattle.mg_defs.specs.Front.{IsEntry, shared, Entry, Found, IsFront, AreEntries, entry_bytes, front, front_from, whole_at, last_string, read_entry}
@@ -9,11 +9,16 @@ use Rattle.mg_defs.proofs.FrontParts.{places_long, place_there, read_first, read
 use Rattle.mg_dev.specs.Files.{Reads}
 use Rattle.mg_dev.specs.Names.{same_part}
 use Rattle.mg_dev.specs.declared.part.Part.{Part}
-use Rattle.mg_bits.specs.Pages.{Looked}
+use Rattle.mg_dev.specs.PartCauses.{HasPartCause}
+use Rattle.mg_dev.specs.declared.bad.Bad as declared
+use Rattle.mg_dev.specs.declared.device.Failed.{Failed}
+use Rattle.mg_bits.specs.Pages.{Fits, Looked, Paging}
+use Rattle.mg_front.specs.Looks.{ReadsUpTo}
+use Rattle.mg_front.proofs.ReadPages.{one_look, place_look}
 use Rattle.mg_dev.specs.declared.part_err.PartErr.{PartErr}
 use Rattle.mg_dev.specs.declared.part_err.PartErr.TheVariants.{Device, Memory, Bad}
-use Rattle.std.specs.Prelude.{Err}
-use Rattle.mg_front.specs.Reading.{AnswersPlaces, Fronted, FrontStands, IsLost, IsNotBad, LacksPlace, LookedAt, NoneAmong, places_size}
+use Rattle.std.specs.Prelude.{Ok, Err, Result}
+use Rattle.mg_front.specs.Reading.{AnswersPlaces, AtBlock, FrontFits, Fronted, FrontStands, IsLost, IsNotBad, LacksPlace, LookedAt, NoneAmong, ReaderLooked, ReadsPlace, SameParts, TellsPlace, places_size}
 use Rattle.std.proofs.lemmas.Bool.{cases_lt}
 use Rattle.std.proofs.lemmas.Option.{same_Some}
 use Rattle.mg_front.specs.Entries.{entry_of, found_of}
@@ -204,3 +209,91 @@ pub never_refused : (part : Part) (count : ℕ) (bytes : List ℕ) (es : List En
 never_refused part count bytes es Device holds long answer = tt
 never_refused part count bytes es Memory holds long answer = tt
 never_refused part count bytes es (Bad bad) holds long answer = answer.0 (ap length holds ∙ omega (arith, places_long 0 [] 0 es))
+
+-- the same parts through two calls
+pub same_again : {a b c : Fronted} → SameParts a b → SameParts b c → SameParts a c
+same_again one two = record {
+  strings = two.strings ∙ one.strings;
+  places = two.places ∙ one.places;
+  strings_part = two.strings_part ∙ one.strings_part;
+  places_part = two.places_part ∙ one.places_part;
+  width = two.width ∙ one.width;
+  count = two.count ∙ one.count;
+}
+
+-- ---- the ways out of a reader's calls
+
+fits_as : {feed : Paging} {f g : Option Files} → g ≡ f → Fits feed f → Fits feed g
+fits_as {feed} same fits = subst (Fits feed) (sym same) fits
+
+pub caused_later : {T : Type 0} {a b c : ℕ} (result : Result T PartErr) → a ≤ b → HasPartCause b c result → HasPartCause a c result
+caused_later (Ok value) before cause = record { later = omega (arith, before, cause.later); device = tt }
+caused_later (Err Device) before cause = record { later = omega (arith, before, cause.later); device = omega (arith, before, cause.device) }
+caused_later (Err Memory) before cause = record { later = omega (arith, before, cause.later); device = tt }
+caused_later (Err (Bad bad)) before cause = record { later = omega (arith, before, cause.later); device = tt }
+
+pub refused_for : {T U : Type 0} {a b : ℕ} (refusal : PartErr) → HasPartCause {T = T} a b (Err refusal) → HasPartCause {T = U} a b (Err refusal)
+refused_for Device cause = record { later = cause.later; device = cause.device }
+refused_for Memory cause = record { later = cause.later; device = tt }
+refused_for (Bad bad) cause = record { later = cause.later; device = tt }
+
+not_memory : {T : Type 0} (refusal : PartErr) (places : Paging) (files : Option Files) (block : ℕ) → LacksPlace refusal places files block →
+    ◌≡◌ {A = Result T PartErr} (Err refusal) (Err Memory) → ⊥
+not_memory Device places files block lacks is = absurd cc
+not_memory Memory places files block lacks is = lacks
+not_memory (Bad bad) places files block lacks is = absurd cc
+
+pub memory_for : {T U : Type 0} (refusal : PartErr) → (◌≡◌ {A = Result T PartErr} (Err refusal) (Err Memory) → ⊥) → ◌≡◌ {A = Result U PartErr} (Err refusal) (Err Memory) → ⊥
+memory_for Device none is = absurd cc
+memory_for Memory none is = none refl
+memory_for (Bad bad) none is = absurd cc
+
+-- the place was refused
+pub looked_place : {T : Type 0} {w : Fronted} {p : Paging} {block : ℕ} {refusal : PartErr} {f g : Option Files} {r s : Reads} {x y : ℕ} → FrontFits w f →
+    ReadsPlace w.places p block (Err refusal) f g r s x y →
+    ReaderLooked {T = T} w (record { strings = w.strings; places = p; width = w.width; count = w.count }) 1 (Err refusal) f g r s x y
+looked_place {w = w} {block = block} {refusal} {f} fits one = record {
+  fits = record { strings = fits_as one.looked.files fits.strings; places = one.fits };
+  same = record { strings = refl; places = one.file.name; strings_part = refl; places_part = one.file.part; width = refl; count = refl };
+  looked = looked_places w.strings.part w.places.part _ _ _ _ _ _ one.looked;
+  reads = λ apart. place_look _ _ _ _ _ _ _ _ apart one.page one.looked;
+  memory = not_memory refusal w.places f block one.answer;
+  cause = refused_for refusal one.cause;
+}
+
+-- entries were read from the place on
+pub looked_entries : {T U : Type 0} {w : Fronted} {p q : Paging} {block place : ℕ} {answer : Result U Failed} (result : Result T PartErr) {f g h : Option Files} {r s t : Reads} {x y z : ℕ} →
+    FrontFits w f → ReadsPlace w.places p block (Ok place) f g r s x y → ReadsUpTo w.strings q place (place + 1124) answer g h s t y z →
+    result ≢ Err Memory → HasPartCause y z result →
+    ReaderLooked w (record { strings = q; places = p; width = w.width; count = w.count }) 1 result f h r t x z
+looked_entries {w = w} result fits one two memory cause = record {
+  fits = record { strings = two.fits; places = fits_as two.looked.files one.fits };
+  same = record { strings = two.file.name; places = one.file.name; strings_part = two.file.part; places_part = one.file.part; width = refl; count = refl };
+  looked = looked_both w.strings.part w.places.part w.strings.part _ _ _ _ _ _ _ _ _ one.looked two.looked refl;
+  reads = λ apart. one_look _ _ _ _ _ _ _ _ _ _ _ _ apart one.page one.looked two.looked two.read_to;
+  memory = memory;
+  cause = caused_later result one.cause.later cause;
+}
+
+module _ {U : Type 0} {w : Fronted} {p q : Paging} {block place : ℕ} {f g h : Option Files} {r s t : Reads} {x y z : ℕ} where
+  pub looked_ok : {T : Type 0} {answer : Result U Failed} (value : T) → FrontFits w f → ReadsPlace w.places p block (Ok place) f g r s x y →
+      ReadsUpTo w.strings q place (place + 1124) answer g h s t y z →
+      ReaderLooked w (record { strings = q; places = p; width = w.width; count = w.count }) 1 (Ok value) f h r t x z
+  looked_ok value fits one two = looked_entries (Ok value) fits one two (λ is. absurd cc) (record { later = two.cause.later; device = tt })
+
+  pub looked_bad : {T : Type 0} {answer : Result U Failed} (bad : declared.Bad) → FrontFits w f → ReadsPlace w.places p block (Ok place) f g r s x y →
+      ReadsUpTo w.strings q place (place + 1124) answer g h s t y z →
+      ReaderLooked {T = T} w (record { strings = q; places = p; width = w.width; count = w.count }) 1 (Err (Bad bad)) f h r t x z
+  looked_bad bad fits one two = looked_entries (Err (Bad bad)) fits one two (λ is. absurd cc) (record { later = two.cause.later; device = tt })
+
+  pub looked_failed : {T : Type 0} {failed : Failed} → FrontFits w f → ReadsPlace w.places p block (Ok place) f g r s x y →
+      ReadsUpTo {T = U} w.strings q place (place + 1124) (Err failed) g h s t y z →
+      ReaderLooked {T = T} w (record { strings = q; places = p; width = w.width; count = w.count }) 1 (Err Device) f h r t x z
+  looked_failed fits one two = looked_entries (Err Device) fits one two (λ is. absurd cc) (record { later = two.cause.later; device = two.cause.failed })
+
+-- the strings are front-coded for the scan too, and its block begins at the place that was read
+pub at_block : {F : List Entry → ℕ → Type 0} (w : Fronted) {f g : Option Files} (es : List Entry) (block place : ℕ) → FrontStands w f es → 4 * block < length es → g ≡ f →
+    TellsPlace (Ok place) w.places f block → AtBlock w.strings g w.width place F → F es block
+at_block w es block place stands within same tells fact =
+    fact (subst IsSome (sym same) stands.told) es block (subst (λ h. IsFront w.width (bytes_at h w.strings.name) es) (sym same) stands.strings)
+    (block_place w _ es block place stands within tells.0 (tells.1 stands.told))

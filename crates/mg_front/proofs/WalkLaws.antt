@@ -1,16 +1,24 @@
 -- What a walk over entries gives.
-use Rattle.std.proofs.Common.{arith, ◌≡◌, ◌+◌, ◌<◌, ◌++◌, ◌⊎◌, inl, inr, ℕ, Bool, false, true, List, [], ◌∷◌, length, take, drop, Some, None, sym, ◌∙◌, ap, subst, length-append, append_assoc, IsSome, append-nil, Ok, Err, Result, slice_get}
+use Rattle.std.proofs.Common.{arith, ◌≡◌, ◌≤◌, ◌+◌, ◌-◌, ◌*◌, ◌/◌, ◌<◌, ◌++◌, ◌⊎◌, inl, inr, ℕ, Bool, false, true, List, [], ◌∷◌, length, length-drop, unwrap_or, take, drop, Some, None, refl, sym, ◌∙◌, ap, subst, length-append, append_assoc, IsSome, append-nil, Ok, Err, Result, slice_get}
 use Rattle.mg_dev.specs.declared.part_err.PartErr.{PartErr}
 use Rattle.mg_dev.specs.declared.part_err.PartErr.TheVariants.{Device, Memory, Bad}
 use Rattle.std.specs.declared.option.Option.{Option}
-use Rattle.std.proofs.lemmas.List.{drop-drop}
-use Rattle.mg_dev.specs.Files.{Files, bytes_at}
-use Rattle.mg_bits.specs.Pages.{Fits}
+use Rattle.std.specs.Option.{option_map}
+use Rattle.std.proofs.lemmas.List.{drop-drop, drop_all}
+use Rattle.mg_dev.specs.declared.bad.Bad as declared
+use Rattle.mg_dev.specs.declared.device.Failed.{Failed}
+use Rattle.mg_dev.specs.declared.part.Part.{Part}
+use Rattle.mg_dev.specs.Bads.{IsBad}
+use Rattle.mg_dev.specs.Causes.{Rose}
+use Rattle.mg_dev.specs.Files.{Files, Reads, SameReads, bytes_at, file_at}
+use Rattle.mg_bits.specs.Pages.{Fits, Looked, Paging}
+use Rattle.mg_bits.proofs.CallerLemmas.{held_after_none}
 use Rattle.mg_defs.specs.Front.{Entry, IsEntry, AreEntries, entry_bytes, front, front_from, last_string, read_entry, IsFront}
-use Rattle.mg_front.specs.Entries.{string_of, entry_of, found_of}
+use Rattle.mg_front.specs.Entries.{ReadsEntry, string_of, entry_of, found_of}
+use Rattle.mg_front.specs.Looks.{ReadOn, ReadTo}
 use Rattle.mg_defs.proofs.FrontParts.{prefix_of, same_entry, slice_get-behind}
 use Rattle.mg_defs.specs.Front.{NoEntry}
-use Rattle.mg_front.specs.Walk.{Walking, Given, Gave, BeginsWith, AnswersNext, AnswersAmong}
+use Rattle.mg_front.specs.Walk.{Walking, Given, Gave, BeginsWith, AnswersNext, AnswersAmong, Stepped}
 use Rattle.mg_front.specs.declared.entry.FrontEntry.{FrontEntry}
 use Rattle.mg_defs.specs.Front.{StandsFirst}
 use Rattle.mg_defs.proofs.EntryLaws.{read_stands, read_written, entries_rest, none_stands, front_more, entries_more, last_append}
@@ -119,3 +127,125 @@ among (Err (Bad bad)) w out bytes es all given is count answer = by_case (next_o
     by_case (inl none) (inr late) = absurd (omega (arith, ap length none.rest, late.1.low_is, late.1.high_is, late.1.found_is, bad.outside))
     by_case (inr next) (inl early) = early.2 next.0 (front_from (w.done + 1) next.0.string next.1) next.2.entry next.2.rest
     by_case (inr next) (inr late) = absurd (omega (arith, next.2.within, late.0, count))
+
+-- ---- the ways out of a step
+
+-- the entry that stands next was read
+pub stepped_more : {w next : Walking} {out : FrontEntry} {f g : Option Files} {r s : Reads} {x y : ℕ} (size : ℕ) → w.done < w.count →
+    ReadsEntry w.feed next.feed (record { place = w.place; width = w.width; number = w.done }) (read_entry w.width w.done w.last) out (Ok (Some size)) f g r s x y →
+    next.width ≡ w.width → next.count ≡ w.count → next.done ≡ w.done + 1 → next.place ≡ w.place + size → next.last ≡ string_of out →
+    Stepped w next out (Ok true) f g r s x y
+stepped_more {w} {next} {out} {f} {g} {r} {s} size below one width count done place last = record {
+  gave = λ es gave. gave_more w next f g es out (Some size) size gave one.read.fits one.read.looked.files one.read.file.name refl one.told width done place last;
+  answer = λ told. (below, begins w.width w.done w.last (drop w.place (bytes_at f w.feed.name)) out (Some size) size refl (one.told told));
+  step = (below, done);
+  same = record { name = one.read.file.name; part = one.read.file.part; width = width; count = count };
+  looked = one.read.looked;
+  reads = subst (ReadOn w.feed next.feed r s w.place) (sym place) one.passed.read_on;
+  cause = record { later = one.read.cause.later; device = tt };
+  memory = λ is. absurd cc;
+}
+
+-- no entry stands there
+pub stepped_none : {w next : Walking} {out : FrontEntry} {f g : Option Files} {r s : Reads} {x y : ℕ} (bad : declared.Bad) → w.done < w.count →
+    ReadsEntry w.feed next.feed (record { place = w.place; width = w.width; number = w.done }) (read_entry w.width w.done w.last) out (Ok None) f g r s x y →
+    IsBad bad w.feed.part w.place 1 1 0 → next.width ≡ w.width → next.count ≡ w.count → Stepped w next out (Err (Bad bad)) f g r s x y
+stepped_none {w} {out = out} {f} bad below one is width count = record {
+  gave = λ es gave. tt;
+  answer = λ told. inl (below, is, no_entry w.width w.done w.last (drop w.place (bytes_at f w.feed.name)) out None refl (one.told told));
+  step = tt;
+  same = record { name = one.read.file.name; part = one.read.file.part; width = width; count = count };
+  looked = one.read.looked;
+  reads = one.read.read_to;
+  cause = record { later = one.read.cause.later; device = tt };
+  memory = λ is. absurd cc;
+}
+
+-- the store failed
+pub stepped_failed : {w next : Walking} {out : FrontEntry} {f g : Option Files} {r s : Reads} {x y : ℕ} {failed : Failed} →
+    ReadsEntry w.feed next.feed (record { place = w.place; width = w.width; number = w.done }) (read_entry w.width w.done w.last) out (Err failed) f g r s x y →
+    next.width ≡ w.width → next.count ≡ w.count → Stepped w next out (Err Device) f g r s x y
+stepped_failed one width count = record {
+  gave = λ es gave. tt;
+  answer = λ told. tt;
+  step = tt;
+  same = record { name = one.read.file.name; part = one.read.file.part; width = width; count = count };
+  looked = one.read.looked;
+  reads = one.read.read_to;
+  cause = record { later = one.read.cause.later; device = one.read.cause.failed };
+  memory = λ is. absurd cc;
+}
+
+-- what a call that reads nothing leaves
+pub record Still (f g : Option Files) (r s : Reads) (x y : ℕ) : Type 0 where
+  pub files : g ≡ f
+  pub reads : SameReads r s
+  pub faults : x ≤ y
+
+still_looked : (part : Part) {f g : Option Files} {r s : Reads} {x y : ℕ} → Still f g r s x y → Looked part f g r s x y
+still_looked part still = record {
+  files = still.files;
+  faults = still.faults;
+  later = λ p. omega (arith, still.reads p);
+  others = λ p apart. still.reads p;
+}
+
+still_to : (feed : Paging) {f g : Option Files} {r s : Reads} {x y : ℕ} (place more : ℕ) → Still f g r s x y → ReadTo feed r s place (place + more)
+still_to feed place more still =
+    let further : place / 4096 ≤ (place + more) / 4096 = omega arith in
+    record { pages = omega (arith, still.reads feed.part, further) }
+
+size_of : (o : Option (List ℕ)) (size : Option ℕ) (found : ℕ) → size ≡ option_map length o → found ≡ unwrap_or size 0 → found ≡ length (unwrap_or o [])
+size_of None size found is same = same ∙ ap (λ s. unwrap_or s 0) is
+size_of (Some bytes) size found is same = same ∙ ap (λ s. unwrap_or s 0) is
+
+-- the size of the walk's file
+pub found_size : (f : Option Files) (name other : List ℕ) (size : Option ℕ) (found : ℕ) → name ≡ other → (IsSome f → size ≡ option_map length (file_at f other)) →
+    found ≡ unwrap_or size 0 → IsSome f → found ≡ length (bytes_at f name)
+found_size f name other size found same is found_is told = size_of (file_at f other) size found (is told) found_is ∙ ap (λ n. length (bytes_at f n)) (sym same)
+
+-- no byte is left over
+pub stepped_end : {w : Walking} {out : FrontEntry} {f g : Option Files} {r s : Reads} {x y : ℕ} (found : ℕ) → w.done ≡ w.count →
+    (IsSome f → found ≡ length (bytes_at f w.feed.name)) → found ≤ w.place → Still f g r s x y → Stepped w w out (Ok false) f g r s x y
+stepped_end {w} {f = f} {r = r} {s} found done size short still = record {
+  gave = λ es gave. record {
+    fits = subst (Fits w.feed) (sym still.files) gave.fits;
+    given = λ told. subst (λ h. Given w (bytes_at h w.feed.name) es) (sym still.files)
+        (gave.given (subst IsSome still.files told));
+  };
+  answer = λ told. (done, drop_all w.place (bytes_at f w.feed.name) (omega (arith, size told, short)));
+  step = (done, refl);
+  same = record { name = refl; part = refl; width = refl; count = refl };
+  looked = still_looked w.feed.part still;
+  reads = record { pages = omega (arith, still.reads w.feed.part); order = omega arith; held = sym (held_after_none 4096 w.feed.held (8 * w.place)) };
+  cause = record { later = still.faults; device = tt };
+  memory = λ is. absurd cc;
+}
+
+-- bytes are left over
+pub stepped_over : {w : Walking} {out : FrontEntry} {f g : Option Files} {r s : Reads} {x y : ℕ} (found : ℕ) (bad : declared.Bad) → w.done ≡ w.count →
+    (IsSome f → found ≡ length (bytes_at f w.feed.name)) → IsBad bad w.feed.part w.place 0 0 (found - w.place) → Still f g r s x y →
+    Stepped w w out (Err (Bad bad)) f g r s x y
+stepped_over {w} {f = f} found bad done size is still = record {
+  gave = λ es gave. tt;
+  answer = λ told. inr (done, subst (IsBad bad w.feed.part w.place 0 0) (omega (arith, size told, length-drop w.place (bytes_at f w.feed.name))) is);
+  step = tt;
+  same = record { name = refl; part = refl; width = refl; count = refl };
+  looked = still_looked w.feed.part still;
+  reads = still_to w.feed w.place 281 still;
+  cause = record { later = still.faults; device = tt };
+  memory = λ is. absurd cc;
+}
+
+-- the store does not tell the size
+pub stepped_unknown : {w : Walking} {out : FrontEntry} {f g : Option Files} {r s : Reads} {x y : ℕ} → Rose x y → Still f g r s x y → Stepped w w out (Err Device) f g r s x y
+stepped_unknown {w} rose still = record {
+  gave = λ es gave. tt;
+  answer = λ told. tt;
+  step = tt;
+  same = record { name = refl; part = refl; width = refl; count = refl };
+  looked = still_looked w.feed.part still;
+  reads = still_to w.feed w.place 281 still;
+  cause = record { later = still.faults; device = rose };
+  memory = λ is. absurd cc;
+}

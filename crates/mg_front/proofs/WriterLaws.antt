@@ -1,13 +1,17 @@
 -- What a push does to the entries that a writer took.
-use Rattle.std.proofs.Common.{arith, append-nil, true, ◌≡◌, ◌≢◌, ◌+◌, ◌%◌, ◌==◌, ◌++◌, ℕ, List, [], ◌∷◌, length, Some, None, refl, sym, ◌∙◌, ap, subst, cond, unwrap_or, IsSome, is_some, length-append}
+use Rattle.std.proofs.Common.{arith, append-nil, append_assoc, true, Ok, Err, Result, OnOk, ◌≡◌, ◌≢◌, ◌+◌, ◌%◌, ◌==◌, ◌++◌, ℕ, List, [], ◌∷◌, length, Some, None, refl, sym, ◌∙◌, ap, subst, cond, unwrap_or, IsSome, is_some, length-append}
 use Rattle.std.specs.declared.option.Option.{Option}
+use Rattle.std.proofs.lemmas.Grind.{common_steps}
+use Rattle.mg_dev.specs.declared.device.PutErr.{PutErr}
+use Rattle.mg_dev.specs.declared.device.PutErr.TheVariants as put
 use Rattle.mg_dev.specs.Files.{Files, Reads, bytes_at, file_at}
 use Rattle.mg_bits.specs.Writer.{Writing, put_to, WroteTo, Wrote}
 use Rattle.mg_defs.specs.Numbers.{four}
-use Rattle.mg_defs.specs.Front.{Entry, IsEntry, AreEntries, entry_bytes, front, whole_at, last_string, front_from, places_from}
+use Rattle.mg_defs.specs.Front.{Entry, IsEntry, AreEntries, entry_bytes, front, whole_at, last_string, front_from, places_from, shared}
+use Rattle.mg_front.specs.Entries.{coded_entry, cut_bytes}
 use Rattle.std.specs.Option.{ForSome, option_map}
 use Rattle.mg_dev.specs.Files.{SameReads}
-use Rattle.mg_front.specs.Fronting.{Fronting, Took, PlacesTook, PlaceWrote, WroteToPlaces, StartedPlaces, WroteToAsked, IsNotAsked, Finished, PlacesHold, HoldsNothing}
+use Rattle.mg_front.specs.Fronting.{Fronting, Took, PlacesTook, PlaceWrote, WroteToPlaces, StartedPlaces, WroteToAsked, IsNotAsked, Finished, PlacesHold, Puts, HoldsNothing}
 use Rattle.mg_defs.proofs.EntryLaws.{front_more, whole_more, entries_more, last_append}
 
 told_back : (f g : Option Files) → is_some g ≡ is_some f → IsSome g → IsSome f
@@ -132,3 +136,53 @@ places_keep None None f g bytes wrote = refl
 places_keep None (Some q) f g bytes wrote = absurd wrote
 places_keep (Some p) None f g bytes wrote = absurd wrote
 places_keep (Some p) (Some q) f g bytes wrote = ap Some wrote.name
+
+-- ---- one write after another
+
+pub puts_then : {U T : Type 0} {value : U} {a b c : Writing} {p q : List ℕ} (result : Result T PutErr) {f g h : Option Files} {r s t : Reads} {x y z : ℕ} →
+    Puts a b p (Ok value) f g r s x y → Puts b c q result g h s t y z → Puts a c (p ++ q) result f h r t x z
+puts_then {T = T} {a = a} {b} {c} {p} {q} result {f} {g} {h} {r} {s} {t} {x} {y} {z} one two = record {
+  bytes = wrote_both result two.bytes;
+  wrote = record {
+    told = two.wrote.told ∙ one.wrote.told;
+    others = λ n apart. two.wrote.others n (λ same. apart (same ∙ one.bytes.name)) ∙ one.wrote.others n apart;
+    reads = λ part. two.wrote.reads part ∙ one.wrote.reads part;
+  };
+  cause = record { later = omega (arith, one.cause.later, two.cause.later); failed = λ is. omega (arith, one.cause.later, two.cause.failed is) };
+}
+  where
+    wrote_both : (result : Result T PutErr) → OnOk result (Wrote b c g h q) → OnOk result (Wrote a c f h (p ++ q))
+    wrote_both (Ok value) more = record {
+      name = more.name ∙ one.bytes.name;
+      bytes = λ told. more.bytes (subst (λ o. o ≡ true) (sym one.wrote.told) told) ∙ ap (λ u. u ++ q) (one.bytes.bytes told) ∙ append_assoc (put_to a f) p q;
+    }
+    wrote_both (Err refusal) more = tt
+
+-- a refusal goes up
+pub puts_refused : {T U : Type 0} {refusal : PutErr} {a b : Writing} {p q : List ℕ} {f g : Option Files} {r s : Reads} {x y : ℕ} →
+    Puts {T = T} a b p (Err refusal) f g r s x y → Puts {T = U} a b q (Err refusal) f g r s x y
+puts_refused {refusal = put.Failed} one = record { bytes = tt; wrote = one.wrote; cause = record { later = one.cause.later; failed = λ is. one.cause.failed refl } }
+puts_refused {refusal = put.Memory} one = record { bytes = tt; wrote = one.wrote; cause = record { later = one.cause.later; failed = λ is. absurd cc } }
+
+-- what was written is answered
+pub puts_answered : {T U : Type 0} {value : T} (answer : U) {a b : Writing} {p q : List ℕ} {f g : Option Files} {r s : Reads} {x y : ℕ} → q ≡ p →
+    Puts a b p (Ok value) f g r s x y → Puts a b q (Ok answer) f g r s x y
+puts_answered answer {a} {b} {f = f} {g} same one = record {
+  bytes = subst (Wrote a b f g) (sym same) one.bytes;
+  wrote = one.wrote;
+  cause = record { later = one.cause.later; failed = λ is. absurd cc };
+}
+
+-- the same bytes
+pub puts_as : {T : Type 0} {result : Result T PutErr} {a b : Writing} {p q : List ℕ} {f g : Option Files} {r s : Reads} {x y : ℕ} → p ≡ q →
+    Puts a b p result f g r s x y → Puts a b q result f g r s x y
+puts_as {result = result} {a} {b} {f = f} {g} {r} {s} {x} {y} same one = subst (λ bytes. Puts a b bytes result f g r s x y) same one
+
+-- the bytes of an entry, by its number
+pub whole_coded : (number : ℕ) (before string field : List ℕ) → number % 4 ≡ 0 → coded_entry number before string field ≡ length string ∷ (string ++ field)
+unfolding entry_bytes
+whole_coded number before string field is = grind (arith, common_steps)
+
+pub cut_coded : (number : ℕ) (before string field : List ℕ) (from : ℕ) → (number % 4 ≡ 0 → ⊥) → from ≡ shared before string → coded_entry number before string field ≡ cut_bytes from string field
+unfolding entry_bytes
+cut_coded number before string field from other is = grind (arith, common_steps)

@@ -1,12 +1,16 @@
 -- What contracts see of an entry that was read.
 use Rattle.std.specs.Prelude.{◌≡◌, ◌≤◌, ◌<◌, ◌+◌, ◌-◌, ◌++◌, ◌∷◌, ◌⊎◌, ℕ, Bool, true, false, List, length, take, drop, slice_get, None, Some, IfOk}
+use Rattle.std.specs.Prelude.{◌^◌, IfSome}
 use Rattle.std.specs.Option.{IsSome}
 use Rattle.std.specs.declared.option.Option.{Option}
 use Rattle.std.specs.declared.result.Result.{Result}
-use Rattle.mg_dev.specs.Files.{Files, bytes_at}
+use Rattle.mg_dev.specs.declared.device.Failed.{Failed}
+use Rattle.mg_dev.specs.Files.{Files, Reads, bytes_at}
 use Rattle.mg_bits.specs.Pages.{Paging}
+use Rattle.mg_front.specs.declared.entry.EntryAt.{EntryAt}
 use Rattle.mg_front.specs.declared.entry.FrontEntry.{FrontEntry}
 use Rattle.mg_front.specs.declared.entry.Head.{Head}
+use Rattle.mg_front.specs.Looks.{ReadOn, ReadsUpTo}
 use Rattle.mg_defs.specs.Front.{Entry, Found, entry_bytes, read_cut}
 
 abbrev pub string_of : FrontEntry → List ℕ
@@ -27,6 +31,29 @@ abbrev pub FoundFrom : {E : Type 0} → Paging → Option Files → ℕ → (Lis
     (Option ℕ → Option Found) → Type 0
 FoundFrom feed files at reading result found = IsSome files →
     IfOk result (λ size. reading (drop at (bytes_at files feed.name)) ≡ found size)
+
+-- an entry may be read there: its field has room, and its place is far from the greatest number
+pub record IsReadable (entry : EntryAt) : Type 0 where
+  pub width : entry.width ≤ 24
+  pub place : entry.place < 2 ^ 62
+
+-- an entry of so many bytes was read on from its place, and the next one stands behind it
+pub record PassedEntry (old new : Paging) (place : ℕ) (before now : Reads) (size : ℕ) : Type 0 where
+  pub most : size ≤ 281
+  pub read_on : ReadOn old new before now place (place + size)
+
+-- a call that reads the entry at a place through a feed, by what these bytes mean
+pub record ReadsEntry (old new : Paging) (entry : EntryAt) (meaning : List ℕ → Option Found) (out : FrontEntry)
+    (result : Result (Option ℕ) Failed) (files_before files_now : Option Files) (reads_before reads_now : Reads)
+    (faults_before faults_now : ℕ) : Type 0
+  where
+    -- it reads no byte behind the longest entry
+    pub read : ReadsUpTo old new entry.place (entry.place + 281) result files_before files_now reads_before reads_now
+        faults_before faults_now
+    -- what it found is what the bytes from the place on mean
+    pub told : FoundFrom old files_before entry.place meaning result (found_of entry.width out)
+    -- where it found an entry, it read all of it and no page twice
+    pub passed : IfOk result (λ size. IfSome size (PassedEntry old new entry.place reads_before reads_now))
 
 -- the bytes of an entry that shares so many bytes with the string before
 abbrev pub cut_bytes : ℕ → List ℕ → List ℕ → List ℕ

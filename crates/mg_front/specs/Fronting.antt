@@ -1,7 +1,10 @@
 -- A writer of front-coded entries: what contracts see of it, and which entries it took.
-use Rattle.std.specs.Prelude.{◌≡◌, ◌≢◌, ◌++◌, ◌∷◌, ℕ, List, [], length, None, Some}
+use Rattle.std.specs.Prelude.{◌≡◌, ◌≢◌, ◌++◌, ◌∷◌, ℕ, List, [], length, None, Some, OnOk}
 use Rattle.std.specs.Option.{IsSome, ForSome}
 use Rattle.std.specs.declared.option.Option.{Option}
+use Rattle.std.specs.declared.result.Result.{Result}
+use Rattle.mg_dev.specs.declared.device.PutErr.{PutErr}
+use Rattle.mg_dev.specs.Causes.{HasPutCause}
 use Rattle.mg_dev.specs.Files.{Files, Reads, SameReads, bytes_at, written}
 use Rattle.mg_bits.specs.Alike.{SameAt, TellAlike}
 use Rattle.mg_bits.specs.Writer.{Writing, put_to, WroteTo, Wrote}
@@ -14,6 +17,17 @@ pub record Fronting : Type 0 where
   pub count : ℕ
   pub place : ℕ
   pub last : List ℕ
+
+-- a call that writes these bytes through a writer
+pub record Puts {T : Type 0} (old new : Writing) (piece : List ℕ) (result : Result T PutErr)
+    (files_before files_now : Option Files) (reads_before reads_now : Reads) (faults_before faults_now : ℕ) : Type 0
+  where
+    -- they stand behind what was written before
+    pub bytes : OnOk result (Wrote old new files_before files_now piece)
+    -- no other file was written
+    pub wrote : WroteTo old.name files_before files_now reads_before reads_now
+    -- a failure has its cause in the device
+    pub cause : HasPutCause faults_before faults_now result
 
 -- these bytes were written, where places are written
 abbrev pub PlaceWrote : Option Writing → Option Writing → Option Files → Option Files → List ℕ → Type 0

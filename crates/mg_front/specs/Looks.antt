@@ -1,10 +1,14 @@
 -- How many pages a call reads of a part, and how many places a look-up looks at.
 use Rattle.std.specs.Prelude.{◌≡◌, ◌≤◌, ◌+◌, ◌*◌, ◌/◌, ℕ}
 use Rattle.std.specs.Int.{div_ceil}
+use Rattle.std.specs.declared.option.Option.{Option}
+use Rattle.std.specs.declared.result.Result.{Result}
+use Rattle.mg_dev.specs.declared.device.Failed.{Failed}
 use Rattle.mg_dev.specs.declared.part.Part.{Part}
-use Rattle.mg_dev.specs.Files.{Reads}
+use Rattle.mg_dev.specs.Causes.{HasCause}
+use Rattle.mg_dev.specs.Files.{Files, Reads}
 use Rattle.mg_bits.specs.Feed.{held_after, lacks}
-use Rattle.mg_bits.specs.Pages.{Paging}
+use Rattle.mg_bits.specs.Pages.{Fits, Looked, Paging, SameFile}
 use Rattle.mg_defs.specs.Codes.{ceil_log2}
 
 -- A call that read the bytes from one place up to another read at most one page for each page boundary between them, and the page of the first where it was not held. The page that is held now counts for the next byte, and is that of the last byte that was read.
@@ -17,6 +21,21 @@ pub record ReadOn (old new : Paging) (before now : Reads) (from to : ℕ) : Type
 -- A call that read no byte past a place, and that may have stopped before it.
 pub record ReadTo (old : Paging) (before now : Reads) (from to : ℕ) : Type 0 where
   pub pages : now old.part + from / 4096 ≤ before old.part + lacks old.held (from / 4096) + to / 4096
+
+-- A call that reads a file through its feed, from a place on and no byte past another.
+pub record ReadsUpTo {T : Type 0} (old new : Paging) (from to : ℕ) (result : Result T Failed)
+    (files_before files_now : Option Files) (reads_before reads_now : Reads) (faults_before faults_now : ℕ) : Type 0
+  where
+    -- the page that the feed holds agrees with the file
+    pub fits : Fits new files_now
+    -- it reads the same file
+    pub file : SameFile old new
+    -- no file changed, and no other part was read
+    pub looked : Looked old.part files_before files_now reads_before reads_now faults_before faults_now
+    -- no byte past the place was read
+    pub read_to : ReadTo old reads_before reads_now from to
+    -- a refusal has its cause in the device
+    pub cause : HasCause faults_before faults_now result
 
 -- So many places were looked at: each takes one page of the places, and the four entries at most from it on lie on two pages.
 pub record ReadLooks (strings places : Part) (before now : Reads) (looks : ℕ) : Type 0 where

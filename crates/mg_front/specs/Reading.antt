@@ -8,7 +8,8 @@ use Rattle.mg_dev.specs.Names.{file_name, same_part}
 use Rattle.mg_dev.specs.declared.file_ref.FileRef.{FileRef}
 use Rattle.mg_dev.specs.declared.bad as declared
 use Rattle.mg_dev.specs.declared.part.Part.{Part}
-use Rattle.mg_bits.specs.Pages.{Paging, Fits}
+use Rattle.mg_dev.specs.PartCauses.{HasPartCause}
+use Rattle.mg_bits.specs.Pages.{Fits, Looked, Paging, SameFile}
 use Rattle.mg_bits.specs.Alike.{WhereSame}
 pub use Rattle.mg_bits.specs.Pages.{LookedAt}
 pub use Rattle.mg_dev.specs.Bads.{IsNotBad}
@@ -80,6 +81,47 @@ abbrev pub LacksPlace : PartErr → Paging → Option Files → ℕ → Type 0
 LacksPlace Device places files block = Unit {0}
 LacksPlace Memory places files block = ⊥
 LacksPlace (Bad bad) places files block = NoPlace bad places files block
+
+-- the place of this block, which four bytes hold, or why it is not told
+abbrev pub TellsPlace : Result ℕ PartErr → Paging → Option Files → ℕ → Type 0
+TellsPlace (Ok place) places files block = (place < 2 ^ 32)
+    × (IsSome files → HasPlace (bytes_at files places.name) block place)
+TellsPlace (Err refusal) places files block = LacksPlace refusal places files block
+
+-- a call that reads the place of this block
+pub record ReadsPlace (old new : Paging) (block : ℕ) (result : Result ℕ PartErr) (files_before files_now : Option Files)
+    (reads_before reads_now : Reads) (faults_before faults_now : ℕ) : Type 0
+  where
+    -- the page that the feed holds agrees with the file
+    pub fits : Fits new files_now
+    -- it reads the same file
+    pub file : SameFile old new
+    -- no file changed, and no other part was read
+    pub looked : Looked old.part files_before files_now reads_before reads_now faults_before faults_now
+    -- the four bytes lie on one page
+    pub page : reads_now old.part ≤ reads_before old.part + 1
+    -- the place, or where the places end before it
+    pub answer : TellsPlace result old files_before block
+    -- a refusal has its cause in the device
+    pub cause : HasPartCause faults_before faults_now result
+
+-- a call of a reader that looks at so many places
+pub record ReaderLooked {T : Type 0} (old new : Fronted) (times : ℕ) (result : Result T PartErr)
+    (files_before files_now : Option Files) (reads_before reads_now : Reads) (faults_before faults_now : ℕ) : Type 0
+  where
+    -- what it keeps agrees with its parts
+    pub fits : FrontFits new files_now
+    -- it reads the same parts
+    pub same : SameParts old new
+    -- no file changed, and no other part was read
+    pub looked : LookedAt old.strings.part old.places.part files_before files_now reads_before reads_now faults_before
+        faults_now
+    -- each place takes one page of the places and two of the strings at most
+    pub reads : ReaderLooks old reads_before reads_now times
+    -- it asks for no memory
+    pub memory : result ≢ Err Memory
+    -- a refusal has its cause in the device
+    pub cause : HasPartCause faults_before faults_now result
 
 -- an entry is missing from the place on that is told of this block
 pub record NoEntries (bad : declared.Bad.Bad) (r : Fronted) (files : Option Files) (block : ℕ) : Type 0 where

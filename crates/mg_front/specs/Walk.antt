@@ -1,9 +1,10 @@
 -- A walk over front-coded entries: what contracts see of it, which entries it gave, and what its next call answers.
-use Rattle.std.specs.Prelude.{◌≡◌, ◌<◌, ◌+◌, ◌++◌, ◌⊎◌, ℕ, Bool, true, false, List, [], ◌∷◌, length, drop, Some, Result, Ok, Err, IfOk, slice_get}
+use Rattle.std.specs.Prelude.{◌≢◌, ◌≡◌, ◌<◌, ◌+◌, ◌++◌, ◌⊎◌, ℕ, Bool, true, false, List, [], ◌∷◌, length, drop, Some, Result, Ok, Err, IfOk, slice_get}
 use Rattle.std.specs.Option.{IsSome}
 use Rattle.std.specs.declared.option.Option.{Option}
 use Rattle.mg_dev.specs.Files.{Files, Reads, bytes_at}
-use Rattle.mg_bits.specs.Pages.{Paging, Fits}
+use Rattle.mg_dev.specs.PartCauses.{HasPartCause}
+use Rattle.mg_bits.specs.Pages.{Paging, Fits, Looked}
 use Rattle.mg_defs.specs.Front.{NoEntry, Entry, IsEntry, IsFront, AreEntries, entry_bytes, front, last_string}
 use Rattle.mg_front.specs.Entries.{entry_of}
 use Rattle.mg_front.specs.Looks.{ReadOn, ReadTo}
@@ -87,3 +88,24 @@ AnswersAmong (Ok false) w out all = w.done ≡ length all
 AnswersAmong (Err Device) w out all = Unit {0}
 AnswersAmong (Err Memory) w out all = ⊥
 AnswersAmong (Err (Bad bad)) w out all = ⊥
+
+-- a step of a walk, over any bytes
+pub record Stepped (old new : Walking) (out : FrontEntry) (result : Result Bool PartErr)
+    (files_before files_now : Option Files) (reads_before reads_now : Reads) (faults_before faults_now : ℕ) : Type 0
+  where
+    -- it gave the next entry, where there was one
+    pub gave : GaveNext old new files_before files_now result out
+    -- an entry, the end, or where the part is no front coding
+    pub answer : IsSome files_before → AnswersNext result old out (bytes_at files_before old.feed.name)
+    -- it went on by one entry, or not at all
+    pub step : IfOk result (λ more. AfterNext more old new)
+    -- it is a walk over the same part
+    pub same : SameWalk old new
+    -- no file changed, and no other part was read
+    pub looked : Looked old.feed.part files_before files_now reads_before reads_now faults_before faults_now
+    -- the calls together read each page once
+    pub reads : ReadsNext result old new reads_before reads_now
+    -- a refusal has its cause in the device
+    pub cause : HasPartCause faults_before faults_now result
+    -- it asks for no memory
+    pub memory : result ≢ Err Memory

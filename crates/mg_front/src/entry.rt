@@ -1,12 +1,11 @@
 //! One entry, and how it is read.
-ghost use Rattle.std.specs.Prelude.{◌≡◌, ◌≤◌, ◌<◌, ◌+◌, ◌^◌, ◌%◌, ◌==◌, ◌||◌, [], IfOk, IfSome, OnSome, IsSome, true, length, drop, slice_get};
+ghost use Rattle.std.specs.Prelude.{◌≡◌, ◌≤◌, ◌<◌, ◌+◌, ◌^◌, ◌==◌, ◌||◌, [], IfOk, IfSome, OnSome, IsSome, true, length, drop, slice_get};
 ghost use Rattle.mg_dev.specs.Files.{bytes_at};
-ghost use Rattle.mg_dev.specs.Causes.{HasCause};
-ghost use Rattle.mg_bits.specs.Pages.{Fits, SameFile, Looked};
-ghost use Rattle.mg_defs.specs.Front.{is_below, rises_after_prefix, read_entry, read_whole, read_cut};
-ghost use Rattle.mg_front.specs.Entries.{string_of, found_of, HeadAfter, HeadAt, HasRoom, IsAsLong, IsBehind, IsPut, FoundFrom};
-ghost use Rattle.mg_front.specs.Looks.{ReadOn, ReadTo};
 ghost use Rattle.mg_dev.specs.Moments.{Between};
+ghost use Rattle.mg_bits.specs.Pages.{Fits};
+ghost use Rattle.mg_defs.specs.Front.{is_below, rises_after_prefix, read_entry, read_whole, read_cut};
+ghost use Rattle.mg_front.specs.Entries.{string_of, HeadAfter, HeadAt, HasRoom, IsAsLong, IsBehind, IsPut, IsReadable, ReadsEntry};
+ghost use Rattle.mg_front.specs.Looks.{ReadOn, ReadsUpTo};
 
 use mg_bits::PageFeed;
 use mg_dev::{Failed, Store};
@@ -39,7 +38,7 @@ pub fn is_below(before: &[u8], string: &[u8]) -> bool
 }
 
 /// Whether a suffix rises above what followed the shared prefix before.
-pub fn rises(before: &[u8], suffix: &[u8]) -> bool
+fn rises(before: &[u8], suffix: &[u8]) -> bool
     ensures { result ≡ rises_after_prefix before.now suffix.now }
 {
     match (before, suffix) {
@@ -57,23 +56,19 @@ fn read_byte<S: Store>(
     at: u64,
 ) -> Result<Option<u8>, Failed>
     requires fits { Fits feed.old (S.files store.old) }
-    ensures fits { Fits feed.new (S.files store.new) }
-    ensures file { SameFile feed.old feed.new }
-    ensures looked { Between S.files S.reads S.faults store.old store.new (Looked feed.old.part) }
+    ensures read { Between S.files S.reads S.faults store.old store.new
+        (ReadsUpTo feed.old feed.new at (at + 1) result) }
     ensures told { IsSome (S.files store.old) →
         IfOk result (λ byte. byte ≡ slice_get (bytes_at (S.files store.old) feed.old.name) at) }
     ensures read_on { IfOk result (λ byte.
         OnSome byte (ReadOn feed.old feed.new (S.reads store.old) (S.reads store.new) at
         (at + 1))) }
-    ensures read_to { ReadTo feed.old (S.reads store.old) (S.reads store.new) at (at + 1) }
-    ensures cause { HasCause (S.faults store.old) (S.faults store.new) result }
 {
-    let byte = feed.byte(store, at)?;
-    Ok(byte)
+    feed.byte(store, at)
 }
 
 /// Reads so many bytes into a buffer, from an index on; false where the bytes end before.
-pub fn read_bytes<S: Store>(
+fn read_bytes<S: Store>(
     feed: &mut PageFeed<'_, S>,
     store: &mut S,
     at: u64,
@@ -85,19 +80,15 @@ pub fn read_bytes<S: Store>(
     requires place { at < 2 ^ 63 }
     requires room { from + count ≤ length out.old }
     requires small { length out.old < 2 ^ 16 }
-    ensures fits { Fits feed.new (S.files store.new) }
-    ensures file { SameFile feed.old feed.new }
-    ensures looked { Between S.files S.reads S.faults store.old store.new (Looked feed.old.part) }
+    ensures read { Between S.files S.reads S.faults store.old store.new
+        (ReadsUpTo feed.old feed.new at (at + count) result) }
     ensures told { IsSome (S.files store.old) →
         IfOk result (λ whole. IsPut whole out.old out.new from count at
         (bytes_at (S.files store.old) feed.old.name)) }
     ensures read_on { IfOk result (λ whole. whole ≡ true →
         ReadOn feed.old feed.new (S.reads store.old) (S.reads store.new) at (at + count)) }
-    ensures read_to { ReadTo feed.old (S.reads store.old) (S.reads store.new) at (at + count) }
-    ensures cause { HasCause (S.faults store.old) (S.faults store.new) result }
 {
-    let whole = feed.fill(store, at, &mut out[from..from + count])?;
-    Ok(whole)
+    feed.fill(store, at, &mut out[from..from + count])
 }
 
 impl FrontEntry {
@@ -110,7 +101,7 @@ impl FrontEntry {
 }
 
 /// Whether a string may have this number after the string before.
-pub fn may_follow(number: u32, before: &FrontEntry, entry: &FrontEntry) -> bool
+fn may_follow(number: u32, before: &FrontEntry, entry: &FrontEntry) -> bool
     ensures { result ≡ (number == 0 || is_below (string_of before.now) (string_of entry.now)) }
 {
     number == 0 || is_below(before.bytes(), entry.bytes())
@@ -147,9 +138,8 @@ fn read_head<S: Store>(
 ) -> Result<Option<Head>, Failed>
     requires fits { Fits feed.old (S.files store.old) }
     requires place { at < 2 ^ 62 }
-    ensures fits { Fits feed.new (S.files store.new) }
-    ensures file { SameFile feed.old feed.new }
-    ensures looked { Between S.files S.reads S.faults store.old store.new (Looked feed.old.part) }
+    ensures read { Between S.files S.reads S.faults store.old store.new
+        (ReadsUpTo feed.old feed.new at (at + 2) result) }
     ensures told { IsSome (S.files store.old) →
         IfOk result (λ head. HeadAt head (string_of before.now) at
         (bytes_at (S.files store.old) feed.old.name)) }
@@ -157,16 +147,17 @@ fn read_head<S: Store>(
     ensures read_on { IfOk result (λ head.
         OnSome head (ReadOn feed.old feed.new (S.reads store.old) (S.reads store.new) at
         (at + 2))) }
-    ensures read_to { ReadTo feed.old (S.reads store.old) (S.reads store.new) at (at + 2) }
-    ensures cause { HasCause (S.faults store.old) (S.faults store.new) result }
 {
-    let Some(shared) = read_byte(feed, store, at)? else {
-        return Ok(None);
+    let shared = match read_byte(feed, store, at) {
+        Ok(Some(shared)) => shared,
+        Ok(None) => return Ok(None),
+        Err(failed) => return Err(failed),
     };
-    let Some(more) = read_byte(feed, store, at + 1)? else {
-        return Ok(None);
-    };
-    Ok(head_after(before, shared, more))
+    match read_byte(feed, store, at + 1) {
+        Ok(Some(more)) => Ok(head_after(before, shared, more)),
+        Ok(None) => Ok(None),
+        Err(failed) => Err(failed),
+    }
 }
 
 /// Reads what stands behind a head: the bytes of the string that follow, and the field. False where
@@ -183,9 +174,8 @@ fn read_behind<S: Store>(
     requires width { width ≤ 24 }
     requires place { at < 2 ^ 62 + 2 }
     requires room { head.shared + head.more ≤ 255 }
-    ensures fits { Fits feed.new (S.files store.new) }
-    ensures file { SameFile feed.old feed.new }
-    ensures looked { Between S.files S.reads S.faults store.old store.new (Looked feed.old.part) }
+    ensures read { Between S.files S.reads S.faults store.old store.new
+        (ReadsUpTo feed.old feed.new at (at + head.more + width) result) }
     ensures told { IsSome (S.files store.old) →
         IfOk result (λ whole. IsBehind whole head width out.old.string out.new.string out.new.field
         at (bytes_at (S.files store.old) feed.old.name)) }
@@ -193,58 +183,61 @@ fn read_behind<S: Store>(
     ensures read_on { IfOk result (λ whole. whole ≡ true →
         ReadOn feed.old feed.new (S.reads store.old) (S.reads store.new) at
         (at + head.more + width)) }
-    ensures read_to { ReadTo feed.old (S.reads store.old) (S.reads store.new) at
-        (at + head.more + width) }
-    ensures cause { HasCause (S.faults store.old) (S.faults store.new) result }
 {
     let from = usize::from(head.shared);
     let count = usize::from(head.more);
-    if !read_bytes(feed, store, at, &mut out.string, from, count)? {
-        return Ok(false);
+    match read_bytes(feed, store, at, &mut out.string, from, count) {
+        Ok(true) => {}
+        Ok(false) => return Ok(false),
+        Err(failed) => return Err(failed),
     }
     out.length = head.shared + head.more;
     read_bytes(feed, store, at + count as u64, &mut out.field, 0, width)
 }
 
+/// Where an entry is to stand, how wide its field is, and its number.
+#[derive(Clone, Copy)]
+pub(crate) struct EntryAt {
+    pub place: u64,
+    pub width: usize,
+    pub number: u32,
+}
+
 /// Reads a whole entry; None where none stands there.
-pub fn read_whole<S: Store>(
+fn read_whole<S: Store>(
     feed: &mut PageFeed<'_, S>,
     store: &mut S,
-    at: u64,
-    width: usize,
-    number: u32,
+    at: EntryAt,
     before: &FrontEntry,
     out: &mut FrontEntry,
 ) -> Result<Option<u64>, Failed>
     requires fits { Fits feed.old (S.files store.old) }
-    requires width { width ≤ 24 }
-    requires place { at < 2 ^ 62 }
-    ensures fits { Fits feed.new (S.files store.new) }
-    ensures file { SameFile feed.old feed.new }
-    ensures looked { Between S.files S.reads S.faults store.old store.new (Looked feed.old.part) }
-    ensures told { FoundFrom feed.old (S.files store.old) at
-        (read_whole width number (string_of before.now)) result (found_of width out.new) }
-    ensures size { IfOk result (λ size. IfSome size (λ n. n ≤ 281)) }
-    ensures read_on { IfOk result (λ size.
-        IfSome size (λ n. ReadOn feed.old feed.new (S.reads store.old) (S.reads store.new) at
-        (at + n))) }
-    ensures read_to { ReadTo feed.old (S.reads store.old) (S.reads store.new) at (at + 281) }
-    ensures cause { HasCause (S.faults store.old) (S.faults store.new) result }
+    requires at { IsReadable at }
+    ensures { Between S.files S.reads S.faults store.old store.new
+        (ReadsEntry feed.old feed.new at (read_whole at.width at.number (string_of before.now))
+        out.new result) }
 {
-    let Some(more) = read_byte(feed, store, at)? else {
+    let byte = match read_byte(feed, store, at.place) {
+        Ok(byte) => byte,
+        Err(failed) => return Err(failed),
+    };
+    let Some(more) = byte else {
         return Ok(None);
     };
-    if !read_behind(feed, store, at + 1, Head { shared: 0, more }, width, out)? {
+    let head = Head { shared: 0, more };
+    match read_behind(feed, store, at.place + 1, head, at.width, out) {
+        Ok(true) => {}
+        Ok(false) => return Ok(None),
+        Err(failed) => return Err(failed),
+    }
+    if !may_follow(at.number, before, out) {
         return Ok(None);
     }
-    if !may_follow(number, before, out) {
-        return Ok(None);
-    }
-    Ok(Some((usize::from(more) + width + 1) as u64))
+    Ok(Some((usize::from(more) + at.width + 1) as u64))
 }
 
 /// Whether the entry's string rises above the one before, from a shared prefix on.
-pub fn suffix_rises(before: &FrontEntry, entry: &FrontEntry, from: u8) -> bool
+fn suffix_rises(before: &FrontEntry, entry: &FrontEntry, from: u8) -> bool
     requires before { from ≤ length (string_of before.now) }
     requires entry { from ≤ length (string_of entry.now) }
     ensures { result ≡ rises_after_prefix (drop from (string_of before.now))
@@ -257,71 +250,52 @@ pub fn suffix_rises(before: &FrontEntry, entry: &FrontEntry, from: u8) -> bool
 }
 
 /// Reads an entry that is not whole; None where none stands there.
-pub fn read_cut<S: Store>(
+fn read_cut<S: Store>(
     feed: &mut PageFeed<'_, S>,
     store: &mut S,
-    at: u64,
-    width: usize,
+    at: EntryAt,
     before: &FrontEntry,
     out: &mut FrontEntry,
 ) -> Result<Option<u64>, Failed>
     requires fits { Fits feed.old (S.files store.old) }
-    requires width { width ≤ 24 }
-    requires place { at < 2 ^ 62 }
-    ensures fits { Fits feed.new (S.files store.new) }
-    ensures file { SameFile feed.old feed.new }
-    ensures looked { Between S.files S.reads S.faults store.old store.new (Looked feed.old.part) }
-    ensures told { FoundFrom feed.old (S.files store.old) at (read_cut width (string_of before.now))
-        result (found_of width out.new) }
-    ensures size { IfOk result (λ size. IfSome size (λ n. n ≤ 281)) }
-    ensures read_on { IfOk result (λ size.
-        IfSome size (λ n. ReadOn feed.old feed.new (S.reads store.old) (S.reads store.new) at
-        (at + n))) }
-    ensures read_to { ReadTo feed.old (S.reads store.old) (S.reads store.new) at (at + 281) }
-    ensures cause { HasCause (S.faults store.old) (S.faults store.new) result }
+    requires at { IsReadable at }
+    ensures { Between S.files S.reads S.faults store.old store.new
+        (ReadsEntry feed.old feed.new at (read_cut at.width (string_of before.now)) out.new
+        result) }
 {
-    let Some(head) = read_head(feed, store, at, before)? else {
-        return Ok(None);
+    let head = match read_head(feed, store, at.place, before) {
+        Ok(Some(head)) => head,
+        Ok(None) => return Ok(None),
+        Err(failed) => return Err(failed),
     };
     out.string = before.string;
-    if !read_behind(feed, store, at + 2, head, width, out)? {
-        return Ok(None);
+    match read_behind(feed, store, at.place + 2, head, at.width, out) {
+        Ok(true) => {}
+        Ok(false) => return Ok(None),
+        Err(failed) => return Err(failed),
     }
     if !suffix_rises(before, out, head.shared) {
         return Ok(None);
     }
-    Ok(Some((usize::from(head.more) + width + 2) as u64))
+    Ok(Some((usize::from(head.more) + at.width + 2) as u64))
 }
 
 /// Reads the entry of a number, after the one before; None where none stands there.
-#[tactic(auto, unfolding(mg_defs::specs::Front::read_entry))]
-pub fn read_entry<S: Store>(
+pub(crate) fn read_entry<S: Store>(
     feed: &mut PageFeed<'_, S>,
     store: &mut S,
-    at: u64,
-    width: usize,
-    number: u32,
+    at: EntryAt,
     before: &FrontEntry,
     out: &mut FrontEntry,
 ) -> Result<Option<u64>, Failed>
     requires fits { Fits feed.old (S.files store.old) }
-    requires width { width ≤ 24 }
-    requires place { at < 2 ^ 62 }
-    ensures fits { Fits feed.new (S.files store.new) }
-    ensures file { SameFile feed.old feed.new }
-    ensures looked { Between S.files S.reads S.faults store.old store.new (Looked feed.old.part) }
-    ensures told { FoundFrom feed.old (S.files store.old) at
-        (read_entry width number (string_of before.now)) result (found_of width out.new) }
-    ensures size { IfOk result (λ size. IfSome size (λ n. n ≤ 281)) }
-    ensures read_on { IfOk result (λ size.
-        IfSome size (λ n. ReadOn feed.old feed.new (S.reads store.old) (S.reads store.new) at
-        (at + n))) }
-    ensures read_to { ReadTo feed.old (S.reads store.old) (S.reads store.new) at (at + 281) }
-    ensures cause { HasCause (S.faults store.old) (S.faults store.new) result }
+    requires at { IsReadable at }
+    ensures { Between S.files S.reads S.faults store.old store.new
+        (ReadsEntry feed.old feed.new at (read_entry at.width at.number (string_of before.now))
+        out.new result) }
 {
-    if number % 4 == 0 {
-        read_whole(feed, store, at, width, number, before, out)
-    } else {
-        read_cut(feed, store, at, width, before, out)
+    if at.number % 4 == 0 {
+        return read_whole(feed, store, at, before, out);
     }
+    read_cut(feed, store, at, before, out)
 }

@@ -1,10 +1,10 @@
 //! How an entry is written.
 ghost use Rattle.std.specs.Prelude.{◌≡◌, ◌≤◌, ◌<◌, ◌+◌, ◌-◌, ◌++◌, ◌∷◌, ◌%◌, ◌^◌, ◌==◌, if◌then◌else◌, [], IfOk, OnOk, length};
 ghost use Rattle.mg_dev.specs.Causes.{HasPutCause};
-ghost use Rattle.mg_bits.specs.Writer.{WroteTo, Wrote};
+ghost use Rattle.mg_dev.specs.Moments.{Between};
 ghost use Rattle.mg_defs.specs.Numbers.{four};
-ghost use Rattle.mg_defs.specs.Front.{shared, entry_bytes};
-ghost use Rattle.mg_front.specs.Fronting.{PlaceWrote, WroteToPlaces};
+ghost use Rattle.mg_defs.specs.Front.{shared};
+ghost use Rattle.mg_front.specs.Fronting.{PlaceWrote, Puts, WroteToPlaces};
 ghost use Rattle.mg_front.specs.Entries.{cut_bytes, coded_entry};
 
 use mg_bits::PageWriter;
@@ -27,28 +27,30 @@ pub fn shared(before: &[u8], string: &[u8]) -> usize
     }
 }
 
-/// Writes the bytes of an entry before its suffix.
-pub fn put_whole<S: Store>(
+/// Writes a whole entry.
+fn put_whole<S: Store>(
     strings: &mut PageWriter<'_>,
     store: &mut S,
     string: &[u8],
     field: &[u8],
 ) -> Result<(), PutErr>
-    requires short { length string.now ≤ 255 }
-    ensures bytes { OnOk result (Wrote strings.old strings.new (S.files store.old)
-        (S.files store.new) (length string.now ∷ (string.now ++ field.now))) }
-    ensures wrote { WroteTo strings.old.name (S.files store.old) (S.files store.new)
-        (S.reads store.old) (S.reads store.new) }
-    ensures cause { HasPutCause (S.faults store.old) (S.faults store.new) result }
+    requires { length string.now ≤ 255 }
+    ensures { Between S.files S.reads S.faults store.old store.new
+        (Puts strings.old strings.new (length string.now ∷ (string.now ++ field.now)) result) }
 {
-    strings.put(store, string.len() as u8)?;
-    strings.put_all(store, string)?;
-    strings.put_all(store, field)?;
-    Ok(())
+    match strings.put(store, string.len() as u8) {
+        Ok(()) => {}
+        Err(refusal) => return Err(refusal),
+    }
+    match strings.put_all(store, string) {
+        Ok(()) => {}
+        Err(refusal) => return Err(refusal),
+    }
+    strings.put_all(store, field)
 }
 
 /// Writes an entry that is not whole.
-pub fn put_cut<S: Store>(
+fn put_cut<S: Store>(
     strings: &mut PageWriter<'_>,
     store: &mut S,
     from: usize,
@@ -57,21 +59,18 @@ pub fn put_cut<S: Store>(
 ) -> Result<(), PutErr>
     requires short { length string.now ≤ 255 }
     requires within { from ≤ length string.now }
-    ensures bytes { OnOk result (Wrote strings.old strings.new (S.files store.old)
-        (S.files store.new) (cut_bytes from string.now field.now)) }
-    ensures wrote { WroteTo strings.old.name (S.files store.old) (S.files store.new)
-        (S.reads store.old) (S.reads store.new) }
-    ensures cause { HasPutCause (S.faults store.old) (S.faults store.new) result }
+    ensures { Between S.files S.reads S.faults store.old store.new
+        (Puts strings.old strings.new (cut_bytes from string.now field.now) result) }
 {
-    strings.put(store, from as u8)?;
-    strings.put(store, (string.len() - from) as u8)?;
-    strings.put_all(store, &string[from..])?;
-    strings.put_all(store, field)?;
-    Ok(())
+    let more = &string[from..];
+    match strings.put(store, from as u8) {
+        Ok(()) => {}
+        Err(refusal) => return Err(refusal),
+    }
+    put_whole(strings, store, more, field)
 }
 
 /// Writes the entry of a number, after the string before.
-#[tactic(auto, unfolding(mg_defs::specs::Front::entry_bytes))]
 pub fn put_entry<S: Store>(
     strings: &mut PageWriter<'_>,
     store: &mut S,
@@ -82,22 +81,23 @@ pub fn put_entry<S: Store>(
 ) -> Result<u64, PutErr>
     requires short { length string.now ≤ 255 }
     requires field { length field.now ≤ 24 }
-    ensures bytes { OnOk result (Wrote strings.old strings.new (S.files store.old)
-        (S.files store.new) (coded_entry number before.now string.now field.now)) }
+    ensures put { Between S.files S.reads S.faults store.old store.new
+        (Puts strings.old strings.new (coded_entry number before.now string.now field.now)
+        result) }
     ensures size { IfOk result (λ size.
         size ≡ length (coded_entry number before.now string.now field.now)) }
     ensures most { IfOk result (λ size. size ≤ 281) }
-    ensures wrote { WroteTo strings.old.name (S.files store.old) (S.files store.new)
-        (S.reads store.old) (S.reads store.new) }
-    ensures cause { HasPutCause (S.faults store.old) (S.faults store.new) result }
 {
     if number % 4 == 0 {
-        put_whole(strings, store, string, field)?;
-        Ok((string.len() + field.len()) as u64 + 1)
-    } else {
-        let from = shared(before, string);
-        put_cut(strings, store, from, string, field)?;
-        Ok((string.len() - from + field.len()) as u64 + 2)
+        return match put_whole(strings, store, string, field) {
+            Ok(()) => Ok((string.len() + field.len()) as u64 + 1),
+            Err(refusal) => Err(refusal),
+        };
+    }
+    let from = shared(before, string);
+    match put_cut(strings, store, from, string, field) {
+        Ok(()) => Ok((string.len() - from + field.len()) as u64 + 2),
+        Err(refusal) => Err(refusal),
     }
 }
 

@@ -1,14 +1,13 @@
 //! Entries of a part by their number.
 ghost use Rattle.std.specs.Prelude.{Err, ◌≡◌, ◌≢◌, ◌-◌, if◌then◌else◌, ◌≤◌, ◌<◌, ◌+◌, ◌*◌, ◌%◌, ◌/◌, ◌^◌, List, IfErr, IfOk, IfSome, IsSome, None, Some, true, false};
 ghost use Rattle.mg_dev.specs.Files.{bytes_at};
-ghost use Rattle.mg_dev.specs.Causes.{HasCause};
-ghost use Rattle.mg_bits.specs.Pages.{Fits, SameFile, Looked};
+ghost use Rattle.mg_bits.specs.Pages.{Fits};
 ghost use Rattle.mg_defs.specs.Numbers.{four};
 ghost use Rattle.mg_defs.specs.Front.{Entry};
 ghost use Rattle.mg_front.specs.Entries.{string_of};
-ghost use Rattle.mg_front.specs.Reading.{Fronted, FrontFits, HasPlace, LacksPlace, FrontStands, AnswersAt, AnswersBlock, AnswersFind, AnswersIn, IsNotBad, IsInBlock, IsLost, IsLostAmong, IsReader, LookedAt, SameParts, GivesEntry, ScansBlock, AnswersPlacesOf, AtBlock, WherePlacesStand, ReaderLooks};
+ghost use Rattle.mg_front.specs.Reading.{Fronted, FrontFits, FrontStands, AnswersAt, AnswersBlock, AnswersFind, AnswersIn, IsNotBad, IsInBlock, IsLost, IsLostAmong, IsReader, LookedAt, ReaderLooked, ReadsPlace, SameParts, GivesEntry, ScansBlock, AnswersPlacesOf, AtBlock, WherePlacesStand, ReaderLooks};
 ghost use Rattle.mg_dev.specs.Files.{SameReads};
-ghost use Rattle.mg_front.specs.Looks.{ReadTo, halvings, looks};
+ghost use Rattle.mg_front.specs.Looks.{ReadsUpTo, halvings, looks};
 ghost use Rattle.std.specs.Bool.{OnTrue, OnFalse};
 ghost use Rattle.std.specs.Int.{div_ceil};
 ghost use Rattle.mg_dev.specs.PartCauses.{HasPartCause};
@@ -16,7 +15,7 @@ ghost use Rattle.mg_dev.specs.Moments.{Between};
 ghost use Rattle.mg_dev.specs.Names.{file_name};
 
 use crate::FrontEntry;
-use crate::entry::{is_below, read_entry};
+use crate::entry::{EntryAt, is_below, read_entry};
 use mg_bits::PageFeed;
 use mg_dev::{Bad, Failed, FileRef, PartErr, Store};
 use mg_fields::four_at;
@@ -31,23 +30,14 @@ fn number_of(bytes: &[u8; 4]) -> u32
 }
 
 /// The place of the whole entry of a block. The places are bad where they end before it.
-pub fn place_of<S: Store>(
+fn place_of<S: Store>(
     places: &mut PageFeed<'_, S>,
     store: &mut S,
     block: u32,
 ) -> Result<u64, PartErr>
-    requires fits { Fits places.old (S.files store.old) }
-    ensures fits { Fits places.new (S.files store.new) }
-    ensures file { SameFile places.old places.new }
-    ensures looked { Between S.files S.reads S.faults store.old store.new (Looked places.old.part) }
-    ensures told { IsSome (S.files store.old) →
-        IfOk result (λ place. HasPlace (bytes_at (S.files store.old) places.old.name) block place) }
-    ensures small { IfOk result (λ place. place < 2 ^ 32) }
-    ensures bad { IfErr result (λ refusal.
-        LacksPlace refusal places.old (S.files store.old) block) }
-    ensures memory { result ≢ Err PartErr.Memory }
-    ensures page { S.reads store.new places.old.part ≤ S.reads store.old places.old.part + 1 }
-    ensures cause { HasPartCause (S.faults store.old) (S.faults store.new) result }
+    requires { Fits places.old (S.files store.old) }
+    ensures { Between S.files S.reads S.faults store.old store.new
+        (ReadsPlace places.old places.new block result) }
 {
     let mut four = [0u8; 4];
     match places.fill(store, 4 * u64::from(block), &mut four) {
@@ -66,8 +56,9 @@ pub fn place_of<S: Store>(
     Ok(u64::from(number_of(&four)))
 }
 
-/// Reads the entry behind others of its block, from the block's place on; None where none stands there.
-pub fn read_block<S: Store>(
+/// Reads the entry behind others of its block, from the block's place on. False where none stands
+/// there.
+fn read_block<S: Store>(
     strings: &mut PageFeed<'_, S>,
     store: &mut S,
     from: u64,
@@ -79,20 +70,20 @@ pub fn read_block<S: Store>(
     requires width { width ≤ 24 }
     requires place { from < 2 ^ 32 }
     requires last { last < 4 }
-    ensures fits { Fits strings.new (S.files store.new) }
-    ensures file { SameFile strings.old strings.new }
-    ensures looked { Between S.files S.reads S.faults store.old store.new
-        (Looked strings.old.part) }
+    ensures read { Between S.files S.reads S.faults store.old store.new
+        (ReadsUpTo strings.old strings.new from (from + 1124) result) }
     ensures told { AtBlock strings.old (S.files store.old) width from
         (GivesEntry result last width out.new) }
-    ensures read_to { ReadTo strings.old (S.reads store.old) (S.reads store.new) from
-        (from + 1124) }
-    ensures cause { HasCause (S.faults store.old) (S.faults store.new) result }
 {
     let mut place = from;
     for number in 0..last + 1 {
         let before = *out;
-        match read_entry(strings, store, place, width, number, &before, out) {
+        let at = EntryAt {
+            place,
+            width,
+            number,
+        };
+        match read_entry(strings, store, at, &before, out) {
             Ok(Some(size)) => {
                 place += size;
             }
@@ -128,21 +119,21 @@ fn scan_block<S: Store>(
     requires width { width ≤ 24 }
     requires place { from < 2 ^ 32 }
     requires most { most ≤ 4 }
-    ensures fits { Fits strings.new (S.files store.new) }
-    ensures file { SameFile strings.old strings.new }
-    ensures looked { Between S.files S.reads S.faults store.old store.new
-        (Looked strings.old.part) }
+    ensures read { Between S.files S.reads S.faults store.old store.new
+        (ReadsUpTo strings.old strings.new from (from + 1124) result) }
     ensures told { AtBlock strings.old (S.files store.old) width from
         (ScansBlock result most string.now width out.new) }
     ensures number { IfOk result (λ scan. IsInBlock scan most) }
-    ensures read_to { ReadTo strings.old (S.reads store.old) (S.reads store.new) from
-        (from + 1124) }
-    ensures cause { HasCause (S.faults store.old) (S.faults store.new) result }
 {
     let mut place = from;
     for number in 0..most {
         let before = *out;
-        match read_entry(strings, store, place, width, number, &before, out) {
+        let at = EntryAt {
+            place,
+            width,
+            number,
+        };
+        match read_entry(strings, store, at, &before, out) {
             Ok(Some(size)) => {
                 place += size;
             }
@@ -276,16 +267,17 @@ impl<'a, S: Store> FrontReader<'a, S> {
             Err(refusal) => return Err(refusal),
         };
         match read_block(&mut self.strings, store, place, self.width, i % 4, out) {
-            Ok(true) => Ok(()),
-            Ok(false) => Err(PartErr::Bad(Bad {
-                part: self.strings.part(),
-                at: place,
-                low: 1,
-                high: 1,
-                found: 0,
-            })),
-            Err(_) => Err(PartErr::Device),
+            Ok(true) => return Ok(()),
+            Ok(false) => {}
+            Err(_) => return Err(PartErr::Device),
         }
+        Err(PartErr::Bad(Bad {
+            part: self.strings.part(),
+            at: place,
+            low: 1,
+            high: 1,
+            found: 0,
+        }))
     }
 
     /// The number of a string, and its entry; None where it is no entry's string.
@@ -326,19 +318,13 @@ impl<'a, S: Store> FrontReader<'a, S> {
         string: &[u8],
         out: &mut FrontEntry,
     ) -> Result<Option<u32>, PartErr>
-        requires fits { FrontFits self.old (S.files store.old) }
-        ensures fits { FrontFits self.new (S.files store.new) }
-        ensures same { SameParts self.old self.new }
-        ensures looked { Between S.files S.reads S.faults store.old store.new
-            (LookedAt self.old.strings.part self.old.places.part) }
+        requires { FrontFits self.old (S.files store.old) }
+        ensures step { Between S.files S.reads S.faults store.old store.new
+            (ReaderLooked self.old self.new (halvings (div_ceil self.old.count 4)) result) }
         ensures found { (es : List Entry) → FrontStands self.old (S.files store.old) es →
             AnswersBlock result string.now es }
         ensures below { IfOk result (λ block. IfSome block (λ b. 4 * b < self.old.count)) }
         ensures bad { IfErr result (λ refusal. IsLostAmong refusal self.old (S.files store.old)) }
-        ensures memory { result ≢ Err PartErr.Memory }
-        ensures reads { ReaderLooks self.old (S.reads store.old) (S.reads store.new)
-            (halvings (div_ceil self.old.count 4)) }
-        ensures cause { HasPartCause (S.faults store.old) (S.faults store.new) result }
     {
         let mut low = 0u32;
         let mut high = self.count().div_ceil(4);
@@ -368,16 +354,11 @@ impl<'a, S: Store> FrontReader<'a, S> {
     ) -> Result<Option<u32>, PartErr>
         requires fits { FrontFits self.old (S.files store.old) }
         requires below { 4 * block < self.old.count }
-        ensures fits { FrontFits self.new (S.files store.new) }
-        ensures same { SameParts self.old self.new }
-        ensures looked { Between S.files S.reads S.faults store.old store.new
-            (LookedAt self.old.strings.part self.old.places.part) }
+        ensures step { Between S.files S.reads S.faults store.old store.new
+            (ReaderLooked self.old self.new 1 result) }
         ensures found { (es : List Entry) → FrontStands self.old (S.files store.old) es →
             AnswersIn result block self.old.width string.now out.new es }
         ensures bad { IfErr result (λ refusal. IsLost refusal self.old (S.files store.old) block) }
-        ensures memory { result ≢ Err PartErr.Memory }
-        ensures reads { ReaderLooks self.old (S.reads store.old) (S.reads store.new) 1 }
-        ensures cause { HasPartCause (S.faults store.old) (S.faults store.new) result }
     {
         let place = match place_of(&mut self.places, store, block) {
             Ok(place) => place,

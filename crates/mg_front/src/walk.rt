@@ -4,13 +4,14 @@ ghost use Rattle.mg_dev.specs.Files.{bytes_at};
 ghost use Rattle.mg_dev.specs.PartCauses.{HasPartCause};
 ghost use Rattle.mg_bits.specs.Pages.{Looked};
 ghost use Rattle.mg_defs.specs.Front.{Entry};
-ghost use Rattle.mg_front.specs.Walk.{Gave, SameWalk, AnswersNext, AfterNext, AnswersAmong, ReadsNext, WhereFront, GaveNext};
+ghost use Rattle.mg_front.specs.Walk.{Gave, SameWalk, AnswersNext, AfterNext, AnswersAmong, ReadsNext, WhereFront, GaveNext, Stepped};
 ghost use Rattle.mg_dev.specs.declared.part_err.PartErr.TheVariants.{Memory};
+ghost use Rattle.mg_front.specs.declared.entry.FrontEntry.{FrontEntry as Read};
 ghost use Rattle.mg_dev.specs.Moments.{Between};
 ghost use Rattle.mg_dev.specs.Names.{file_name};
 
 use crate::FrontEntry;
-use crate::entry::read_entry;
+use crate::entry::{EntryAt, read_entry};
 use mg_bits::PageFeed;
 use mg_dev::{Bad, FileRef, PartErr, Store};
 use std::alloc::Global;
@@ -101,48 +102,19 @@ impl<'a, S: Store> FrontWalk<'a, S> {
 
     // The next entry, over any bytes.
     fn step(&mut self, store: &mut S, out: &mut FrontEntry) -> Result<bool, PartErr>
-        requires gave { (es : List Entry) × Gave self.old (S.files store.old) es }
-        ensures gave { GaveNext self.old self.new (S.files store.old) (S.files store.new) result
-            out.new }
-        ensures answer { IsSome (S.files store.old) →
-            AnswersNext result self.old out.new (bytes_at (S.files store.old) self.old.feed.name) }
-        ensures step { IfOk result (λ more. AfterNext more self.old self.new) }
-        ensures same { SameWalk self.old self.new }
-        ensures looked { Between S.files S.reads S.faults store.old store.new
-            (Looked self.old.feed.part) }
-        ensures reads { ReadsNext result self.old self.new (S.reads store.old) (S.reads store.new) }
-        ensures cause { HasPartCause (S.faults store.old) (S.faults store.new) result }
-        ensures memory { result ≢ Err PartErr.Memory }
+        requires { (es : List Entry) × Gave self.old (S.files store.old) es }
+        ensures { Between S.files S.reads S.faults store.old store.new
+            (Stepped self.old self.new out.new result) }
     {
         if self.done == self.count {
-            let strings = self.strings;
-            return match store.size(&strings) {
-                Ok(size) => {
-                    let size = size.unwrap_or(0);
-                    if size > self.place {
-                        Err(PartErr::Bad(Bad {
-                            part: self.feed.part(),
-                            at: self.place,
-                            low: 0,
-                            high: 0,
-                            found: size - self.place,
-                        }))
-                    } else {
-                        Ok(false)
-                    }
-                }
-                Err(_) => Err(PartErr::Device),
-            };
+            return self.end(store);
         }
-        match read_entry(
-            &mut self.feed,
-            store,
-            self.place,
-            self.width,
-            self.done,
-            &self.last,
-            out,
-        ) {
+        let at = EntryAt {
+            place: self.place,
+            width: self.width,
+            number: self.done,
+        };
+        match read_entry(&mut self.feed, store, at, &self.last, out) {
             Ok(Some(size)) => {
                 self.last = *out;
                 self.place += size;
@@ -150,7 +122,7 @@ impl<'a, S: Store> FrontWalk<'a, S> {
                 Ok(true)
             }
             Ok(None) => Err(PartErr::Bad(Bad {
-                part: self.feed.part(),
+                part: self.strings.part,
                 at: self.place,
                 low: 1,
                 high: 1,
@@ -158,5 +130,27 @@ impl<'a, S: Store> FrontWalk<'a, S> {
             })),
             Err(_) => Err(PartErr::Device),
         }
+    }
+
+    // The end, where no byte is left over. It reads nothing.
+    fn end(&self, store: &mut S) -> Result<bool, PartErr>
+        requires { self.now.done ≡ self.now.count }
+        ensures { (out : Read) → Between S.files S.reads S.faults store.old store.new
+            (Stepped self.now self.now out result) }
+    {
+        let found = match store.size(&self.strings) {
+            Ok(size) => size.unwrap_or(0),
+            Err(_) => return Err(PartErr::Device),
+        };
+        if found <= self.place {
+            return Ok(false);
+        }
+        Err(PartErr::Bad(Bad {
+            part: self.strings.part,
+            at: self.place,
+            low: 0,
+            high: 0,
+            found: found - self.place,
+        }))
     }
 }

@@ -4,6 +4,7 @@ use borrow.Rule.Slice.PartMut.{put_mid}
 use Rattle.mg_dev.specs.Files.{bytes_at}
 use Rattle.mg_bits.specs.Pages.{IsFilled}
 use Rattle.mg_front.specs.Entries.{IsPut}
+use Rattle.mg_front.proofs.ReadFacts.{if_ok}
 use Rattle.mg_front.proofs.ReadPages.{bytes_to_as, bytes_on_as}
 use Rattle.mg_front.proofs.entry.read_bytes.Goals as goal
 
@@ -18,19 +19,27 @@ put_told false old buf bytes from count at long room filled =
     let n : length buf ≡ count = omega (arith, long, length-take (from + count - from) (drop from old), length-drop from old) in
     omega arith
 
-pub returns-clause-told : goal.returns-clause-told
-returns-clause-told g c = λ told. put_told c.in_ok-whole.whole _ _ (bytes_at (g.S.Store.files c.args.store.now) c.args.feed.now.name) c.args.from c.args.count c.args.at c.fill.auto.buf
-    c.requires.room (c.in_ok-whole.ensures.told told)
-
 long : (from count : ℕ) (old : List ℕ) → from + count ≤ length old → length (take (from + count - from) (drop from old)) ≡ count
 long from count old room = omega (arith, length-take (from + count - from) (drop from old), length-drop from old)
 
-pub returns-in_err-whole-clause-read_to : goal.returns-in_err-whole-clause-read_to
-returns-in_err-whole-clause-read_to g c = bytes_to_as c.args.feed.now c.fill.new.self _ _ c.args.at _ _ (long c.args.from c.args.count c.args.out.now c.requires.room) c.fill.ensures.part.pages
+pub returns-clause-read : goal.returns-clause-read
+returns-clause-read g c =
+    let e = c.fill.ensures in
+    record {
+      fits = e.fits;
+      file = e.file;
+      looked = e.looked;
+      read_to = bytes_to_as c.args.feed.now c.fill.new.self _ _ c.args.at _ _ (long c.args.from c.args.count c.args.out.now c.requires.room) e.part.pages;
+      cause = e.cause;
+    }
 
-pub returns-clause-read_to : goal.returns-clause-read_to
-returns-clause-read_to g c = bytes_to_as c.args.feed.now c.fill.new.self _ _ c.args.at _ _ (long c.args.from c.args.count c.args.out.now c.requires.room) c.in_ok-whole.ensures.part.pages
+pub returns-clause-told : goal.returns-clause-told
+returns-clause-told g c = λ told.
+    if_ok c.fill.result _ _
+    (λ whole filled. put_told whole _ _ (bytes_at (g.S.Store.files c.args.store.now) c.args.feed.now.name) c.args.from c.args.count c.args.at c.fill.auto.buf c.requires.room filled)
+    (c.fill.ensures.told told)
 
 pub returns-clause-read_on : goal.returns-clause-read_on
-returns-clause-read_on g c = λ whole. bytes_on_as c.args.feed.now c.fill.new.self _ _ c.args.at _ _ (long c.args.from c.args.count c.args.out.now c.requires.room)
-    c.in_ok-whole.ensures.part.pages (c.in_ok-whole.ensures.held whole)
+returns-clause-read_on g c = if_ok c.fill.result _ _
+    (λ whole held is. bytes_on_as c.args.feed.now c.fill.new.self _ _ c.args.at _ _ (long c.args.from c.args.count c.args.out.now c.requires.room)
+    c.fill.ensures.part.pages (held is)) c.fill.ensures.held

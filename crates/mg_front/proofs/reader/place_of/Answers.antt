@@ -15,23 +15,46 @@ no_four : (whole : Bool) (buf bytes : List ℕ) (at place : ℕ) → whole ≡ f
 no_four true buf bytes at place ends long filled here = absurd cc
 no_four false buf bytes at place ends long filled here = omega (arith, filled, long, here, length-drop at bytes)
 
-pub returns-clause-told : goal.returns-clause-told
-returns-clause-told g c = λ told.
-    read_four c.in-Ok-true.field-0 c.fill.new.buf (bytes_at (g.S.Store.files c.args.store.now) c.args.places.now.name) (4 * c.from.result) (4 * c.args.block) c.number_of.result c.from-2.result
-    c.in-Ok-true.field-0-test c.fill.auto.buf (c.in-Ok-true.ensures.told told) c.number_of.ensures c.from-2.ensures (ap (λ n. 4 * n) c.from.ensures)
+pub returns-in-Ok-false : goal.returns-in-Ok-false
+returns-in-Ok-false g c =
+    let e = c.in-Ok-false.ensures in
+    record {
+      fits = e.fits;
+      file = e.file;
+      looked = e.looked;
+      page = four_page c.args.places.now c.fill.new.self _ _ c.from.result e.part.pages;
+      answer = record {
+        is = record { part_is = c.part.ensures ∙ e.file.part; at_is = ap (λ n. 4 * n) c.from-in-Ok-false.ensures; low_is = refl; high_is = refl; found_is = refl };
+        short = λ told. no_four c.in-Ok-false.field-0 c.fill.new.buf (bytes_at (g.S.Store.files c.args.store.now) c.args.places.now.name) (4 * c.from.result) (4 * c.args.block)
+            c.in-Ok-false.field-0-test c.fill.auto.buf (e.told told) (ap (λ n. 4 * n) c.from.ensures);
+      };
+      cause = record { later = e.cause.later; device = tt };
+    }
 
-pub returns-in-Ok-false-clause-bad : goal.returns-in-Ok-false-clause-bad
-returns-in-Ok-false-clause-bad g c = record {
-  is = record { part_is = c.part.ensures ∙ c.in-Ok-false.ensures.file.part; at_is = ap (λ n. 4 * n) c.from-in-Ok-false.ensures; low_is = refl; high_is = refl; found_is = refl };
-  short = λ told. no_four c.in-Ok-false.field-0 c.fill.new.buf (bytes_at (g.S.Store.files c.args.store.now) c.args.places.now.name) (4 * c.from.result) (4 * c.args.block)
-      c.in-Ok-false.field-0-test c.fill.auto.buf (c.in-Ok-false.ensures.told told) (ap (λ n. 4 * n) c.from.ensures);
-}
+pub returns-in-Err : goal.returns-in-Err
+returns-in-Err g c =
+    let e = c.in-Err.ensures in
+    record {
+      fits = e.fits;
+      file = e.file;
+      looked = e.looked;
+      page = four_page c.args.places.now c.fill.new.self _ _ c.from.result e.part.pages;
+      answer = tt;
+      cause = record { later = e.cause.later; device = e.cause.failed };
+    }
 
-pub returns-in-Ok-false-clause-page : goal.returns-in-Ok-false-clause-page
-returns-in-Ok-false-clause-page g c = four_page c.args.places.now c.fill.new.self _ _ c.from.result c.in-Ok-false.ensures.part.pages
-
-pub returns-in-Err-clause-page : goal.returns-in-Err-clause-page
-returns-in-Err-clause-page g c = four_page c.args.places.now c.fill.new.self _ _ c.from.result c.in-Err.ensures.part.pages
-
-pub returns-clause-page : goal.returns-clause-page
-returns-clause-page g c = four_page c.args.places.now c.fill.new.self _ _ c.from.result c.in-Ok-true.ensures.part.pages
+pub returns : goal.returns
+returns g c =
+    let e = c.in-Ok-true.ensures in
+    record {
+      fits = e.fits;
+      file = e.file;
+      looked = e.looked;
+      page = four_page c.args.places.now c.fill.new.self _ _ c.from.result e.part.pages;
+      answer = (
+        omega (arith, c.from-2.ensures),
+        λ told. read_four c.in-Ok-true.field-0 c.fill.new.buf (bytes_at (g.S.Store.files c.args.store.now) c.args.places.now.name) (4 * c.from.result) (4 * c.args.block)
+            c.number_of.result c.from-2.result c.in-Ok-true.field-0-test c.fill.auto.buf (e.told told) c.number_of.ensures c.from-2.ensures (ap (λ n. 4 * n) c.from.ensures),
+      );
+      cause = record { later = e.cause.later; device = tt };
+    }

@@ -1,19 +1,15 @@
 use Rattle.std.proofs.Common.{◌≡◌, ◌≤◌, ◌+◌, ◌*◌, ℕ, List, length, take, IsSome}
 use Rattle.mg_dev.specs.Files.{bytes_at}
-use Rattle.mg_bits.specs.Pages.{Fits, SameFile, Looked}
 use Rattle.mg_defs.specs.Front.{Entry, IsFront, front}
 use Rattle.mg_front.specs.Reading.{NoneAmong}
-use Rattle.mg_front.specs.Looks.{ReadOn}
+use Rattle.mg_front.proofs.ReadSteps.{ReadsOn}
 use Rattle.mg_front.proofs.ReaderLaws.{ReadSoFar}
 use Rattle.mg_front.proofs.reader.scan_block.Given as goal
 
 abbrev pub invariant-loop-number : goal.invariant-loop-number
 invariant-loop-number g l = record {
-  fits : Fits l.strings (g.S.Store.files l.store);
-  file : SameFile l.fn.strings l.strings;
-  looked : Looked l.fn.strings.part (g.S.Store.files l.fn.store) (g.S.Store.files l.store) (g.S.Store.reads l.fn.store) (g.S.Store.reads l.store)
+  on : ReadsOn l.fn.strings l.strings l.fn.from l.place (g.S.Store.files l.fn.store) (g.S.Store.files l.store) (g.S.Store.reads l.fn.store) (g.S.Store.reads l.store)
       (g.S.Store.faults l.fn.store) (g.S.Store.faults l.store);
-  read : ReadOn l.fn.strings l.strings (g.S.Store.reads l.fn.store) (g.S.Store.reads l.store) l.fn.from l.place;
   place : l.place ≤ l.fn.from + 281 * l.number;
   told : IsSome (g.S.Store.files l.fn.store) → (es : List Entry) (block : ℕ) → IsFront l.width (bytes_at (g.S.Store.files l.fn.store) l.fn.strings.name) es →
       l.fn.from ≡ length (front (take (4 * block) es)) → 4 * block + l.fn.most ≤ length es →

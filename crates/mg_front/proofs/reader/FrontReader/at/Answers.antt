@@ -1,67 +1,104 @@
-use Rattle.std.proofs.Common.{arith, inr, Result, refl, sym, ◌∙◌, ap, subst, Bool, true, false, IsSome, length, slice_get, ◌≡◌, ◌<◌, ◌+◌, ◌*◌, ◌/◌, ◌%◌}
-use Rattle.std.specs.Prelude.{Err, IfErr}
-use Rattle.mg_dev.specs.Files.{bytes_at}
+use Rattle.std.proofs.Common.{arith, inr, refl, sym, ◌∙◌, ap, Bool, true, false, ℕ, List, length, slice_get, ◌≡◌, ◌<◌, ◌+◌, ◌*◌, ◌/◌, ◌%◌}
+use Rattle.std.specs.Prelude.{Err}
 use Rattle.mg_dev.specs.declared.part_err.PartErr.{PartErr}
-use Rattle.mg_defs.specs.Front.{IsFront}
-use Rattle.mg_front.specs.Reading.{AnswersAt, Fronted, IsLost}
-use Rattle.mg_front.proofs.ReadPages.{one_look, place_look}
-use Rattle.mg_front.proofs.ReaderLaws.{block_place, lost_place, only_device}
-use Rattle.mg_front.proofs.reader.FrontReader.at.Goals.{in-Ok-true, in-Ok-false, in-Err-read_block}
+use Rattle.mg_defs.specs.Front.{Entry}
+use Rattle.mg_front.specs.Reading.{AnswersAt, Fronted}
+use Rattle.mg_front.proofs.ReaderLaws.{at_block, looked_bad, looked_failed, looked_ok, looked_place, lost_place, only_device}
 use Rattle.mg_front.proofs.reader.FrontReader.at.Goals as goal
 
 clash : (b : Bool) → b ≡ false → b ≡ true → ⊥
-clash b one other = absurd (false_is_not_true (sym one ∙ other))
-  where
-    false_is_not_true : false ≡ true → ⊥
-    false_is_not_true e = cc
+clash b one other = absurd cc
 
-pub returns-in-Err-clause-entry : goal.returns-in-Err-clause-entry
-returns-in-Err-clause-entry g c =
-    let below = rw (← c.self.view_is) at c.requires.below in
-    rw (← c.self.view_is)
-    (λ es stands. only_device (λ (refusal : PartErr). AnswersAt {T = Unit {0}} (Err refusal) c.self.inside.width c.args.i c.args.out.now es) _ _ es (c.args.i / 4) c.in-Err.refusal tt stands
-    (omega (arith, below, stands.count)) c.in-Err.ensures.bad)
+-- an entry stands in its block
+in_block : (i count : ℕ) (es : List Entry) → i < count → length es ≡ count → 4 * (i / 4) + i % 4 < length es
+in_block i count es below same = omega arith
 
-pub returns-in-Err-clause-bad : goal.returns-in-Err-clause-bad
-returns-in-Err-clause-bad g c =
+first_of_block : (i count : ℕ) (es : List Entry) → i < count → length es ≡ count → 4 * (i / 4) < length es
+first_of_block i count es below same = omega arith
+
+whole : (i : ℕ) → 4 * (i / 4) + i % 4 ≡ i
+whole i = omega arith
+
+pub returns-in-Err : goal.returns-in-Err
+returns-in-Err g c =
     let own : Fronted = record { strings = c.self.inside.strings; places = c.self.inside.places; width = c.self.inside.width; count = c.self.inside.count } in
-    rw (← c.self.view_is) (lost_place own (g.S.Store.files c.args.store.now) (c.args.i / 4) c.in-Err.refusal c.in-Err.ensures.bad)
-
-pub returns-clause-entry : goal.returns-clause-entry
-returns-clause-entry g c =
+    let fits = rw (← c.self.view_is) at c.requires.fits in
     let below = rw (← c.self.view_is) at c.requires.below in
+    let looked = looked_place fits c.in-Err.ensures in
     rw (← c.self.view_is)
-    (λ es stands.
-    let within : 4 * (c.args.i / 4) + c.args.i % 4 < length es = omega (arith, below, stands.count) in
-    let whole : 4 * (c.args.i / 4) + c.args.i % 4 ≡ c.args.i = omega arith in
-    let same = sym c.in-Ok.ensures.looked.files in
-    let told = subst IsSome same stands.told in
-    let place = block_place _ _ es (c.args.i / 4) c.in-Ok.place stands (omega (arith, within)) c.in-Ok.ensures.small (c.in-Ok.ensures.told stands.told) in
-    let strings = subst (λ f. IsFront c.self.inside.width (bytes_at f c.self.inside.strings.name) es) same stands.strings in
-    elim c.match-read_block.branch [
-      | in-Ok-true w ↦ subst (λ r. AnswersAt r c.self.inside.width c.args.i c.read_block.new.out es) (sym w.result-is)
-          (ap (slice_get es) (sym whole) ∙ (w.in-Ok-true.ensures.told told es (c.args.i / 4) strings place within).1)
-      | in-Ok-false w ↦ absurd (clash w.in-Ok-false.field-0 w.in-Ok-false.field-0-test (w.in-Ok-false.ensures.told told es (c.args.i / 4) strings place within).0)
-      | in-Err-read_block w ↦ subst (λ r. AnswersAt r c.self.inside.width c.args.i c.read_block.new.out es) (sym w.result-is) tt
-    ])
+    (record {
+      fits = looked.fits;
+      same = looked.same;
+      looked = looked.looked;
+      entry = λ es stands. only_device (λ (refusal : PartErr). AnswersAt {T = Unit {0}} (Err refusal) c.self.inside.width c.args.i c.args.out.now es) _ _ es (c.args.i / 4)
+          c.in-Err.refusal tt stands (first_of_block c.args.i c.self.inside.count es below stands.count) c.in-Err.ensures.answer;
+      bad = lost_place own (g.S.Store.files c.args.store.now) (c.args.i / 4) c.in-Err.refusal c.in-Err.ensures.answer;
+      memory = looked.memory;
+      reads = looked.reads;
+      cause = looked.cause;
+    })
 
-pub returns-in-Err-clause-reads : goal.returns-in-Err-clause-reads
-returns-in-Err-clause-reads g c = rw (← c.self.view_is) (λ apart. place_look _ _ _ _ _ _ _ _ apart c.in-Err.ensures.page c.in-Err.ensures.looked)
-
-pub returns-clause-reads : goal.returns-clause-reads
-returns-clause-reads g c = rw (← c.self.view_is) (λ apart. one_look _ _ _ _ _ _ _ _ _ _ _ _ apart c.in-Ok.ensures.page c.in-Ok.ensures.looked c.read_block.ensures.looked c.read_block.ensures.read_to)
-
-pub returns-clause-bad : goal.returns-clause-bad
-returns-clause-bad g c =
+pub returns-in-Ok-true : goal.returns-in-Ok-true
+returns-in-Ok-true g c =
     let own : Fronted = record { strings = c.self.inside.strings; places = c.self.inside.places; width = c.self.inside.width; count = c.self.inside.count } in
-    let tells = λ (r : Result (Unit {0}) PartErr). IfErr r (λ refusal. IsLost refusal own (g.S.Store.files c.args.store.now) (c.args.i / 4)) in
+    let fits = rw (← c.self.view_is) at c.requires.fits in
+    let below = rw (← c.self.view_is) at c.requires.below in
+    let e = c.in-Ok-true.ensures in
+    let looked = looked_ok tt fits c.in-Ok.ensures e.read in
     rw (← c.self.view_is)
-    (elim c.match-read_block.branch [
-      | in-Ok-true w ↦ subst tells (sym w.result-is) tt
-      | in-Ok-false w ↦ subst tells (sym w.result-is) (inr (record {
-        is = record { part_is = w.part.ensures ∙ w.in-Ok-false.ensures.file.part; at_is = refl; low_is = refl; high_is = refl; found_is = refl };
-        small = c.in-Ok.ensures.small;
-        told = λ told. c.in-Ok.ensures.told told;
-      }))
-      | in-Err-read_block w ↦ subst tells (sym w.result-is) tt
-    ])
+    (record {
+      fits = looked.fits;
+      same = looked.same;
+      looked = looked.looked;
+      entry = λ es stands.
+          let within = in_block c.args.i c.self.inside.count es below stands.count in
+          ap (slice_get es) (sym (whole c.args.i)) ∙ (at_block own es (c.args.i / 4) c.in-Ok.place stands (first_of_block c.args.i c.self.inside.count es below stands.count)
+          c.in-Ok.ensures.looked.files c.in-Ok.ensures.answer e.told within).1;
+      bad = tt;
+      memory = looked.memory;
+      reads = looked.reads;
+      cause = looked.cause;
+    })
+
+pub returns-in-Err-read_block : goal.returns-in-Err-read_block
+returns-in-Err-read_block g c =
+    let fits = rw (← c.self.view_is) at c.requires.fits in
+    let e = c.in-Err-read_block.ensures in
+    let looked = looked_failed fits c.in-Ok.ensures e.read in
+    rw (← c.self.view_is)
+    (record {
+      fits = looked.fits;
+      same = looked.same;
+      looked = looked.looked;
+      entry = λ es stands. tt;
+      bad = tt;
+      memory = looked.memory;
+      reads = looked.reads;
+      cause = looked.cause;
+    })
+
+pub returns : goal.returns
+returns g c =
+    let own : Fronted = record { strings = c.self.inside.strings; places = c.self.inside.places; width = c.self.inside.width; count = c.self.inside.count } in
+    let fits = rw (← c.self.view_is) at c.requires.fits in
+    let below = rw (← c.self.view_is) at c.requires.below in
+    let e = c.in-Ok-false.ensures in
+    let looked = looked_bad _ fits c.in-Ok.ensures e.read in
+    rw (← c.self.view_is)
+    (record {
+      fits = looked.fits;
+      same = looked.same;
+      looked = looked.looked;
+      entry = λ es stands.
+          let within = in_block c.args.i c.self.inside.count es below stands.count in
+          clash c.in-Ok-false.field-0 c.in-Ok-false.field-0-test
+          (at_block own es (c.args.i / 4) c.in-Ok.place stands (first_of_block c.args.i c.self.inside.count es below stands.count) c.in-Ok.ensures.looked.files c.in-Ok.ensures.answer e.told within).0;
+      bad = inr (record {
+        is = record { part_is = c.part.ensures ∙ e.read.file.part; at_is = refl; low_is = refl; high_is = refl; found_is = refl };
+        small = c.in-Ok.ensures.answer.0;
+        told = λ told. c.in-Ok.ensures.answer.1 told;
+      });
+      memory = looked.memory;
+      reads = looked.reads;
+      cause = looked.cause;
+    })

@@ -7,7 +7,7 @@ use Rattle.mg_dev.specs.Files.{Reads}
 use Rattle.mg_dev.specs.declared.part.Part.{Part}
 use Rattle.mg_front.specs.Looks.{halvings}
 use Rattle.mg_front.proofs.ReadPages.{Halved, halved_none, halved_more, halved_look, halved_done, look_as}
-use Rattle.mg_front.proofs.ReaderLaws.{looked_again, looked_not}
+use Rattle.mg_front.proofs.ReaderLaws.{caused_later, looked_again, looked_not, memory_for, refused_for, same_again}
 use Rattle.mg_front.proofs.reader.FrontReader.block_of.Goals as goal
 
 halved_none_as : (strings places : Part) (r : Reads) (blocks left : ℕ) → blocks < 2 ^ 32 → left ≡ blocks → Halved strings places r r left (halvings blocks)
@@ -15,7 +15,7 @@ halved_none_as strings places r blocks left small same = subst (λ n. Halved str
 
 pub loop-low-init : goal.loop-low-init
 loop-low-init g c = record {
-  fits = c.requires.fits;
+  fits = c.requires;
   same = record { strings = refl; places = refl; strings_part = refl; places_part = refl; width = refl; count = refl };
   looked = looked_not _ _ _ _ _;
   high = omega (arith, c.div_ceil-high.ensures, c.count.ensures);
@@ -41,14 +41,7 @@ loop-low-preserved g c =
     (omega arith) in
     record {
       fits = at.fits;
-      same = record {
-        strings = at.same.strings ∙ inv.same.strings;
-        places = at.same.places ∙ inv.same.places;
-        strings_part = at.same.strings_part ∙ inv.same.strings_part;
-        places_part = at.same.places_part ∙ inv.same.places_part;
-        width = at.same.width ∙ inv.same.width;
-        count = at.same.count ∙ inv.same.count;
-      };
+      same = same_again inv.same at.same;
       looked = looked_again _ _ _ _ _ _ _ _ _ _ _ _ _ inv.looked at.looked inv.same.strings_part inv.same.places_part;
       high = room.0;
       low = room.1;
@@ -73,15 +66,42 @@ returns-clause-found g c = λ es stands. (
   around_of es _ c.loop-low.low c.loop-low.high (c.loop-low.low - 1 + 1) (c.loop-low.invariant.between es stands) (omega arith) (omega arith),
 )
 
-pub returns-in-Err-clause-reads : goal.returns-in-Err-clause-reads
-returns-in-Err-clause-reads g c = λ apart. halved_look _ _ _ _ _ _ _ (omega arith) (c.loop-low.invariant.reads apart)
-    (look_as _ _ _ _ _ _ c.loop-low.invariant.same.strings_part c.loop-low.invariant.same.places_part apart c.in-Err.ensures.reads)
+pub returns-in-Err-clause-step : goal.returns-in-Err-clause-step
+returns-in-Err-clause-step g c =
+    let inv = c.loop-low.invariant in
+    let at = c.in-Err.ensures in
+    record {
+      fits = at.fits;
+      same = same_again inv.same at.same;
+      looked = looked_again _ _ _ _ _ _ _ _ _ _ _ _ _ inv.looked at.looked inv.same.strings_part inv.same.places_part;
+      reads = λ apart. halved_look _ _ _ _ _ _ _ (omega arith) (inv.reads apart) (look_as _ _ _ _ _ _ inv.same.strings_part inv.same.places_part apart at.reads);
+      memory = memory_for _ at.memory;
+      cause = refused_for _ (caused_later _ inv.looked.faults at.cause);
+    }
 
-pub returns-then-low-eq0-clause-reads : goal.returns-then-low-eq0-clause-reads
-returns-then-low-eq0-clause-reads g c = λ apart. halved_done _ _ _ _ _ _ (c.loop-low.invariant.reads apart)
+pub returns-then-low-eq0-clause-step : goal.returns-then-low-eq0-clause-step
+returns-then-low-eq0-clause-step g c =
+    let inv = c.loop-low.invariant in
+    record {
+      fits = inv.fits;
+      same = inv.same;
+      looked = inv.looked;
+      reads = λ apart. halved_done _ _ _ _ _ _ (inv.reads apart);
+      memory = λ is. absurd cc;
+      cause = record { later = inv.looked.faults; device = tt };
+    }
 
-pub returns-clause-reads : goal.returns-clause-reads
-returns-clause-reads g c = λ apart. halved_done _ _ _ _ _ _ (c.loop-low.invariant.reads apart)
+pub returns-clause-step : goal.returns-clause-step
+returns-clause-step g c =
+    let inv = c.loop-low.invariant in
+    record {
+      fits = inv.fits;
+      same = inv.same;
+      looked = inv.looked;
+      reads = λ apart. halved_done _ _ _ _ _ _ (inv.reads apart);
+      memory = λ is. absurd cc;
+      cause = record { later = inv.looked.faults; device = tt };
+    }
 
 pub returns-in-Err-clause-bad : goal.returns-in-Err-clause-bad
 returns-in-Err-clause-bad g c =

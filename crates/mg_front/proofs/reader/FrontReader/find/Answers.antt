@@ -1,31 +1,56 @@
 use Rattle.std.proofs.Common.{arith, subst, Ok}
 use Rattle.mg_front.specs.Reading.{AnswersBlock}
 use Rattle.mg_front.proofs.ReadPages.{look_as, looks_more, looks_wider}
-use Rattle.mg_front.proofs.OrderLaws.{lost_among, stands_same, none_at_all, found_in}
+use Rattle.mg_front.proofs.OrderLaws.{block_refused, lost_among, stands_same, none_at_all, found_in}
+use Rattle.mg_front.proofs.ReaderLaws.{caused_later, looked_again, memory_for, refused_for, same_again}
 use Rattle.mg_front.proofs.reader.FrontReader.find.Goals as goal
 
-pub returns-in-Ok-None-clause-found : goal.returns-in-Ok-None-clause-found
-returns-in-Ok-None-clause-found g c = λ es stands. none_at_all c.args.self.now.width es c.args.string.now stands.strings.entries
-    (subst (λ o. AnswersBlock (Ok o) c.args.string.now es) c.in-Ok-None.field-0-is (c.in-Ok-None.ensures.found es stands))
+pub returns-in-Err : goal.returns-in-Err
+returns-in-Err g c =
+    let e = c.in-Err.ensures in
+    record {
+      fits = e.step.fits;
+      same = e.step.same;
+      looked = e.step.looked;
+      found = λ es stands. block_refused _ es _ _ _ (e.found es stands);
+      bad = e.bad;
+      memory = memory_for _ e.step.memory;
+      reads = λ apart. looks_wider _ _ _ _ _ _ (omega arith) (e.step.reads apart);
+      cause = refused_for _ e.step.cause;
+    }
 
-pub returns-clause-found : goal.returns-clause-found
-returns-clause-found g c = λ es stands.
-    let block = subst (λ o. AnswersBlock (Ok o) c.args.string.now es) c.in-Ok-Some.field-0-is (c.in-Ok-Some.ensures.found es stands) in
-    let here = stands_same c.args.self.now c.block_of.new.self (g.S.Store.files c.args.store.now) (g.S.Store.files c.block_of.new.store) es
-    c.in-Ok-Some.ensures.same c.in-Ok-Some.ensures.looked.files stands in
-    found_in c.args.self.now.width es c.args.string.now c.in-Ok-Some.block c.find_in.result c.find_in.new.out stands.strings.entries block.1 block.0
-    (rw c.in-Ok-Some.ensures.same.width at (c.find_in.ensures.found es here))
+pub returns-in-Ok-None : goal.returns-in-Ok-None
+returns-in-Ok-None g c =
+    let e = c.in-Ok-None.ensures in
+    record {
+      fits = e.step.fits;
+      same = e.step.same;
+      looked = e.step.looked;
+      found = λ es stands. none_at_all c.args.self.now.width es c.args.string.now stands.strings.entries
+          (subst (λ o. AnswersBlock (Ok o) c.args.string.now es) c.in-Ok-None.field-0-is (e.found es stands));
+      bad = tt;
+      memory = λ is. absurd cc;
+      reads = λ apart. looks_wider _ _ _ _ _ _ (omega arith) (e.step.reads apart);
+      cause = record { later = e.step.cause.later; device = tt };
+    }
 
-pub returns-in-Ok-None-clause-reads : goal.returns-in-Ok-None-clause-reads
-returns-in-Ok-None-clause-reads g c = λ apart. looks_wider _ _ _ _ _ _ (omega arith) (c.in-Ok-None.ensures.reads apart)
-
-pub returns-in-Err-clause-reads : goal.returns-in-Err-clause-reads
-returns-in-Err-clause-reads g c = λ apart. looks_wider _ _ _ _ _ _ (omega arith) (c.in-Err.ensures.reads apart)
-
-pub returns-clause-reads : goal.returns-clause-reads
-returns-clause-reads g c = λ apart. looks_more _ _ _ _ _ _ _ (c.in-Ok-Some.ensures.reads apart)
-    (look_as _ _ _ _ _ _ c.in-Ok-Some.ensures.same.strings_part c.in-Ok-Some.ensures.same.places_part apart c.find_in.ensures.reads)
-
-pub returns-clause-bad : goal.returns-clause-bad
-returns-clause-bad g c = lost_among _ _ _ _ _ c.in-Ok-Some.block (rw c.in-Ok-Some.field-0-is at c.in-Ok-Some.ensures.below) c.in-Ok-Some.ensures.same
-    c.in-Ok-Some.ensures.looked.files c.find_in.ensures.bad
+pub returns : goal.returns
+returns g c =
+    let e = c.in-Ok-Some.ensures in
+    let i = c.find_in.ensures in
+    record {
+      fits = i.step.fits;
+      same = same_again e.step.same i.step.same;
+      looked = looked_again _ _ _ _ _ _ _ _ _ _ _ _ _ e.step.looked i.step.looked e.step.same.strings_part e.step.same.places_part;
+      found = λ es stands.
+          let block = subst (λ o. AnswersBlock (Ok o) c.args.string.now es) c.in-Ok-Some.field-0-is (e.found es stands) in
+          let here = stands_same c.args.self.now c.block_of.new.self (g.S.Store.files c.args.store.now) (g.S.Store.files c.block_of.new.store) es
+          e.step.same e.step.looked.files stands in
+          found_in c.args.self.now.width es c.args.string.now c.in-Ok-Some.block c.find_in.result c.find_in.new.out stands.strings.entries block.1 block.0
+          (rw e.step.same.width at (i.found es here));
+      bad = lost_among _ _ _ _ _ c.in-Ok-Some.block (rw c.in-Ok-Some.field-0-is at e.below) e.step.same e.step.looked.files i.bad;
+      memory = i.step.memory;
+      reads = λ apart. looks_more _ _ _ _ _ _ _ (e.step.reads apart)
+          (look_as _ _ _ _ _ _ e.step.same.strings_part e.step.same.places_part apart i.step.reads);
+      cause = caused_later _ e.step.looked.faults i.step.cause;
+    }
