@@ -177,6 +177,32 @@ def models(suite):
     remove(suite, "set")
 
 
+# How many bytes a head tells of the three documents of K, which have 39 with the bytes that close them; the document that goes
+# beyond them, from 0; how far it was decoded, with its closing byte where that is the first beyond; and how many were left for it.
+BEYOND = [
+    # `the cat sat` and a line feed, which are 12 bytes: `sat` is the first piece beyond 9, and the closing byte beyond 12.
+    (9, 0, 11, 9),
+    (12, 0, 13, 12),
+    # Behind the first document and the byte that closes it stand `the dog` and a line feed, which are 8.
+    (21, 1, 9, 8),
+    # Behind 22 bytes stand `Cat`, a comma with a blank, `cat` and ` & `.
+    (30, 2, 11, 8),
+    (38, 2, 17, 16),
+]
+
+
+def heads_of_less(suite):
+    """A text that means more than its head tells is damaged where it goes beyond it, and nothing of that is printed."""
+    for version, width in [(1, 4), (2, 8)]:
+        sound = build(Collection(K), BUDGET, version)
+        for size, document, found, left in BEYOND:
+            place = int.from_bytes(sound["places"][width * document : width * (document + 1)], "big")
+            head = with_digits(sound["head"], 32, size.to_bytes(width, "big"))
+            line = f"text at {8 * place}: found {found}, wanted 0 to {left}"
+            told(suite, f"a head of version {version} that tells {size} bytes of 39", sound | {"head": head}, line)
+    remove(suite, "set")
+
+
 def stops(suite, name, tool, lines, printed):
     """A session prints just this, and then stops at a damage."""
     status, out, line = suite.run([tool, "set"], lines)
@@ -259,4 +285,4 @@ def sessions(suite):
     remove(suite, "set")
 
 
-PARTS = [heads, parts, models, sessions, lines_over_damage]
+PARTS = [heads, parts, models, heads_of_less, sessions, lines_over_damage]

@@ -106,4 +106,22 @@ def peaks(suite):
         remove(suite, base)
 
 
-PARTS = [peaks]
+# How many documents of 511 bytes a head tells, and what is told of a first document that means 534,773,250: of the 510 bytes of each
+# pair the first 255 beyond what is told are refused.
+PRINTED = [(1, "found 765, wanted 0 to 511"), (40, "found 20655, wanted 0 to 20440")]
+
+
+def printed(suite):
+    """`decode` prints no more than the head tells, however much the text means, and what it prints are the first bytes of that."""
+    for version in (1, 2):
+        for documents, line in PRINTED:
+            write_parts(suite.folder / "set", long_text(documents, version))
+            status, out, told = suite.run(["decode", "set"])
+            name = f"{documents} documents with the same long text, version {version}: decode"
+            suite.check(name, (status, told), (6, f"mg: damaged: part text at 0: {line}\n".encode()))
+            meant = (LONG + b" " * 255) * documents
+            suite.check(f"{name} prints no more", meant.startswith(out) or len(out), True)
+    remove(suite, "set")
+
+
+PARTS = [peaks, printed]

@@ -1,15 +1,18 @@
 -- Documents one after the other, on their way to a sink.
-use Rattle.std.proofs.Common.{arith, ◌≡◌, ◌+◌, ◌-◌, ◌≤◌, ◌<◌, ℕ, zero, suc, Bool, true, false, List, [], ◌∷◌, ◌++◌, length, drop, get_or, Option, refl, sym, ◌∙◌, ap, subst, append-nil, append_assoc, add-one, is_some}
+use Rattle.std.proofs.Common.{arith, ◌≡◌, ◌+◌, ◌-◌, ◌≤◌, ◌<◌, ℕ, zero, suc, Bool, true, false, List, [], ◌∷◌, ◌++◌, length, drop, get_or, Option, refl, sym, ◌∙◌, ap, subst, append-nil, append_assoc, add-one, is_some, length-append, Result, Ok, Err}
 use Rattle.std.proofs.Common.{drop-cons}
 use Rattle.mg_dev.specs.Files.{Files, Reads, file_at}
 use Rattle.mg_dev.specs.Streams.{GrewByPrefix}
 use Rattle.mg_dev.specs.StreamLaws.{grew_first}
 use Rattle.mg_dev.specs.declared.part.Part.{Part}
+use Rattle.mg_dev.specs.declared.part_err.PartErr.TheVariants as part
+use Rattle.mg_dev.specs.declared.show_err.ShowErr.{ShowErr}
+use Rattle.mg_dev.specs.declared.show_err.ShowErr.TheVariants as show
 use Rattle.mg_defs.specs.Split.{close, documents, has_open_end, is_closed, joined}
 use Rattle.mg_defs.proofs.SplitLaws.{documents_split, joined_next}
 use Rattle.mg_front.specs.Reading.{LookedAt}
-use Rattle.mg_text.specs.Decoding.{Shown}
-use Rattle.mg_text.specs.Reading.{SameText, TextReading, TextStands}
+use Rattle.mg_text.specs.Decoding.{Gathering, IsPutCaused, Shown, bytes_to_come}
+use Rattle.mg_text.specs.Reading.{SameText, ShowIsNotBad, TextReading, TextStands}
 use Rattle.mg_text.proofs.CallerLemmas.{shown_none, text_stays}
 use Rattle.mg_decode.specs.Documents.{ShownFirst}
 
@@ -57,11 +60,39 @@ pub without_close : (closed : Bool) (bytes doc : List ℕ) → closed ≡ false 
 without_close true bytes doc is = absurd cc
 without_close false bytes doc is = ap (λ t. bytes ++ t) (sym (append-nil doc))
 
+-- of a buffer that holds nothing only what it takes may come
+pub first_most : (b : Gathering) → b.held ≡ [] → bytes_to_come b ≤ b.left
+first_most b empty = omega (arith, ap length empty)
+
+-- where a document and the byte that closes it may come, so may the document
+pub doc_fits : (bytes doc : List ℕ) (closed : Bool) (most : ℕ) → length (bytes ++ (doc ++ close closed)) ≤ most → length (bytes ++ doc) ≤ most
+doc_fits bytes doc closed most fits =
+    omega (arith, length-append bytes (doc ++ close closed), length-append doc (close closed), length-append bytes doc, fits)
+
+-- it is no longer than what may still come
+pub doc_short : (left : ℕ) (bytes doc : List ℕ) (closed : Bool) (most : ℕ) → length bytes + left ≡ most → length (bytes ++ (doc ++ close closed)) ≤ most → length doc ≤ left
+doc_short left bytes doc closed most rest fits =
+    omega (arith, length-append bytes (doc ++ close closed), length-append doc (close closed), rest, fits)
+
+-- behind the document the byte may come
+pub close_fits : (left : ℕ) (bytes doc : List ℕ) (closed : Bool) (most : ℕ) → length (bytes ++ doc) + left ≡ most →
+    (bytes ++ doc) ++ (2 ∷ []) ≡ bytes ++ (doc ++ close closed) → length (bytes ++ (doc ++ close closed)) ≤ most → 1 ≤ left
+close_fits left bytes doc closed most rest is fits = omega (arith, ap length is, length-append (bytes ++ doc) (2 ∷ []), rest, fits)
+
+-- a byte that may come is not bad
+pub byte_put : (r : Result (Unit {0}) ShowErr) (left f g l m : ℕ) → 1 ≤ left → IsPutCaused r left 1 f g l m → ShowIsNotBad r
+byte_put (Ok done) left f g l m some cause = tt
+byte_put (Err (show.Part part.Device)) left f g l m some cause = absurd cause
+byte_put (Err (show.Part part.Memory)) left f g l m some cause = absurd cause
+byte_put (Err (show.Part (part.Bad bad))) left f g l m some cause = absurd (omega (arith, some, cause))
+byte_put (Err show.Write) left f g l m some cause = tt
+byte_put (Err show.Memory) left f g l m some cause = tt
+
 -- no document was shown
-pub shown_nothing : (w : Option (List ℕ)) (held collection : List ℕ) → held ≡ [] → ShownFirst 0 w w held collection
-shown_nothing w held collection empty = record {
+pub shown_nothing : (w : Option (List ℕ)) (b : Gathering) (collection : List ℕ) → b.held ≡ [] → ShownFirst 0 w w b collection b.left
+shown_nothing w b collection empty = record {
   bytes = [];
-  shown = subst (λ h. Shown w w h []) (sym empty) (shown_none w);
+  shown = shown_none w b empty;
   whole = (documents_split collection).whole;
 }
 
@@ -82,25 +113,39 @@ next_whole collection bytes i all count more whole =
     drop_long (d ∷ ds) zero h = omega arith
     drop_long (d ∷ ds) (suc i) h = omega (arith, drop_long ds i (omega (arith, h)))
 
--- one document more was shown
-pub shown_next : (collection : List ℕ) (i number all : ℕ) (open_end closed : Bool) (w0 w1 w2 : Option (List ℕ)) (held0 held : List ℕ) →
+-- the next document may come where the collection may
+pub next_fits : (collection : List ℕ) (i number all most : ℕ) (open_end closed : Bool) (w0 w1 : Option (List ℕ)) (b : Gathering) →
     all ≡ length (documents collection) → i < all → number ≡ i + 1 → has_open_end collection ≡ open_end → closed ≡ is_closed number all open_end →
-    (first : ShownFirst i w0 w1 held0 collection) → Shown w0 w2 held (first.bytes ++ (get_or (documents collection) (number - 1) [] ++ close closed)) → ShownFirst (i + 1) w0 w2 held collection
-shown_next collection i number all open_end closed w0 w1 w2 held0 held count more at ends is first shown =
+    (first : ShownFirst i w0 w1 b collection most) → length collection ≡ most → length (first.bytes ++ (get_or (documents collection) (number - 1) [] ++ close closed)) ≤ most
+next_fits collection i number all most open_end closed w0 w1 b count more at ends is first size =
+    let e : closed ≡ is_closed (i + 1) all (has_open_end collection) = is ∙ ap (λ n. is_closed n all open_end) at ∙ ap (is_closed (i + 1) all) (sym ends) in
+    let place : number - 1 ≡ i = omega (arith, at) in
+    let here = first.bytes ++ (get_or (documents collection) i [] ++ close (is_closed (i + 1) all (has_open_end collection))) in
+    let rest = joined (drop (i + 1) (documents collection)) (has_open_end collection) in
+    let short : length here ≤ most = omega (arith, ap length (next_whole collection first.bytes i all count more first.whole), length-append here rest, size) in
+    subst (λ n. length (first.bytes ++ (get_or (documents collection) n [] ++ close closed)) ≤ most) (sym place)
+    (subst (λ c. length (first.bytes ++ (get_or (documents collection) i [] ++ close c)) ≤ most) (sym e) short)
+
+-- one document more was shown
+pub shown_next : (collection : List ℕ) (i number all most : ℕ) (open_end closed : Bool) (w0 w1 w2 : Option (List ℕ)) (b0 b : Gathering) →
+    all ≡ length (documents collection) → i < all → number ≡ i + 1 → has_open_end collection ≡ open_end → closed ≡ is_closed number all open_end →
+    (first : ShownFirst i w0 w1 b0 collection most) → Shown w0 w2 b (first.bytes ++ (get_or (documents collection) (number - 1) [] ++ close closed)) most →
+    ShownFirst (i + 1) w0 w2 b collection most
+shown_next collection i number all most open_end closed w0 w1 w2 b0 b count more at ends is first shown =
     let e : closed ≡ is_closed (i + 1) all (has_open_end collection) = is ∙ ap (λ n. is_closed n all open_end) at ∙ ap (is_closed (i + 1) all) (sym ends) in
     let place : number - 1 ≡ i = omega (arith, at) in
     record {
       bytes = first.bytes ++ (get_or (documents collection) i [] ++ close (is_closed (i + 1) all (has_open_end collection)));
-      shown = subst (λ n. Shown w0 w2 held (first.bytes ++ (get_or (documents collection) n [] ++ close (is_closed (i + 1) all (has_open_end collection)))))
-          place (subst (λ b. Shown w0 w2 held (first.bytes ++ (get_or (documents collection) (number - 1) [] ++ close b))) e shown);
+      shown = subst (λ n. Shown w0 w2 b (first.bytes ++ (get_or (documents collection) n [] ++ close (is_closed (i + 1) all (has_open_end collection)))) most)
+          place (subst (λ c. Shown w0 w2 b (first.bytes ++ (get_or (documents collection) (number - 1) [] ++ close c)) most) e shown);
       whole = next_whole collection first.bytes i all count more first.whole;
     }
 
 -- the next document was refused
-pub refused_next : (collection : List ℕ) (i number all : ℕ) (open_end closed : Bool) (w0 w1 w2 : Option (List ℕ)) (held0 : List ℕ) →
+pub refused_next : (collection : List ℕ) (i number all most : ℕ) (open_end closed : Bool) (w0 w1 w2 : Option (List ℕ)) (b0 : Gathering) →
     all ≡ length (documents collection) → i < all → number ≡ i + 1 → has_open_end collection ≡ open_end → closed ≡ is_closed number all open_end →
-    (first : ShownFirst i w0 w1 held0 collection) → GrewByPrefix w0 w2 (first.bytes ++ (get_or (documents collection) (number - 1) [] ++ close closed)) → GrewByPrefix w0 w2 collection
-refused_next collection i number all open_end closed w0 w1 w2 held0 count more at ends is first grew =
+    (first : ShownFirst i w0 w1 b0 collection most) → GrewByPrefix w0 w2 (first.bytes ++ (get_or (documents collection) (number - 1) [] ++ close closed)) → GrewByPrefix w0 w2 collection
+refused_next collection i number all most open_end closed w0 w1 w2 b0 count more at ends is first grew =
     let e : closed ≡ is_closed (i + 1) all (has_open_end collection) = is ∙ ap (λ n. is_closed n all open_end) at ∙ ap (is_closed (i + 1) all) (sym ends) in
     let place : number - 1 ≡ i = omega (arith, at) in
     let bytes = first.bytes ++ (get_or (documents collection) i [] ++ close (is_closed (i + 1) all (has_open_end collection))) in
@@ -110,10 +155,10 @@ refused_next collection i number all open_end closed w0 w1 w2 held0 count more a
     subst (GrewByPrefix w0 w2) (next_whole collection first.bytes i all count more first.whole) (grew_first w0 w2 bytes (joined (drop (i + 1) (documents collection)) (has_open_end collection)) here)
 
 -- all documents were shown
-pub shown_whole : (collection : List ℕ) (i : ℕ) (w0 w1 : Option (List ℕ)) (held : List ℕ) → length (documents collection) ≤ i → ShownFirst i w0 w1 held collection → Shown w0 w1 held collection
-shown_whole collection i w0 w1 held all first =
+pub shown_whole : (collection : List ℕ) (i most : ℕ) (w0 w1 : Option (List ℕ)) (b : Gathering) → length (documents collection) ≤ i → ShownFirst i w0 w1 b collection most → Shown w0 w1 b collection most
+shown_whole collection i most w0 w1 b all first =
     let none : drop i (documents collection) ≡ [] = dropped (documents collection) i all in
-    subst (Shown w0 w1 held) (sym (append-nil first.bytes) ∙ ap (λ l. first.bytes ++ joined l (has_open_end collection)) (sym none) ∙ first.whole) first.shown
+    subst (λ l. Shown w0 w1 b l most) (sym (append-nil first.bytes) ∙ ap (λ l. first.bytes ++ joined l (has_open_end collection)) (sym none) ∙ first.whole) first.shown
   where
     dropped : (ds : List (List ℕ)) (i : ℕ) → length ds ≤ i → drop i ds ≡ []
     dropped [] zero h = refl

@@ -1,3 +1,4 @@
+mod BoundLaws
 mod DocumentLaws
 mod StopLaws
 mod DecodedLaws

@@ -1,18 +1,32 @@
 -- What a run of `decode NAME` does.
-use Rattle.std.specs.Prelude.{◌≡◌, ◌⊎◌, ◌≤◌, ℕ, List, IsSome}
+use Rattle.std.specs.Prelude.{◌≡◌, ◌⊎◌, ◌≤◌, ℕ, List, IsSome, length}
 use Rattle.std.specs.declared.option.Option.{Option}
 use Rattle.std.specs.declared.result.Result.{Result}
-use Rattle.mg_dev.specs.Files.{Files, Reads}
+use Rattle.mg_dev.specs.Files.{Files, Reads, bytes_at}
 use Rattle.mg_dev.specs.Moments.{SinkAt, SourceAt, sink_at, store_at}
-use Rattle.mg_dev.specs.Names.{number}
+use Rattle.mg_dev.specs.Names.{full_name, number}
 use Rattle.mg_dev.specs.Streams.{appended, GrewByPrefix}
 use Rattle.mg_dev.specs.declared.part.Part.{Part}
+use Rattle.mg_dev.specs.declared.part.Part.TheVariants as part
 use Rattle.mg_dev.specs.declared.fault.Fault.{Fault}
 use Rattle.mg_dev.specs.declared.fault.Fault.TheVariants.{NotBuilt, Memory}
 use Rattle.mg_dev.specs.declared.status.Status.TheVariants.{Done}
+use Rattle.mg_defs.specs.Heads.{Head, IsHead}
 use Rattle.mg_layout.specs.Stands.{HasNoHead, Stands}
 use Rattle.mg_decode.specs.Outcomes.{DecodeStops}
 use Rattle.mg_dev.specs.Runs.{IfStopped, Run, StoreFailed, OutputFailed, SaysNothing, KeepsFiles, Stops, StopsUnless, status_of}
+
+-- some bytes were written, so many at most
+pub record GrewAtMost (old new : Option (List ℕ)) (most : ℕ) : Type 0 where
+  pub bytes : List ℕ
+  pub told : new ≡ appended old bytes
+  pub few : length bytes ≤ most
+
+-- no more bytes were written than a head of these files tells of the collection, and none where they have no head
+pub record WithinHead (files : Option Files) (base : List ℕ) (old new : Option (List ℕ)) : Type 0 where
+  pub told : (head : Head) → IsHead 1 2 (bytes_at files (full_name base part.Head)) head →
+      GrewAtMost old new head.collection
+  pub none : ((head : Head) → ¬ IsHead 1 2 (bytes_at files (full_name base part.Head)) head) → new ≡ old
 
 -- of each collection that the files of this name stand for
 pub record Decoded (base : List ℕ) (run : Run) : Type 0 where
@@ -23,6 +37,8 @@ pub record Decoded (base : List ℕ) (run : Run) : Type 0 where
   pub prefix : (collection : List ℕ) → Stands run.store.files base collection →
       GrewByPrefix run.out.written run.out_now.written collection
   pub silent : Stops run NotBuilt → SaysNothing run
+  -- whatever the files hold: no more is printed than their head tells of the collection
+  pub bounded : IsSome run.store.files → WithinHead run.store.files base run.out.written run.out_now.written
   -- the cause of every other status; 5 comes exactly where it has it, unless the store fails or memory is wanting
   pub cause : IfStopped run.status (DecodeStops (StoreFailed run) (OutputFailed run) run.store.files base)
   pub not_built : IsSome run.store.files → HasNoHead run.store.files base → StopsUnless run NotBuilt

@@ -10,9 +10,9 @@ ghost use Rattle.mg_dev.specs.declared.fault.Fault.TheVariants as fault;
 ghost use Rattle.mg_dev.specs.declared.part.Part.{Part as AnyPart};
 ghost use Rattle.mg_dev.specs.declared.part.Part.TheVariants as part;
 ghost use Rattle.mg_layout.specs.Stands.{ForSetBy, Stands};
-ghost use Rattle.mg_text.specs.Decoding.{Added};
+ghost use Rattle.mg_text.specs.Decoding.{Added, AddsOf};
 ghost use Rattle.mg_text.specs.Reading.{ShowIsNotBad};
-ghost use Rattle.mg_decode.specs.Decoded.{DecodesSet};
+ghost use Rattle.mg_decode.specs.Decoded.{DecodesSet, WithinHead};
 ghost use Rattle.mg_decode.specs.Outcomes.{DecodeStops, DoneUnlessFails, ShowRefused};
 
 use crate::documents::show_documents;
@@ -25,7 +25,8 @@ use std::alloc::Global;
 ///
 /// The head, the models, the text and its places are read, and no other part. Once the reader of the
 /// text is loaded no memory of its own is taken. After a refusal a prefix of the collection was
-/// written.
+/// written. Whatever the files hold, no more bytes are written than the head tells of the collection:
+/// where the text means more, it is damaged.
 pub fn decode<S: Store, O: Sink>(
     alloc: Global,
     store: &mut S,
@@ -59,6 +60,8 @@ fn decode_files<S: Store, O: Sink>(
     // Whatever the files hold, bytes are only added.
     ensures added { Added (O.written out.old) (O.written out.new) (O.faults out.old)
         (O.faults out.new) (O.lacks out.old) (O.lacks out.new) }
+    ensures bounded { IsSome (S.files store.old) →
+        WithinHead (S.files store.old) base.now (O.written out.old) (O.written out.new) }
     ensures silent { result ≡ Err fault.NotBuilt → O.written out.new ≡ O.written out.old }
     // The cause of each refusal.
     ensures cause { IfErr result (DecodeStops (Rose (S.faults store.old) (S.faults store.new))
@@ -103,15 +106,14 @@ fn show_set<S: Store, O: Sink>(
         (λ _ collection. AfterPut (O.written out.old) (O.written out.new) collection result) }
     ensures never_bad { ForSetBy head.now (S.files store.old) base.now
         (λ _ _. ShowIsNotBad result) }
-    ensures added { Added (O.written out.old) (O.written out.new) (O.faults out.old)
-        (O.faults out.new) (O.lacks out.old) (O.lacks out.new) }
+    ensures added { AddsOf O.written O.faults O.lacks out.old out.new head.now.collection 0 }
     ensures cause { ShowRefused S.faults store.old store.new O.written O.faults O.lacks out.old
         out.new result }
     ensures files { S.files store.new ≡ S.files store.old }
     ensures reads { (p : AnyPart) → 5 ≤ number p → S.reads store.new p ≡ S.reads store.old p }
     ensures later { S.faults store.old ≤ S.faults store.new }
 {
-    let mut buffer = match ShowBuffer::new(alloc) {
+    let mut buffer = match ShowBuffer::new(alloc, head.collection) {
         Ok(buffer) => buffer,
         Err(_) => return Err(ShowErr::Part(PartErr::Memory)),
     };

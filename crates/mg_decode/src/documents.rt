@@ -4,7 +4,7 @@ ghost use Rattle.mg_dev.specs.Moments.{Between};
 ghost use Rattle.mg_dev.specs.Streams.{AfterPut};
 ghost use Rattle.mg_dev.specs.declared.part.Part.TheVariants as part;
 ghost use Rattle.mg_front.specs.Reading.{LookedAt};
-ghost use Rattle.mg_text.specs.Decoding.{Added, IsShowCaused};
+ghost use Rattle.mg_text.specs.Decoding.{AddsOf, IsShowCaused, bytes_to_come};
 ghost use Rattle.mg_text.specs.Reading.{SameText, ShowIsNotBad, TextFits, TextStands};
 ghost use Rattle.mg_decode.specs.Documents.{IfShown, ForTextEnding, GathersClosed};
 
@@ -29,10 +29,8 @@ fn gather_closed<S: Store, O: Sink>(
         (LookedAt part.Text part.Places) }
     ensures content { IfShown reader.old (S.files store.old) (O.written out.old) buffer.old
         (GathersClosed number closed (O.written out.new) buffer.new result) }
-    ensures never_bad { (collection : List ℕ) →
-        TextStands reader.old (S.files store.old) collection → ShowIsNotBad result }
-    ensures added { Added (O.written out.old) (O.written out.new) (O.faults out.old)
-        (O.faults out.new) (O.lacks out.old) (O.lacks out.new) }
+    ensures added { AddsOf O.written O.faults O.lacks out.old out.new (bytes_to_come buffer.old)
+        (bytes_to_come buffer.new) }
     ensures cause { IsShowCaused result (S.faults store.old) (S.faults store.new) (O.faults out.old)
         (O.faults out.new) (O.lacks out.old) (O.lacks out.new) }
 {
@@ -43,13 +41,11 @@ fn gather_closed<S: Store, O: Sink>(
     if !closed {
         return Ok(());
     }
-    match buffer.put(out, &[2]) {
-        Ok(()) => Ok(()),
-        Err(refusal) => Err(refused_put(refusal)),
-    }
+    buffer.put(out, &[2])
 }
 
-/// Shows all documents of a text, each but an open last one with the byte that closes it.
+/// Shows all documents of a text, each but an open last one with the byte that closes it. The buffer
+/// holds nothing, and takes as many bytes as the text's collection has.
 pub fn show_documents<S: Store, O: Sink>(
     reader: &mut TextReader<'_, S>,
     store: &mut S,
@@ -60,15 +56,15 @@ pub fn show_documents<S: Store, O: Sink>(
 ) -> Result<(), ShowErr>
     requires fits { TextFits reader.old (S.files store.old) }
     requires documents { reader.old.documents ≡ documents }
-    requires empty { buffer.old ≡ [] }
+    requires empty { buffer.old.held ≡ [] }
     ensures looked { Between S.files S.reads S.faults store.old store.new
         (LookedAt part.Text part.Places) }
-    ensures content { ForTextEnding reader.old (S.files store.old) open_end
+    ensures content { ForTextEnding reader.old (S.files store.old) open_end buffer.old.left
         (λ collection. AfterPut (O.written out.old) (O.written out.new) collection result) }
-    ensures never_bad { (collection : List ℕ) →
-        TextStands reader.old (S.files store.old) collection → ShowIsNotBad result }
-    ensures added { Added (O.written out.old) (O.written out.new) (O.faults out.old)
-        (O.faults out.new) (O.lacks out.old) (O.lacks out.new) }
+    ensures never_bad { ForTextEnding reader.old (S.files store.old) open_end buffer.old.left
+        (λ _. ShowIsNotBad result) }
+    // Whatever the parts hold, no more bytes are added than the buffer takes.
+    ensures added { AddsOf O.written O.faults O.lacks out.old out.new buffer.old.left 0 }
     ensures cause { IsShowCaused result (S.faults store.old) (S.faults store.new) (O.faults out.old)
         (O.faults out.new) (O.lacks out.old) (O.lacks out.new) }
 {

@@ -1,5 +1,5 @@
 -- What of a document went to an empty sink in memory.
-use Rattle.std.proofs.Common.{arith, ◌≡◌, ◌≤◌, ℕ, List, [], ◌++◌, length, take, sym, ap, subst, ◌∙◌, Some, Ok, Err}
+use Rattle.std.proofs.Common.{arith, ◌≡◌, ◌≤◌, ◌-◌, ◌^◌, Option, ℕ, List, [], ◌++◌, length, take, sym, ap, subst, ◌∙◌, Some, Ok, Err}
 use Rattle.std.proofs.lemmas.Grind.{common_steps}
 use Rattle.std.specs.declared.result.Result.{Result}
 use Rattle.mg_dev.specs.Bads.{IsNotBad}
@@ -8,7 +8,10 @@ use Rattle.mg_dev.specs.declared.part_err.PartErr.{PartErr}
 use Rattle.mg_dev.specs.declared.part_err.PartErr.TheVariants.{Device, Memory, Bad}
 use Rattle.mg_dev.specs.declared.show_err.ShowErr.{ShowErr}
 use Rattle.mg_dev.specs.declared.show_err.ShowErr.TheVariants as show
-use Rattle.mg_text.specs.Reading.{ShowIsNotBad}
+use Rattle.mg_dev.specs.Files.{Files}
+use Rattle.mg_text.specs.Held.{HasShortDocument}
+use Rattle.mg_text.specs.Reading.{ShowIsNotBad, TextReading, TextStands}
+use Rattle.mg_text.proofs.StandLaws.{doc_short}
 
 inside : (x y : List ℕ) → Some x ≡ Some y → x ≡ y
 inside x y same = cc
@@ -40,3 +43,7 @@ pub part_not_bad : (refusal : PartErr) → ShowIsNotBad (Err (show.Part refusal)
 part_not_bad Device fine = tt
 part_not_bad Memory fine = tt
 part_not_bad (Bad bad) fine = fine
+
+-- no document has more bytes than a collection may have
+pub any_short : (r : TextReading) (files : Option Files) (number : ℕ) (collection : List ℕ) → TextStands r files collection → HasShortDocument r files number (2 ^ 32 - 1) collection
+any_short r files number collection stands = record { stands = stands; short = omega (arith, doc_short collection (number - 1), stands.few) }

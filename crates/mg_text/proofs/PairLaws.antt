@@ -1,5 +1,5 @@
 -- Pieces and pairs, one after the other.
-use Rattle.std.proofs.Common.{arith, ◌≡◌, ◌+◌, ◌^◌, ◌≤◌, ◌<◌, ℕ, suc, zero, List, [], ◌∷◌, ◌++◌, length, take, drop, get_or, Option, Err, refl, sym, ◌∙◌, ap, subst, length-append, append-nil, append_assoc, add-one, drop-cons, take-append-drop}
+use Rattle.std.proofs.Common.{arith, ◌≡◌, ◌+◌, ◌^◌, ◌≤◌, ◌<◌, ℕ, suc, zero, List, [], ◌∷◌, ◌++◌, length, take, drop, get_or, Option, Result, Ok, Err, refl, sym, ◌∙◌, ap, subst, length-append, append-nil, append_assoc, add-one, drop-cons, take-append-drop}
 use Rattle.std.proofs.lemmas.Option.{slice_get_within}
 use Rattle.std.proofs.lemmas.List.{take_more}
 use Rattle.std.proofs.lemmas.Grind.{flat_map-append}
@@ -19,7 +19,8 @@ use Rattle.mg_defs.specs.Parse.{Pair, parse, text}
 use Rattle.mg_defs.specs.Sorted.{number_of}
 use Rattle.mg_defs.proofs.FrontLaws.{shows_left, shows_right}
 use Rattle.mg_defs.proofs.ParseLaws.{parse-is}
-use Rattle.mg_text.specs.Decoding.{Decoded, Ends, IsIn, PairIn, PairsIn, Shown, Stopped, Takes, coded_pairs}
+use Rattle.mg_dev.specs.declared.show_err.ShowErr.{ShowErr}
+use Rattle.mg_text.specs.Decoding.{Decoded, Ends, Gathering, Gathers, IsIn, IsPutCaused, Keeps, PairIn, PairsIn, Shown, Stopped, Takes, coded_pairs}
 use Rattle.mg_text.proofs.Shows.{shown_held, shown_prefix}
 use Rattle.mg_text.proofs.Steps.{decoded_more, stopped_more, stopped_wider}
 
@@ -29,16 +30,32 @@ pub piece_number : (code : StreamCode) (piece : List ℕ) → IsIn code piece �
 piece_number code piece is = slice_get_within code.pieces (number_of code.pieces piece) piece is
 
 pub piece_refused : (T : Type 0) (refusal : PartErr) (whole : T → Type 0) (all : Type 0) (f0 f1 : Feeding) (d0 d1 : Seen) (from to : ℕ)
-    (w0 w1 : Option (List ℕ)) (held bytes piece : List ℕ) → Shown w0 w1 held bytes →
+    (w0 w1 : Option (List ℕ)) (b : Gathering) (bytes piece : List ℕ) {most : ℕ} → Shown w0 w1 b bytes most →
     Takes {T = T} (Err refusal) whole (ReadsWithin f0 f1 d0 d1 from to) → Ends (Err (show.Part refusal)) all (Stopped f0 f1 d0 d1 from to w0 w1 (bytes ++ piece))
-piece_refused T part.Device whole all f0 f1 d0 d1 from to w0 w1 held bytes piece shown pages = record { pages = pages; grew = grew_first w0 w1 bytes piece (shown_prefix w0 w1 held bytes shown) }
-piece_refused T part.Memory whole all f0 f1 d0 d1 from to w0 w1 held bytes piece shown pages = pages
-piece_refused T (part.Bad bad) whole all f0 f1 d0 d1 from to w0 w1 held bytes piece shown pages = pages
+piece_refused T part.Device whole all f0 f1 d0 d1 from to w0 w1 b bytes piece {most} shown pages = record { pages = pages; grew = grew_first w0 w1 bytes piece (shown_prefix w0 w1 b bytes shown) }
+piece_refused T part.Memory whole all f0 f1 d0 d1 from to w0 w1 b bytes piece {most} shown pages = pages
+piece_refused T (part.Bad bad) whole all f0 f1 d0 d1 from to w0 w1 b bytes piece {most} shown pages = pages
 
 -- a refused put
 pub put_refused : (refusal : PutErr) (all part : Type 0) → part → Ends (Err (show_of_put refusal)) all part
 put_refused put.Failed all p h = h
 put_refused put.Memory all p h = h
+
+-- the piece that was read is put: it may come, so it is not bad
+pub piece_put : (r : Result (Unit {0}) ShowErr) {f0 f1 : Feeding} {d0 d1 : Seen} {from to place : ℕ} (f g l m : ℕ) (w0 w1 w2 : Option (List ℕ)) (b b_now : Gathering)
+    (bytes piece : List ℕ) {most : ℕ} → place ≡ to → Read f0 f1 d0 d1 from to → Shown w0 w1 b bytes most → length (bytes ++ piece) ≤ most →
+    IsPutCaused r b.left (length piece) f g l m → Gathers r w0 w2 b_now (bytes ++ piece) most →
+    Ends r (Decoded f0 f1 d0 d1 from to place w0 w2 b_now (bytes ++ piece) most) (Stopped f0 f1 d0 d1 from to w0 w2 (bytes ++ piece))
+piece_put (Ok done) {f0} {f1} {d0} {d1} {from} {to} {place} f g l m w0 w1 w2 b b_now bytes piece {most} at read shown fits cause gathers =
+    record { at_end = at; read = read; shown = gathers }
+piece_put (Err (show.Part part.Device)) {f0} {f1} {d0} {d1} {from} {to} {place} f g l m w0 w1 w2 b b_now bytes piece {most} at read shown fits cause gathers = absurd cause
+piece_put (Err (show.Part part.Memory)) {f0} {f1} {d0} {d1} {from} {to} {place} f g l m w0 w1 w2 b b_now bytes piece {most} at read shown fits cause gathers = absurd cause
+piece_put (Err (show.Part (part.Bad bad))) {f0} {f1} {d0} {d1} {from} {to} {place} f g l m w0 w1 w2 b b_now bytes piece {most} at read shown fits cause gathers =
+    absurd (omega (arith, length-append bytes piece, shown.rest, fits, cause))
+piece_put (Err show.Write) {f0} {f1} {d0} {d1} {from} {to} {place} f g l m w0 w1 w2 b b_now bytes piece {most} at read shown fits cause gathers =
+    record { pages = read.pages; grew = gathers }
+piece_put (Err show.Memory) {f0} {f1} {d0} {d1} {from} {to} {place} f g l m w0 w1 w2 b b_now bytes piece {most} at read shown fits cause gathers =
+    record { pages = read.pages; grew = gathers }
 
 -- ---- one step behind another
 
@@ -46,28 +63,35 @@ pub shows_next : (old new : Feeding) (before now : Seen) (place next : ℕ) (x y
     Shows (old.source before.files) place (x ++ y) → Shows (new.source now.files) next y
 shows_next old new before now place next x y calm at shows = subst (λ t. Shows t next y) (sym (same_told old new before now calm)) (shows_right (old.source before.files) place next x y at shows)
 
-pub both_decoded : (f0 f1 f2 : Feeding) (d0 d1 d2 : Seen) (a p q : ℕ) (x y : Bits) (w0 w1 w2 : Option (List ℕ)) (held1 held2 bytes one two : List ℕ) → 0 < f0.page →
-    Decoded f0 f1 d0 d1 a (a + length x) p w0 w1 held1 (bytes ++ one) → Decoded f1 f2 d1 d2 p (p + length y) q w0 w2 held2 (bytes ++ one ++ two) →
-    Decoded f0 f2 d0 d2 a (a + length (x ++ y)) q w0 w2 held2 (bytes ++ (one ++ two))
-both_decoded f0 f1 f2 d0 d1 d2 a p q x y w0 w1 w2 held1 held2 bytes one two some first second =
+pub both_decoded : (f0 f1 f2 : Feeding) (d0 d1 d2 : Seen) (a p q : ℕ) (x y : Bits) (w0 w1 w2 : Option (List ℕ)) (b1 b2 : Gathering) (bytes one two : List ℕ) {most : ℕ} → 0 < f0.page →
+    Decoded f0 f1 d0 d1 a (a + length x) p w0 w1 b1 (bytes ++ one) most → Decoded f1 f2 d1 d2 p (p + length y) q w0 w2 b2 (bytes ++ one ++ two) most →
+    Decoded f0 f2 d0 d2 a (a + length (x ++ y)) q w0 w2 b2 (bytes ++ (one ++ two)) most
+both_decoded f0 f1 f2 d0 d1 d2 a p q x y w0 w1 w2 b1 b2 bytes one two {most} some first second =
     let at : p + length y ≡ a + length (x ++ y) = omega (arith, first.at_end, length-append x y) in
-    let moved : Decoded f1 f2 d1 d2 (a + length x) (a + length (x ++ y)) q w0 w2 held2 (bytes ++ (one ++ two)) =
-    subst (λ b. Decoded f1 f2 d1 d2 (a + length x) (a + length (x ++ y)) q w0 w2 held2 b) (append_assoc bytes one two)
-    (subst (λ n. Decoded f1 f2 d1 d2 n (a + length (x ++ y)) q w0 w2 held2 (bytes ++ one ++ two)) first.at_end
-    (subst (λ n. Decoded f1 f2 d1 d2 p n q w0 w2 held2 (bytes ++ one ++ two)) at second)) in
-    decoded_more f0 f1 f2 d0 d1 d2 a (a + length x) (a + length (x ++ y)) p q w0 w1 w2 held1 held2 (bytes ++ one) (bytes ++ (one ++ two)) some (omega arith)
+    let moved : Decoded f1 f2 d1 d2 (a + length x) (a + length (x ++ y)) q w0 w2 b2 (bytes ++ (one ++ two)) most =
+    subst (λ b. Decoded f1 f2 d1 d2 (a + length x) (a + length (x ++ y)) q w0 w2 b2 b most) (append_assoc bytes one two)
+    (subst (λ n. Decoded f1 f2 d1 d2 n (a + length (x ++ y)) q w0 w2 b2 (bytes ++ one ++ two) most) first.at_end
+    (subst (λ n. Decoded f1 f2 d1 d2 p n q w0 w2 b2 (bytes ++ one ++ two) most) at second)) in
+    decoded_more f0 f1 f2 d0 d1 d2 a (a + length x) (a + length (x ++ y)) p q w0 w1 w2 b1 b2 (bytes ++ one) (bytes ++ (one ++ two)) some (omega arith)
     (omega (arith, length-append x y)) first moved
 
-pub second_stopped : (f0 f1 f2 : Feeding) (d0 d1 d2 : Seen) (a p : ℕ) (x y : Bits) (w0 w1 w2 : Option (List ℕ)) (held1 bytes one two : List ℕ) → 0 < f0.page →
-    Decoded f0 f1 d0 d1 a (a + length x) p w0 w1 held1 (bytes ++ one) → Stopped f1 f2 d1 d2 p (p + length y) w0 w2 (bytes ++ one ++ two) →
+pub second_stopped : (f0 f1 f2 : Feeding) (d0 d1 d2 : Seen) (a p : ℕ) (x y : Bits) (w0 w1 w2 : Option (List ℕ)) (b1 : Gathering) (bytes one two : List ℕ) {most : ℕ} → 0 < f0.page →
+    Decoded f0 f1 d0 d1 a (a + length x) p w0 w1 b1 (bytes ++ one) most → Stopped f1 f2 d1 d2 p (p + length y) w0 w2 (bytes ++ one ++ two) →
     Stopped f0 f2 d0 d2 a (a + length (x ++ y)) w0 w2 (bytes ++ (one ++ two))
-second_stopped f0 f1 f2 d0 d1 d2 a p x y w0 w1 w2 held1 bytes one two some first second =
+second_stopped f0 f1 f2 d0 d1 d2 a p x y w0 w1 w2 b1 bytes one two {most} some first second =
     let at : p + length y ≡ a + length (x ++ y) = omega (arith, first.at_end, length-append x y) in
     let moved : Stopped f1 f2 d1 d2 (a + length x) (a + length (x ++ y)) w0 w2 (bytes ++ (one ++ two)) =
     subst (λ b. Stopped f1 f2 d1 d2 (a + length x) (a + length (x ++ y)) w0 w2 b) (append_assoc bytes one two)
     (subst (λ n. Stopped f1 f2 d1 d2 n (a + length (x ++ y)) w0 w2 (bytes ++ one ++ two)) first.at_end
     (subst (λ n. Stopped f1 f2 d1 d2 p n w0 w2 (bytes ++ one ++ two)) at second)) in
-    stopped_more f0 f1 f2 d0 d1 d2 a (a + length x) (a + length (x ++ y)) p w0 w1 w2 held1 (bytes ++ one) (bytes ++ (one ++ two)) some (omega arith) (omega (arith, length-append x y)) first moved
+    stopped_more f0 f1 f2 d0 d1 d2 a (a + length x) (a + length (x ++ y)) p w0 w1 w2 b1 (bytes ++ one) (bytes ++ (one ++ two)) some (omega arith) (omega (arith, length-append x y)) first moved
+
+-- of two pieces that may come the first may, and the second behind it
+pub first_fits : (bytes one two : List ℕ) (most : ℕ) → length (bytes ++ (one ++ two)) ≤ most → length (bytes ++ one) ≤ most
+first_fits bytes one two most fits = omega (arith, length-append bytes (one ++ two), length-append one two, length-append bytes one, fits)
+
+pub second_fits : (bytes one two : List ℕ) (most : ℕ) → length (bytes ++ (one ++ two)) ≤ most → length (bytes ++ one ++ two) ≤ most
+second_fits bytes one two most fits = omega (arith, ap length (append_assoc bytes one two), fits)
 
 pub first_stopped : (f0 f1 : Feeding) (d0 d1 : Seen) (a : ℕ) (x y : Bits) (w0 w1 : Option (List ℕ)) (bytes one two : List ℕ) → 0 < f0.page →
     Stopped f0 f1 d0 d1 a (a + length x) w0 w1 (bytes ++ one) → Stopped f0 f1 d0 d1 a (a + length (x ++ y)) w0 w1 (bytes ++ (one ++ two))
@@ -76,25 +100,26 @@ first_stopped f0 f1 d0 d1 a x y w0 w1 bytes one two some stopped =
     (stopped_wider f0 f1 d0 d1 a (a + length x) (a + length (x ++ y)) w0 w1 (bytes ++ one) two some (omega arith) (omega (arith, length-append x y)) stopped)
 
 -- both pieces of a pair were read and are held
-pub held_decoded : (f0 f1 f2 : Feeding) (d : Seen) (a p q : ℕ) (x y : Bits) (before sink : Option (List ℕ)) (held bytes found1 found2 one two : List ℕ) → 0 < f0.page →
-    p ≡ a + length x → Read f0 f1 d d a (a + length x) → q ≡ p + length y → Read f1 f2 d d p (p + length y) → found1 ≡ one → found2 ≡ two → Shown before sink held bytes →
-    Decoded f0 f2 d d a (a + length (x ++ y)) q before sink (held ++ (found1 ++ found2)) (bytes ++ (one ++ two))
-held_decoded f0 f1 f2 d a p q x y before sink held bytes found1 found2 one two some at1 read1 at2 read2 is1 is2 shown =
+pub held_decoded : (f0 f1 f2 : Feeding) (d : Seen) (a p q : ℕ) (x y : Bits) (before sink : Option (List ℕ)) (b b_now : Gathering) (bytes found1 found2 one two : List ℕ) {most : ℕ} → 0 < f0.page →
+    p ≡ a + length x → Read f0 f1 d d a (a + length x) → q ≡ p + length y → Read f1 f2 d d p (p + length y) → found1 ≡ one → found2 ≡ two →
+    Keeps b b_now (found1 ++ found2) → Shown before sink b bytes most →
+    Decoded f0 f2 d d a (a + length (x ++ y)) q before sink b_now (bytes ++ (one ++ two)) most
+held_decoded f0 f1 f2 d a p q x y before sink b b_now bytes found1 found2 one two {most} some at1 read1 at2 read2 is1 is2 keeps shown =
     let to : p + length y ≡ a + length (x ++ y) = omega (arith, at1, length-append x y) in
     let moved : Read f1 f2 d d (a + length x) (a + length (x ++ y)) = subst (λ n. Read f1 f2 d d n (a + length (x ++ y))) at1 (subst (λ n. Read f1 f2 d d p n) to read2) in
     record {
       at_end = omega (arith, at1, at2, length-append x y);
       read = read_more f0 f1 f2 d d d a (a + length x) (a + length (x ++ y)) some (omega arith) (omega (arith, length-append x y)) read1 moved;
-      shown = rw (is1, is2) (shown_held before sink held bytes (one ++ two) shown);
+      shown = shown_held before sink b b_now bytes (one ++ two) shown (subst (Keeps b b_now) (ap (λ l. l ++ found2) is1 ∙ ap (λ l. one ++ l) is2) keeps);
     }
 
 -- the same where the reader and what is held are as before
-pub decoded_same : (f0 f1 g1 : Feeding) (d0 d1 : Seen) (a to p q : ℕ) (w0 w1 : Option (List ℕ)) (held kept bytes : List ℕ) → g1 ≡ f1 → q ≡ p → kept ≡ held →
-    Decoded f0 f1 d0 d1 a to p w0 w1 held bytes → Decoded f0 g1 d0 d1 a to q w0 w1 kept bytes
-decoded_same f0 f1 g1 d0 d1 a to p q w0 w1 held kept bytes feed place same decoded =
-    subst (λ f. Decoded f0 f d0 d1 a to q w0 w1 kept bytes) (sym feed)
-    (subst (λ n. Decoded f0 f1 d0 d1 a to n w0 w1 kept bytes) (sym place)
-    (subst (λ h. Decoded f0 f1 d0 d1 a to p w0 w1 h bytes) (sym same) decoded))
+pub decoded_same : (f0 f1 g1 : Feeding) (d0 d1 : Seen) (a to p q : ℕ) (w0 w1 : Option (List ℕ)) (held kept : Gathering) (bytes : List ℕ) {most : ℕ} → g1 ≡ f1 → q ≡ p → kept ≡ held →
+    Decoded f0 f1 d0 d1 a to p w0 w1 held bytes most → Decoded f0 g1 d0 d1 a to q w0 w1 kept bytes most
+decoded_same f0 f1 g1 d0 d1 a to p q w0 w1 held kept bytes {most} feed place same decoded =
+    subst (λ f. Decoded f0 f d0 d1 a to q w0 w1 kept bytes most) (sym feed)
+    (subst (λ n. Decoded f0 f1 d0 d1 a to n w0 w1 kept bytes most) (sym place)
+    (subst (λ h. Decoded f0 f1 d0 d1 a to p w0 w1 h bytes most) (sym same) decoded))
 
 pub calm_same : (f0 f1 g1 : Feeding) (d0 d1 : Seen) → g1 ≡ f1 → Calm f0 f1 d0 d1 → Calm f0 g1 d0 d1
 calm_same f0 f1 g1 d0 d1 feed calm = subst (λ f. Calm f0 f d0 d1) (sym feed) calm
@@ -164,38 +189,54 @@ pair_small a place code ps i next at small =
 
 -- one pair more was decoded
 pub pairs_more : (f0 f1 f2 : Feeding) (d0 d1 d2 : Seen) (a p q : ℕ) (code : TextCode) (ps : List Pair) (i : ℕ) (w0 w1 w2 : Option (List ℕ))
-    (held1 held2 bytes : List ℕ) → 0 < f0.page → (next : NextPair code ps i) →
-    Decoded f0 f1 d0 d1 a (a + length (coded_pairs code (take i ps))) p w0 w1 held1 (bytes ++ text (take i ps)) →
-    Decoded f1 f2 d1 d2 p (p + length (coded_pair code next.pair)) q w0 w2 held2 (bytes ++ text (take i ps) ++ (next.pair.word ++ next.pair.other)) →
-    Decoded f0 f2 d0 d2 a (a + length (coded_pairs code (take (i + 1) ps))) q w0 w2 held2 (bytes ++ text (take (i + 1) ps))
-pairs_more f0 f1 f2 d0 d1 d2 a p q code ps i w0 w1 w2 held1 held2 bytes some next first second =
-    let both = both_decoded f0 f1 f2 d0 d1 d2 a p q (coded_pairs code (take i ps)) (coded_pair code next.pair) w0 w1 w2 held1 held2 bytes (text (take i ps))
+    (b1 b2 : Gathering) (bytes : List ℕ) {most : ℕ} → 0 < f0.page → (next : NextPair code ps i) →
+    Decoded f0 f1 d0 d1 a (a + length (coded_pairs code (take i ps))) p w0 w1 b1 (bytes ++ text (take i ps)) most →
+    Decoded f1 f2 d1 d2 p (p + length (coded_pair code next.pair)) q w0 w2 b2 (bytes ++ text (take i ps) ++ (next.pair.word ++ next.pair.other)) most →
+    Decoded f0 f2 d0 d2 a (a + length (coded_pairs code (take (i + 1) ps))) q w0 w2 b2 (bytes ++ text (take (i + 1) ps)) most
+pairs_more f0 f1 f2 d0 d1 d2 a p q code ps i w0 w1 w2 b1 b2 bytes {most} some next first second =
+    let both = both_decoded f0 f1 f2 d0 d1 d2 a p q (coded_pairs code (take i ps)) (coded_pair code next.pair) w0 w1 w2 b1 b2 bytes (text (take i ps))
     (next.pair.word ++ next.pair.other) some first second in
-    subst (λ t. Decoded f0 f2 d0 d2 a (a + length (coded_pairs code (take (i + 1) ps))) q w0 w2 held2 (bytes ++ t)) (sym (text_more code ps i next))
-    (subst (λ b. Decoded f0 f2 d0 d2 a (a + length b) q w0 w2 held2 (bytes ++ (text (take i ps) ++ (next.pair.word ++ next.pair.other)))) (sym (bits_more code ps i next)) both)
+    subst (λ t. Decoded f0 f2 d0 d2 a (a + length (coded_pairs code (take (i + 1) ps))) q w0 w2 b2 (bytes ++ t) most) (sym (text_more code ps i next))
+    (subst (λ b. Decoded f0 f2 d0 d2 a (a + length b) q w0 w2 b2 (bytes ++ (text (take i ps) ++ (next.pair.word ++ next.pair.other))) most) (sym (bits_more code ps i next)) both)
+
+-- the next pair may come where all pairs may
+pub pair_fits : (code : TextCode) (ps : List Pair) (i : ℕ) (bytes : List ℕ) (most : ℕ) → (next : NextPair code ps i) → length (bytes ++ text ps) ≤ most →
+    length (bytes ++ text (take i ps) ++ (next.pair.word ++ next.pair.other)) ≤ most
+pair_fits code ps i bytes most next fits =
+    let pair = next.pair.word ++ next.pair.other in
+    omega (
+      arith,
+      ap length (text_whole code ps i next),
+      length-append (text (take i ps)) (pair ++ text next.rest),
+      length-append pair (text next.rest),
+      length-append bytes (text ps),
+      length-append bytes (text (take i ps)),
+      length-append (bytes ++ text (take i ps)) pair,
+      fits,
+    )
 
 -- a pair was refused
 pub pairs_stopped : (f0 f1 f2 : Feeding) (d0 d1 d2 : Seen) (a p : ℕ) (code : TextCode) (ps : List Pair) (i : ℕ) (w0 w1 w2 : Option (List ℕ))
-    (held1 bytes : List ℕ) → 0 < f0.page → (next : NextPair code ps i) →
-    Decoded f0 f1 d0 d1 a (a + length (coded_pairs code (take i ps))) p w0 w1 held1 (bytes ++ text (take i ps)) →
+    (b1 : Gathering) (bytes : List ℕ) {most : ℕ} → 0 < f0.page → (next : NextPair code ps i) →
+    Decoded f0 f1 d0 d1 a (a + length (coded_pairs code (take i ps))) p w0 w1 b1 (bytes ++ text (take i ps)) most →
     Stopped f1 f2 d1 d2 p (p + length (coded_pair code next.pair)) w0 w2 (bytes ++ text (take i ps) ++ (next.pair.word ++ next.pair.other)) →
     Stopped f0 f2 d0 d2 a (a + length (coded_pairs code ps)) w0 w2 (bytes ++ text ps)
-pairs_stopped f0 f1 f2 d0 d1 d2 a p code ps i w0 w1 w2 held1 bytes some next first second =
+pairs_stopped f0 f1 f2 d0 d1 d2 a p code ps i w0 w1 w2 b1 bytes {most} some next first second =
     let one = text (take i ps) in
     let two = next.pair.word ++ next.pair.other in
     let both : Stopped f0 f2 d0 d2 a (a + length (coded_pairs code (take i ps) ++ coded_pair code next.pair)) w0 w2 (bytes ++ (one ++ two)) =
-    second_stopped f0 f1 f2 d0 d1 d2 a p (coded_pairs code (take i ps)) (coded_pair code next.pair) w0 w1 w2 held1 bytes one two some first second in
+    second_stopped f0 f1 f2 d0 d1 d2 a p (coded_pairs code (take i ps)) (coded_pair code next.pair) w0 w1 w2 b1 bytes one two some first second in
     let wide : Stopped f0 f2 d0 d2 a (a + length ((coded_pairs code (take i ps) ++ coded_pair code next.pair) ++ coded_pairs code next.rest)) w0 w2 (bytes ++ ((one ++ two) ++ text next.rest)) =
     first_stopped f0 f2 d0 d2 a (coded_pairs code (take i ps) ++ coded_pair code next.pair) (coded_pairs code next.rest) w0 w2 bytes (one ++ two) (text next.rest) some both in
     subst (λ t. Stopped f0 f2 d0 d2 a (a + length (coded_pairs code ps)) w0 w2 (bytes ++ t)) (append_assoc one two (text next.rest) ∙ sym (text_whole code ps i next))
     (subst (λ b. Stopped f0 f2 d0 d2 a (a + length b) w0 w2 (bytes ++ ((one ++ two) ++ text next.rest)))
     (append_assoc (coded_pairs code (take i ps)) (coded_pair code next.pair) (coded_pairs code next.rest) ∙ sym (bits_whole code ps i next)) wide)
 
-pub no_pairs : (f : Feeding) (d : Seen) (a : ℕ) (w0 w1 : Option (List ℕ)) (held bytes : List ℕ) → Shown w0 w1 held bytes → Decoded f f d d a (a + 0) a w0 w1 held (bytes ++ [])
-no_pairs f d a w0 w1 held bytes shown = record {
+pub no_pairs : (f : Feeding) (d : Seen) (a : ℕ) (w0 w1 : Option (List ℕ)) (b : Gathering) (bytes : List ℕ) {most : ℕ} → Shown w0 w1 b bytes most → Decoded f f d d a (a + 0) a w0 w1 b (bytes ++ []) most
+no_pairs f d a w0 w1 b bytes {most} shown = record {
   at_end = omega arith;
   read = subst (λ n. Read f f d d a n) (omega arith) (read_none f d a);
-  shown = subst (Shown w0 w1 held) (sym (append-nil bytes)) shown;
+  shown = subst (λ l. Shown w0 w1 b l most) (sym (append-nil bytes)) shown;
 }
 
 -- ---- a document
@@ -205,28 +246,28 @@ parse_text doc = (parse-is doc).whole
 
 -- its head was read and its pairs decoded
 pub doc_decoded : (f0 f1 f2 : Feeding) (d0 d1 d2 : Seen) (a p q : ℕ) (code : TextCode) (doc : List ℕ) (w0 w1 w2 : Option (List ℕ))
-    (held1 held2 bytes : List ℕ) → 0 < f0.page → p ≡ a + length (gamma (length (parse doc) + 1)) →
-    Shown w0 w1 held1 bytes → Read f0 f1 d0 d1 a (a + length (gamma (length (parse doc) + 1))) →
-    Decoded f1 f2 d1 d2 p (p + length (coded_pairs code (parse doc))) q w0 w2 held2 (bytes ++ text (parse doc)) →
-    Decoded f0 f2 d0 d2 a (a + length (coded_doc code doc)) q w0 w2 held2 (bytes ++ doc)
-doc_decoded f0 f1 f2 d0 d1 d2 a p q code doc w0 w1 w2 held1 held2 bytes some at shown head pairs =
-    let first : Decoded f0 f1 d0 d1 a (a + length (gamma (length (parse doc) + 1))) p w0 w1 held1 bytes = record { at_end = at; read = head; shown = shown } in
-    subst (λ t. Decoded f0 f2 d0 d2 a (a + length (coded_doc code doc)) q w0 w2 held2 (bytes ++ t)) (parse_text doc)
-    (both_decoded f0 f1 f2 d0 d1 d2 a p q (gamma (length (parse doc) + 1)) (coded_pairs code (parse doc)) w0 w1 w2 held1 held2 [] bytes (text (parse doc)) some first pairs)
+    (b1 b2 : Gathering) (bytes : List ℕ) {most : ℕ} → 0 < f0.page → p ≡ a + length (gamma (length (parse doc) + 1)) →
+    Shown w0 w1 b1 bytes most → Read f0 f1 d0 d1 a (a + length (gamma (length (parse doc) + 1))) →
+    Decoded f1 f2 d1 d2 p (p + length (coded_pairs code (parse doc))) q w0 w2 b2 (bytes ++ text (parse doc)) most →
+    Decoded f0 f2 d0 d2 a (a + length (coded_doc code doc)) q w0 w2 b2 (bytes ++ doc) most
+doc_decoded f0 f1 f2 d0 d1 d2 a p q code doc w0 w1 w2 b1 b2 bytes {most} some at shown head pairs =
+    let first : Decoded f0 f1 d0 d1 a (a + length (gamma (length (parse doc) + 1))) p w0 w1 b1 bytes most = record { at_end = at; read = head; shown = shown } in
+    subst (λ t. Decoded f0 f2 d0 d2 a (a + length (coded_doc code doc)) q w0 w2 b2 (bytes ++ t) most) (parse_text doc)
+    (both_decoded f0 f1 f2 d0 d1 d2 a p q (gamma (length (parse doc) + 1)) (coded_pairs code (parse doc)) w0 w1 w2 b1 b2 [] bytes (text (parse doc)) some first pairs)
 
 -- its head was read, and its pairs were refused
-pub doc_stopped : (f0 f1 f2 : Feeding) (d0 d1 d2 : Seen) (a p : ℕ) (code : TextCode) (doc : List ℕ) (w0 w1 w2 : Option (List ℕ)) (held1 bytes : List ℕ) →
+pub doc_stopped : (f0 f1 f2 : Feeding) (d0 d1 d2 : Seen) (a p : ℕ) (code : TextCode) (doc : List ℕ) (w0 w1 w2 : Option (List ℕ)) (b1 : Gathering) (bytes : List ℕ) {most : ℕ} →
     0 < f0.page → p ≡ a + length (gamma (length (parse doc) + 1)) →
-    Shown w0 w1 held1 bytes → Read f0 f1 d0 d1 a (a + length (gamma (length (parse doc) + 1))) → Stopped f1 f2 d1 d2 p (p + length (coded_pairs code (parse doc))) w0 w2 (bytes ++ text (parse doc)) →
+    Shown w0 w1 b1 bytes most → Read f0 f1 d0 d1 a (a + length (gamma (length (parse doc) + 1))) → Stopped f1 f2 d1 d2 p (p + length (coded_pairs code (parse doc))) w0 w2 (bytes ++ text (parse doc)) →
     Stopped f0 f2 d0 d2 a (a + length (coded_doc code doc)) w0 w2 (bytes ++ doc)
-doc_stopped f0 f1 f2 d0 d1 d2 a p code doc w0 w1 w2 held1 bytes some at shown head pairs =
-    let first : Decoded f0 f1 d0 d1 a (a + length (gamma (length (parse doc) + 1))) p w0 w1 held1 bytes = record { at_end = at; read = head; shown = shown } in
+doc_stopped f0 f1 f2 d0 d1 d2 a p code doc w0 w1 w2 b1 bytes {most} some at shown head pairs =
+    let first : Decoded f0 f1 d0 d1 a (a + length (gamma (length (parse doc) + 1))) p w0 w1 b1 bytes most = record { at_end = at; read = head; shown = shown } in
     subst (λ t. Stopped f0 f2 d0 d2 a (a + length (coded_doc code doc)) w0 w2 (bytes ++ t)) (parse_text doc)
-    (second_stopped f0 f1 f2 d0 d1 d2 a p (gamma (length (parse doc) + 1)) (coded_pairs code (parse doc)) w0 w1 w2 held1 [] bytes (text (parse doc)) some first pairs)
+    (second_stopped f0 f1 f2 d0 d1 d2 a p (gamma (length (parse doc) + 1)) (coded_pairs code (parse doc)) w0 w1 w2 b1 [] bytes (text (parse doc)) some first pairs)
 
 -- its head was refused
-pub head_stopped : (f0 f1 : Feeding) (d0 d1 : Seen) (a : ℕ) (code : TextCode) (doc : List ℕ) (w0 w1 : Option (List ℕ)) (held bytes : List ℕ) → 0 < f0.page → Shown w0 w1 held bytes →
+pub head_stopped : (f0 f1 : Feeding) (d0 d1 : Seen) (a : ℕ) (code : TextCode) (doc : List ℕ) (w0 w1 : Option (List ℕ)) (b : Gathering) (bytes : List ℕ) {most : ℕ} → 0 < f0.page → Shown w0 w1 b bytes most →
     ReadsWithin f0 f1 d0 d1 a (a + length (gamma (length (parse doc) + 1))) → Stopped f0 f1 d0 d1 a (a + length (coded_doc code doc)) w0 w1 (bytes ++ doc)
-head_stopped f0 f1 d0 d1 a code doc w0 w1 held bytes some shown pages =
-    let first : Stopped f0 f1 d0 d1 a (a + length (gamma (length (parse doc) + 1))) w0 w1 bytes = record { pages = pages; grew = shown_prefix w0 w1 held bytes shown } in
+head_stopped f0 f1 d0 d1 a code doc w0 w1 b bytes {most} some shown pages =
+    let first : Stopped f0 f1 d0 d1 a (a + length (gamma (length (parse doc) + 1))) w0 w1 bytes = record { pages = pages; grew = shown_prefix w0 w1 b bytes shown } in
     first_stopped f0 f1 d0 d1 a (gamma (length (parse doc) + 1)) (coded_pairs code (parse doc)) w0 w1 [] bytes doc some first

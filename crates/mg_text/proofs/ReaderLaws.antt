@@ -30,7 +30,7 @@ use Rattle.mg_defs.specs.Numbers.{eight, four}
 use Rattle.std.proofs.lemmas.Bool.Decides.{nat_tests}
 use Rattle.mg_text.proofs.Shows.{shown_prefix}
 use Rattle.mg_text.proofs.Steps.{ends_map, ends_read}
-use Rattle.mg_text.specs.Decoding.{Decoded, Ends, Shown, Stopped, Takes, WholeDoc}
+use Rattle.mg_text.specs.Decoding.{Decoded, Ends, Gathering, Shown, Stopped, Takes, WholeDoc}
 use Rattle.mg_text.specs.Places.{place_width}
 use Rattle.mg_text.specs.Reading.{AnswersDoc, AnswersGathered, AnswersReader, AnswersTextSizes, IsText, SameText, TextFits, TextReading, TextStands, stored_at, places_size}
 use Rattle.mg_text.specs.Decoding.{PairsIn}
@@ -103,10 +103,11 @@ doc_answered result f0 f1 d0 d1 from to more before w0 w1 doc page own le e ends
     (λ (h : Stopped f0 f1 d0 d1 from to w0 w1 doc). (h.grew, rw (← e) (text_reads f0 f1 d0 d1 from to more page own le h.pages))) ends
 
 gather_answered : (result : Result (Unit {0}) ShowErr) (f0 f1 : Feeding) (d0 d1 : Seen) (from to place more before : ℕ) (w0 w1 : Option (List ℕ))
-    (held bytes : List ℕ) → f0.page ≡ 4096 → f0.part ≡ Some part.Text → to ≤ more → d0.reads part.Text ≡ before →
-    Ends result (Decoded f0 f1 d0 d1 from to place w0 w1 held bytes) (Stopped f0 f1 d0 d1 from to w0 w1 bytes) → AnswersGathered result w0 w1 held bytes before (d1.reads part.Text) (pages from more)
-gather_answered result f0 f1 d0 d1 from to place more before w0 w1 held bytes page own le e ends =
-    ends_map result _ _ _ _ (λ (h : Decoded f0 f1 d0 d1 from to place w0 w1 held bytes). (h.shown, rw (← e) (text_reads f0 f1 d0 d1 from to more page own le h.read.pages)))
+    (b : Gathering) (bytes : List ℕ) (most : ℕ) → f0.page ≡ 4096 → f0.part ≡ Some part.Text → to ≤ more → d0.reads part.Text ≡ before →
+    Ends result (Decoded f0 f1 d0 d1 from to place w0 w1 b bytes most) (Stopped f0 f1 d0 d1 from to w0 w1 bytes) →
+    AnswersGathered result w0 w1 b bytes most before (d1.reads part.Text) (pages from more)
+gather_answered result f0 f1 d0 d1 from to place more before w0 w1 b bytes most page own le e ends =
+    ends_map result _ _ _ _ (λ (h : Decoded f0 f1 d0 d1 from to place w0 w1 b bytes most). (h.shown, rw (← e) (text_reads f0 f1 d0 d1 from to more page own le h.read.pages)))
     (λ (h : Stopped f0 f1 d0 d1 from to w0 w1 bytes). (h.grew, rw (← e) (text_reads f0 f1 d0 d1 from to more page own le h.pages))) ends
 
 -- the place was refused
@@ -114,11 +115,11 @@ pub place_refused : (T : Type 0) (refusal : PartErr) (whole : T → Type 0) (w :
     Takes {T = T} (Err refusal) whole (Unit {0}) → AnswersDoc (Err (show.Part refusal)) w w doc before now most
 place_refused T refusal whole w doc before now most same takes = ends_read refusal whole (Unit {0}) _ _ (λ u. (grew_nothing w doc, omega (arith, same))) takes
 
-pub gather_refused : (T : Type 0) (refusal : PartErr) (whole : T → Type 0) (w0 w1 : Option (List ℕ)) (held bytes doc : List ℕ) (before now most : ℕ) →
-    now ≡ before → Shown w0 w1 held bytes → Takes {T = T} (Err refusal) whole (Unit {0}) →
-    AnswersGathered (Err (show.Part refusal)) w0 w1 held (bytes ++ doc) before now most
-gather_refused T refusal whole w0 w1 held bytes doc before now most same shown takes = ends_read refusal whole (Unit {0}) _ _
-    (λ u. (grew_first w0 w1 bytes doc (shown_prefix w0 w1 held bytes shown), omega (arith, same))) takes
+pub gather_refused : (T : Type 0) (refusal : PartErr) (whole : T → Type 0) (w0 w1 : Option (List ℕ)) (b : Gathering) (bytes doc : List ℕ) (before now pages : ℕ) {most : ℕ} →
+    now ≡ before → Shown w0 w1 b bytes most → Takes {T = T} (Err refusal) whole (Unit {0}) →
+    AnswersGathered (Err (show.Part refusal)) w0 w1 b (bytes ++ doc) most before now pages
+gather_refused T refusal whole w0 w1 b bytes doc before now pages {most} same shown takes = ends_read refusal whole (Unit {0}) _ _
+    (λ u. (grew_first w0 w1 bytes doc (shown_prefix w0 w1 b bytes shown), omega (arith, same))) takes
 
 -- where the place of a document stands
 pub place_wanted : (r : TextReading) (files : Option Files) (collection : List ℕ) (number : ℕ) → TextStands r files collection → 1 ≤ number → number ≤ r.documents →
@@ -161,41 +162,41 @@ doc_at r files mid collection number from place feed stands some within same at 
 
 -- what is shown from the place of a document
 pub doc_told : (result : Result (Unit {0}) ShowErr) (r : TextReading) (files mid : Option Files) (collection : List ℕ) (number from place : ℕ) (feed : Paging)
-    (f1 : Feeding) (d0 d1 : Seen) (before : ℕ) (w0 w1 : Option (List ℕ)) →
+    (f1 : Feeding) (d0 d1 : Seen) (before most : ℕ) (w0 w1 : Option (List ℕ)) →
     TextStands r files collection → 1 ≤ number → number ≤ r.documents → mid ≡ files → from ≡ place_after r.code collection (number - 1) → place ≡ 8 * from →
-    feed ≡ r.text → r.text.part ≡ part.Text → d0.reads part.Text ≡ before →
-    ((doc : List ℕ) → PairsIn r.code (parse doc) → length (parse doc) < 2 ^ 32 → place + length (coded_doc r.code doc) ≤ 2 ^ 63 → Shows (told_at mid feed.name) place (coded_doc r.code doc) →
+    feed ≡ r.text → r.text.part ≡ part.Text → d0.reads part.Text ≡ before → length (get_or (documents collection) (number - 1) []) ≤ most →
+    ((doc : List ℕ) → PairsIn r.code (parse doc) → length (parse doc) < 2 ^ 32 → length doc ≤ most → place + length (coded_doc r.code doc) ≤ 2 ^ 63 → Shows (told_at mid feed.name) place (coded_doc r.code doc) →
     Ends result (WholeDoc (feeding_of 4096 feed) f1 d0 d1 place (place + length (coded_doc r.code doc)) w0 w1 doc)
     (Stopped (feeding_of 4096 feed) f1 d0 d1 place (place + length (coded_doc r.code doc)) w0 w1 doc)) →
     AnswersDoc result w0 w1 (get_or (documents collection) (number - 1) []) before (d1.reads part.Text) (pages (doc_range r.code collection number).from (doc_range r.code collection number).to)
-doc_told result r files mid collection number from place feed f1 d0 d1 before w0 w1 stands some within same at place_is fed own e told =
+doc_told result r files mid collection number from place feed f1 d0 d1 before most w0 w1 stands some within same at place_is fed own e short told =
     let doc = get_or (documents collection) (number - 1) [] in
     let stood = doc_at r files mid collection number from place feed stands some within same at place_is fed in
     let here : place ≡ 8 * place_after r.code collection (number - 1) = omega (arith, at, place_is) in
     subst (λ n. AnswersDoc result w0 w1 doc before (d1.reads part.Text) (pages n (8 * place_after r.code collection number))) here
     (doc_answered result (feeding_of 4096 feed) f1 d0 d1 place (place + length (coded_doc r.code doc)) (8 * place_after r.code collection number) before w0 w1
     doc refl (ap (λ (f : Paging). Some f.part) fed ∙ ap Some own) stood.ends e
-    (told doc stood.pairs stood.few stood.small stood.shows))
+    (told doc stood.pairs stood.few short stood.small stood.shows))
 
 -- what is gathered from the place of a document
 pub gather_told : (result : Result (Unit {0}) ShowErr) (r : TextReading) (files mid : Option Files) (collection : List ℕ) (number from place next : ℕ)
-    (feed : Paging) (f1 : Feeding) (d0 d1 : Seen) (before : ℕ) (w0 w1 w2 : Option (List ℕ)) (held0 held bytes : List ℕ) →
+    (feed : Paging) (f1 : Feeding) (d0 d1 : Seen) (before : ℕ) (w0 w1 w2 : Option (List ℕ)) (b0 b : Gathering) (bytes : List ℕ) {most : ℕ} →
     TextStands r files collection → 1 ≤ number → number ≤ r.documents → mid ≡ files → from ≡ place_after r.code collection (number - 1) → place ≡ 8 * from →
-    feed ≡ r.text → r.text.part ≡ part.Text → d0.reads part.Text ≡ before → Shown w0 w1 held0 bytes →
-    ((w : Option (List ℕ)) (bytes doc : List ℕ) → PairsIn r.code (parse doc) → length (parse doc) < 2 ^ 32 → place + length (coded_doc r.code doc) ≤ 2 ^ 63 →
-    Shows (told_at mid feed.name) place (coded_doc r.code doc) → Shown w w1 held0 bytes →
-    Ends result (Decoded (feeding_of 4096 feed) f1 d0 d1 place (place + length (coded_doc r.code doc)) next w w2 held (bytes ++ doc))
+    feed ≡ r.text → r.text.part ≡ part.Text → d0.reads part.Text ≡ before → Shown w0 w1 b0 bytes most → length (bytes ++ get_or (documents collection) (number - 1) []) ≤ most →
+    ((w : Option (List ℕ)) (bytes doc : List ℕ) (most : ℕ) → PairsIn r.code (parse doc) → length (parse doc) < 2 ^ 32 → place + length (coded_doc r.code doc) ≤ 2 ^ 63 →
+    Shows (told_at mid feed.name) place (coded_doc r.code doc) → Shown w w1 b0 bytes most → length (bytes ++ doc) ≤ most →
+    Ends result (Decoded (feeding_of 4096 feed) f1 d0 d1 place (place + length (coded_doc r.code doc)) next w w2 b (bytes ++ doc) most)
     (Stopped (feeding_of 4096 feed) f1 d0 d1 place (place + length (coded_doc r.code doc)) w w2 (bytes ++ doc))) →
-    AnswersGathered result w0 w2 held (bytes ++ get_or (documents collection) (number - 1) []) before (d1.reads part.Text)
+    AnswersGathered result w0 w2 b (bytes ++ get_or (documents collection) (number - 1) []) most before (d1.reads part.Text)
     (pages (doc_range r.code collection number).from (doc_range r.code collection number).to)
-gather_told result r files mid collection number from place next feed f1 d0 d1 before w0 w1 w2 held0 held bytes stands some within same at place_is fed own e shown told =
+gather_told result r files mid collection number from place next feed f1 d0 d1 before w0 w1 w2 b0 b bytes {most} stands some within same at place_is fed own e shown fits told =
     let doc = get_or (documents collection) (number - 1) [] in
     let stood = doc_at r files mid collection number from place feed stands some within same at place_is fed in
     let here : place ≡ 8 * place_after r.code collection (number - 1) = omega (arith, at, place_is) in
-    subst (λ n. AnswersGathered result w0 w2 held (bytes ++ doc) before (d1.reads part.Text) (pages n (8 * place_after r.code collection number))) here
+    subst (λ n. AnswersGathered result w0 w2 b (bytes ++ doc) most before (d1.reads part.Text) (pages n (8 * place_after r.code collection number))) here
     (gather_answered result (feeding_of 4096 feed) f1 d0 d1 place (place + length (coded_doc r.code doc)) next (8 * place_after r.code collection number) before
-    w0 w2 held (bytes ++ doc) refl (ap (λ (f : Paging). Some f.part) fed ∙ ap Some own) stood.ends e
-    (told w0 bytes doc stood.pairs stood.few stood.small stood.shows shown))
+    w0 w2 b (bytes ++ doc) most refl (ap (λ (f : Paging). Some f.part) fed ∙ ap Some own) stood.ends e
+    (told w0 bytes doc most stood.pairs stood.few stood.small stood.shows shown fits))
 
 -- the models were refused once the sizes were found to be right
 pub models_refused : (base : List ℕ) (files mid : Option Files) (head : Head) (refusal : PartErr) → mid ≡ files → AnswersTextSizes (stored_at files base head) (Ok tt) →

@@ -178,7 +178,7 @@ by_byte : (closes : Bool) (b n : ℕ) (docs : List (List ℕ)) (i : ℕ) → ((k
 by_byte true b n docs i h = closed_short n docs i h
 by_byte false b n docs i h = onto_short b n docs i h
 
-doc_short : (collection : List ℕ) (i : ℕ) → length (get_or (documents collection) i []) ≤ length collection
+pub doc_short : (collection : List ℕ) (i : ℕ) → length (get_or (documents collection) i []) ≤ length collection
 doc_short [] i = omega arith
 doc_short (b ∷ bytes) i = by_byte (b == 2) b (length bytes) (documents bytes) i (doc_short bytes)
 

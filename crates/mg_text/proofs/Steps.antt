@@ -9,20 +9,20 @@ use Rattle.mg_dev.specs.declared.show_err.ShowErr.{ShowErr}
 use Rattle.mg_dev.specs.declared.show_err.ShowErr.TheVariants as show
 use Rattle.mg_bits.specs.Feed.{Feeding, Device as Seen}
 use Rattle.mg_bits.proofs.CallerLemmas.{read_more, within_more, within_wider}
-use Rattle.mg_text.specs.Decoding.{Decoded, Ends, IsShowCaused, Stopped, Takes}
+use Rattle.mg_text.specs.Decoding.{Decoded, Ends, Gathering, IsPutCaused, IsShowCaused, Stopped, Takes}
 use Rattle.mg_text.specs.Reading.{ShowIsNotBad}
 
-pub decoded_more : (f0 f1 f2 : Feeding) (d0 d1 d2 : Seen) (a p q at_p at_q : ℕ) (w0 w1 w2 : Option (List ℕ)) (held1 held2 bytes more : List ℕ) → 0 < f0.page → a ≤ p → p ≤ q →
-    Decoded f0 f1 d0 d1 a p at_p w0 w1 held1 bytes → Decoded f1 f2 d1 d2 p q at_q w0 w2 held2 more → Decoded f0 f2 d0 d2 a q at_q w0 w2 held2 more
-decoded_more f0 f1 f2 d0 d1 d2 a p q at_p at_q w0 w1 w2 held1 held2 bytes more some le le2 one two = record {
+pub decoded_more : (f0 f1 f2 : Feeding) (d0 d1 d2 : Seen) (a p q at_p at_q : ℕ) (w0 w1 w2 : Option (List ℕ)) (b1 b2 : Gathering) (bytes more : List ℕ) {most : ℕ} → 0 < f0.page → a ≤ p → p ≤ q →
+    Decoded f0 f1 d0 d1 a p at_p w0 w1 b1 bytes most → Decoded f1 f2 d1 d2 p q at_q w0 w2 b2 more most → Decoded f0 f2 d0 d2 a q at_q w0 w2 b2 more most
+decoded_more f0 f1 f2 d0 d1 d2 a p q at_p at_q w0 w1 w2 b1 b2 bytes more {most} some le le2 one two = record {
   at_end = two.at_end;
   read = read_more f0 f1 f2 d0 d1 d2 a p q some le le2 one.read two.read;
   shown = two.shown;
 }
 
-pub stopped_more : (f0 f1 f2 : Feeding) (d0 d1 d2 : Seen) (a p q at_p : ℕ) (w0 w1 w2 : Option (List ℕ)) (held1 bytes more : List ℕ) → 0 < f0.page → a ≤ p → p ≤ q →
-    Decoded f0 f1 d0 d1 a p at_p w0 w1 held1 bytes → Stopped f1 f2 d1 d2 p q w0 w2 more → Stopped f0 f2 d0 d2 a q w0 w2 more
-stopped_more f0 f1 f2 d0 d1 d2 a p q at_p w0 w1 w2 held1 bytes more some le le2 one two = record {
+pub stopped_more : (f0 f1 f2 : Feeding) (d0 d1 d2 : Seen) (a p q at_p : ℕ) (w0 w1 w2 : Option (List ℕ)) (b1 : Gathering) (bytes more : List ℕ) {most : ℕ} → 0 < f0.page → a ≤ p → p ≤ q →
+    Decoded f0 f1 d0 d1 a p at_p w0 w1 b1 bytes most → Stopped f1 f2 d1 d2 p q w0 w2 more → Stopped f0 f2 d0 d2 a q w0 w2 more
+stopped_more f0 f1 f2 d0 d1 d2 a p q at_p w0 w1 w2 b1 bytes more {most} some le le2 one two = record {
   pages = within_more f0 f1 f2 d0 d1 d2 a p q some le le2 one.read.calm.part one.read.calm.page one.read.held one.read.pages two.pages;
   grew = two.grew;
 }
@@ -46,6 +46,15 @@ caused_more (Err (show.Part part.Memory)) s0 s1 s2 f0 f1 f2 l0 l1 l2 s f l cause
 caused_more (Err (show.Part (part.Bad bad))) s0 s1 s2 f0 f1 f2 l0 l1 l2 s f l cause = tt
 caused_more (Err show.Write) s0 s1 s2 f0 f1 f2 l0 l1 l2 s f l cause = rose_more f0 f1 f2 f cause
 caused_more (Err show.Memory) s0 s1 s2 f0 f1 f2 l0 l1 l2 s f l cause = rose_more l0 l1 l2 l cause
+
+-- what stopped a put stops a document
+pub put_caused : (r : Result (Unit {0}) ShowErr) (left size s t f g l m : ℕ) → IsPutCaused r left size f g l m → IsShowCaused r s t f g l m
+put_caused (Ok done) left size s t f g l m cause = tt
+put_caused (Err (show.Part part.Device)) left size s t f g l m cause = absurd cause
+put_caused (Err (show.Part part.Memory)) left size s t f g l m cause = cause
+put_caused (Err (show.Part (part.Bad bad))) left size s t f g l m cause = tt
+put_caused (Err show.Write) left size s t f g l m cause = cause
+put_caused (Err show.Memory) left size s t f g l m cause = cause
 
 pub ends_read : {T : Type 0} (refusal : PartErr) (whole : T → Type 0) (part all now : Type 0) → (part → now) → Takes {T = T} (Err refusal) whole part → Ends (Err (show.Part refusal)) all now
 ends_read part.Device whole p all now f takes = f takes

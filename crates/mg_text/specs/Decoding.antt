@@ -6,6 +6,7 @@ use Rattle.std.specs.declared.result.Result.{Result}
 use Rattle.std.specs.Prelude.{slice_get}
 use Rattle.mg_dev.specs.Causes.{Rose}
 use Rattle.mg_dev.specs.Files.{Files}
+use Rattle.mg_dev.specs.Moments.{SinkAt, sink_at}
 use Rattle.mg_dev.specs.Streams.{appended, GrewByPrefix}
 use Rattle.mg_dev.specs.declared.part_err.PartErr.{PartErr}
 use Rattle.mg_dev.specs.declared.part_err.PartErr.TheVariants.{Device, Memory, Bad}
@@ -36,19 +37,35 @@ coded_pairs code ps = flat_map (coded_pair code) ps
 
 -- ---- bytes on their way to a sink
 
--- bytes of which the first went to the sink, and the others are held
-pub record Shown (before now : Option (List ℕ)) (held bytes : List ℕ) : Type 0 where
+-- the bytes that a buffer holds, and how many it may still take
+pub record Gathering : Type 0 where
+  pub held : List ℕ
+  pub left : ℕ
+
+-- how many bytes may come of a buffer: those that it holds, and those that it may still take
+abbrev pub bytes_to_come : Gathering → ℕ
+bytes_to_come b = length b.held + b.left
+
+-- a piece is held behind what was so before, and counts of those that may still be taken
+pub record Keeps (old new : Gathering) (piece : List ℕ) : Type 0 where
+  pub held : new.held ≡ old.held ++ piece
+  pub left : length piece + new.left ≡ old.left
+
+-- bytes, of so many at most, of which the first went to the sink, and the others are held
+pub record Shown (before now : Option (List ℕ)) (b : Gathering) (bytes : List ℕ) (most : ℕ) : Type 0 where
   pub sent : List ℕ
   pub told : now ≡ appended before sent
-  pub whole : sent ++ held ≡ bytes
+  pub whole : sent ++ b.held ≡ bytes
+  pub rest : length bytes + b.left ≡ most
 
 -- a fact on the bytes that were shown behind what a sink told once, or are held
-abbrev pub ForShown : Option (List ℕ) → List ℕ → (Option (List ℕ) → List ℕ → Type 0) → Type 0
-ForShown now held fact = (before : Option (List ℕ)) (bytes : List ℕ) → Shown before now held bytes → fact before bytes
+abbrev pub ForShown : Option (List ℕ) → Gathering → (Option (List ℕ) → List ℕ → ℕ → Type 0) → Type 0
+ForShown now b fact = (before : Option (List ℕ)) (bytes : List ℕ) (most : ℕ) → Shown before now b bytes most →
+    fact before bytes most
 
 -- at `Ok` the bytes were shown or are held, else a prefix of them was shown
-abbrev pub Gathers : {T E : Type 0} → Result T E → Option (List ℕ) → Option (List ℕ) → List ℕ → List ℕ → Type 0
-Gathers result before now held bytes = MatchResult result (λ _. Shown before now held bytes)
+abbrev pub Gathers : {T E : Type 0} → Result T E → Option (List ℕ) → Option (List ℕ) → Gathering → List ℕ → ℕ → Type 0
+Gathers result before now b bytes most = MatchResult result (λ _. Shown before now b bytes most)
     (λ _. GrewByPrefix before now bytes)
 
 -- a sink's counts did not fall, and some bytes were added to what it tells
@@ -58,14 +75,27 @@ pub record Added (before now : Option (List ℕ)) (faults_before faults_now lack
   pub bytes : List ℕ
   pub told : now ≡ appended before bytes
 
+-- the same, and of so many bytes that might come, so many still may
+pub record AddedOf (most most_now : ℕ) (out out_now : SinkAt) : Type 0 where
+  pub faults : out.faults ≤ out_now.faults
+  pub lacks : out.lacks ≤ out_now.lacks
+  pub bytes : List ℕ
+  pub told : out_now.written ≡ appended out.written bytes
+  pub few : length bytes + most_now ≤ most
+
+-- the same by the functions that tell what a sink holds, its faults and its lacks
+abbrev pub AddsOf : {Out : Type 0} → (Out → Option (List ℕ)) → (Out → ℕ) → (Out → ℕ) → Out → Out → ℕ → ℕ → Type 0
+AddsOf written faults lacks out out_now most most_now = AddedOf most most_now (sink_at written faults lacks out)
+    (sink_at written faults lacks out_now)
+
 -- ---- steps
 
--- a range of bits was read and the reader stands at its end; the bytes that the bits code went to the sink or are held
-pub record Decoded (f0 f1 : Feeding) (d0 d1 : Seen) (from to place : ℕ) (w0 w1 : Option (List ℕ))
-    (held bytes : List ℕ) : Type 0 where
+-- a range of bits was read and the reader stands at its end; the bytes that the bits code, so many at most, went to the sink or are held
+pub record Decoded (f0 f1 : Feeding) (d0 d1 : Seen) (from to place : ℕ) (w0 w1 : Option (List ℕ)) (b : Gathering)
+    (bytes : List ℕ) (most : ℕ) : Type 0 where
   pub at_end : place ≡ to
   pub read : Read f0 f1 d0 d1 from to
-  pub shown : Shown w0 w1 held bytes
+  pub shown : Shown w0 w1 b bytes most
 
 -- only pages of a range of bits were read, and a prefix of the bytes that the bits code went to the sink
 pub record Stopped (f0 f1 : Feeding) (d0 d1 : Seen) (from to : ℕ) (w0 w1 : Option (List ℕ)) (bytes : List ℕ) : Type 0
@@ -111,16 +141,16 @@ abbrev pub ReadsHeld : {Fed T : Type 0} → (Fed → Feeding) → (Option Files 
 ReadsHeld feeding fits r r_now bits value found = (d : Seen) → fits d.files →
     ReadsCode feeding (λ (seen : Seen). seen) r r_now d d bits value (Ok found)
 
--- where bits stand at a reader's place and bytes were shown or are held: then those of the bits are so too and the reader stands behind them, or it stopped within them
+-- where bits stand at a reader's place, bytes were shown or are held, and those of the bits may come too: then these are so too and the reader stands behind them, or it stopped within them
 abbrev pub Decodes : {Fed Dev : Type 0} → (Fed → Feeding) → (Dev → Seen) → Reading Fed → Reading Fed → Dev → Dev →
-    Bits → Option (List ℕ) → Option (List ℕ) → Option (List ℕ) → List ℕ → List ℕ → List ℕ → List ℕ →
+    Bits → Option (List ℕ) → Option (List ℕ) → Option (List ℕ) → Gathering → Gathering → List ℕ → List ℕ → ℕ →
     Result (Unit {0}) ShowErr → Type 0
-Decodes feeding device r r_now d d_now bits before sent sent_now held held_now bytes bytes_now result =
+Decodes feeding device r r_now d d_now bits before sent sent_now b b_now bytes bytes_now most result =
     r.place + length bits ≤ 2 ^ 63 → Shows ((feeding r.feed).source (device d).files) r.place bits →
-    Shown before sent held bytes →
+    Shown before sent b bytes most → length bytes_now ≤ most →
     Ends result
     (Decoded (feeding r.feed) (feeding r_now.feed) (device d) (device d_now) r.place (r.place + length bits) r_now.place
-    before sent_now held_now bytes_now)
+    before sent_now b_now bytes_now most)
     (Stopped (feeding r.feed) (feeding r_now.feed) (device d) (device d_now) r.place (r.place + length bits) before
     sent_now bytes_now)
 
@@ -128,50 +158,51 @@ Decodes feeding device r r_now d d_now bits before sent sent_now held held_now b
 
 -- the piece of a code whose codeword stands at the reader's place
 abbrev pub ShowsPiece : {Fed Dev Out : Type 0} → (Fed → Feeding) → (Dev → Seen) → (Out → Option (List ℕ)) →
-    Reading Fed → Reading Fed → Dev → Dev → Out → Out → List ℕ → List ℕ → StreamCode → Result (Unit {0}) ShowErr →
-    Type 0
-ShowsPiece feeding device written r r_now d d_now out out_now held held_now code result =
-    (before : Option (List ℕ)) (bytes piece : List ℕ) → IsIn code piece →
-    Decodes feeding device r r_now d d_now (codeword_of code piece) before (written out) (written out_now) held held_now
-    bytes (bytes ++ piece) result
+    Reading Fed → Reading Fed → Dev → Dev → Out → Out → Gathering → Gathering → StreamCode →
+    Result (Unit {0}) ShowErr → Type 0
+ShowsPiece feeding device written r r_now d d_now out out_now b b_now code result =
+    (before : Option (List ℕ)) (bytes piece : List ℕ) (most : ℕ) → IsIn code piece →
+    Decodes feeding device r r_now d d_now (codeword_of code piece) before (written out) (written out_now) b b_now
+    bytes (bytes ++ piece) most result
 
 -- the pair whose codewords stand there
 abbrev pub ShowsPair : {Fed Dev Out : Type 0} → (Fed → Feeding) → (Dev → Seen) → (Out → Option (List ℕ)) → Reading Fed →
-    Reading Fed → Dev → Dev → Out → Out → List ℕ → List ℕ → TextCode → Result (Unit {0}) ShowErr → Type 0
-ShowsPair feeding device written r r_now d d_now out out_now held held_now code result =
-    (before : Option (List ℕ)) (bytes : List ℕ) (p : Pair) → PairIn code p →
-    Decodes feeding device r r_now d d_now (coded_pair code p) before (written out) (written out_now) held held_now
-    bytes (bytes ++ (p.word ++ p.other)) result
+    Reading Fed → Dev → Dev → Out → Out → Gathering → Gathering → TextCode → Result (Unit {0}) ShowErr → Type 0
+ShowsPair feeding device written r r_now d d_now out out_now b b_now code result =
+    (before : Option (List ℕ)) (bytes : List ℕ) (most : ℕ) (p : Pair) → PairIn code p →
+    Decodes feeding device r r_now d d_now (coded_pair code p) before (written out) (written out_now) b b_now
+    bytes (bytes ++ (p.word ++ p.other)) most result
 
 -- the same where the reader holds the bits: whatever device it agrees with and whatever sink there is, none is asked
-abbrev pub ShowsHeld : {Fed : Type 0} → (Fed → Feeding) → (Option Files → Type 0) → Reading Fed → Reading Fed → List ℕ →
-    List ℕ → TextCode → Type 0
-ShowsHeld feeding fits r r_now held held_now code = (d : Seen) (sink : Option (List ℕ)) → fits d.files →
-    ShowsPair feeding (λ (seen : Seen). seen) (λ (told : Option (List ℕ)). told) r r_now d d sink sink held held_now
+abbrev pub ShowsHeld : {Fed : Type 0} → (Fed → Feeding) → (Option Files → Type 0) → Reading Fed → Reading Fed → Gathering →
+    Gathering → TextCode → Type 0
+ShowsHeld feeding fits r r_now b b_now code = (d : Seen) (sink : Option (List ℕ)) → fits d.files →
+    ShowsPair feeding (λ (seen : Seen). seen) (λ (told : Option (List ℕ)). told) r r_now d d sink sink b b_now
     code (Ok tt)
 
 -- the pairs, so many, whose codewords stand there
 abbrev pub ShowsPairs : {Fed Dev Out : Type 0} → (Fed → Feeding) → (Dev → Seen) → (Out → Option (List ℕ)) →
-    Reading Fed → Reading Fed → Dev → Dev → Out → Out → List ℕ → List ℕ → TextCode → ℕ → Result (Unit {0}) ShowErr →
-    Type 0
-ShowsPairs feeding device written r r_now d d_now out out_now held held_now code count result =
-    (before : Option (List ℕ)) (bytes : List ℕ) (ps : List Pair) → PairsIn code ps → count ≡ length ps →
-    Decodes feeding device r r_now d d_now (coded_pairs code ps) before (written out) (written out_now) held held_now
-    bytes (bytes ++ text ps) result
+    Reading Fed → Reading Fed → Dev → Dev → Out → Out → Gathering → Gathering → TextCode → ℕ →
+    Result (Unit {0}) ShowErr → Type 0
+ShowsPairs feeding device written r r_now d d_now out out_now b b_now code count result =
+    (before : Option (List ℕ)) (bytes : List ℕ) (most : ℕ) (ps : List Pair) → PairsIn code ps → count ≡ length ps →
+    Decodes feeding device r r_now d d_now (coded_pairs code ps) before (written out) (written out_now) b b_now
+    bytes (bytes ++ text ps) most result
 
 -- the document whose bits stand there
 abbrev pub ShowsDoc : {Fed Dev Out : Type 0} → (Fed → Feeding) → (Dev → Seen) → (Out → Option (List ℕ)) → Reading Fed →
-    Reading Fed → Dev → Dev → Out → Out → List ℕ → List ℕ → TextCode → Result (Unit {0}) ShowErr → Type 0
-ShowsDoc feeding device written r r_now d d_now out out_now held held_now code result =
-    (before : Option (List ℕ)) (bytes doc : List ℕ) → PairsIn code (parse doc) → length (parse doc) < 2 ^ 32 →
-    Decodes feeding device r r_now d d_now (coded_doc code doc) before (written out) (written out_now) held held_now
-    bytes (bytes ++ doc) result
-
--- that document, whole and nothing else, or the first of its bytes
-abbrev pub ShowsWhole : {Fed Dev Out : Type 0} → (Fed → Feeding) → (Dev → Seen) → (Out → Option (List ℕ)) →
-    Reading Fed → Reading Fed → Dev → Dev → Out → Out → TextCode → Result (Unit {0}) ShowErr → Type 0
-ShowsWhole feeding device written r r_now d d_now out out_now code result = (doc : List ℕ) → PairsIn code (parse doc) →
+    Reading Fed → Dev → Dev → Out → Out → Gathering → Gathering → TextCode → Result (Unit {0}) ShowErr → Type 0
+ShowsDoc feeding device written r r_now d d_now out out_now b b_now code result =
+    (before : Option (List ℕ)) (bytes doc : List ℕ) (most : ℕ) → PairsIn code (parse doc) →
     length (parse doc) < 2 ^ 32 →
+    Decodes feeding device r r_now d d_now (coded_doc code doc) before (written out) (written out_now) b b_now
+    bytes (bytes ++ doc) most result
+
+-- that document, if it has at most so many bytes: whole and nothing else, or the first of its bytes
+abbrev pub ShowsWhole : {Fed Dev Out : Type 0} → (Fed → Feeding) → (Dev → Seen) → (Out → Option (List ℕ)) →
+    Reading Fed → Reading Fed → Dev → Dev → Out → Out → ℕ → TextCode → Result (Unit {0}) ShowErr → Type 0
+ShowsWhole feeding device written r r_now d d_now out out_now most code result = (doc : List ℕ) →
+    PairsIn code (parse doc) → length (parse doc) < 2 ^ 32 → length doc ≤ most →
     r.place + length (coded_doc code doc) ≤ 2 ^ 63 →
     Shows ((feeding r.feed).source (device d).files) r.place (coded_doc code doc) → Ends result
     (WholeDoc (feeding r.feed) (feeding r_now.feed) (device d) (device d_now) r.place
@@ -189,6 +220,21 @@ IsShowCaused (Err (show.Part Memory)) s t f g l m = ⊥
 IsShowCaused (Err (show.Part (Bad bad))) s t f g l m = Unit {0}
 IsShowCaused (Err show.Write) s t f g l m = Rose f g
 IsShowCaused (Err show.Memory) s t f g l m = Rose l m
+
+-- so many bytes that are put into a buffer which may take so many: more is bad, and the sink's failure and its want of memory each have a cause
+abbrev pub IsPutCaused : Result (Unit {0}) ShowErr → ℕ → ℕ → ℕ → ℕ → ℕ → ℕ → Type 0
+IsPutCaused (Ok done) left size f g l m = Unit {0}
+IsPutCaused (Err (show.Part Device)) left size f g l m = ⊥
+IsPutCaused (Err (show.Part Memory)) left size f g l m = ⊥
+IsPutCaused (Err (show.Part (Bad bad))) left size f g l m = left < size
+IsPutCaused (Err show.Write) left size f g l m = Rose f g
+IsPutCaused (Err show.Memory) left size f g l m = Rose l m
+
+-- the same by the functions that tell a sink's faults and lacks, of a piece
+abbrev pub PutCaused : {Out : Type 0} → (Out → ℕ) → (Out → ℕ) → Out → Out → Gathering → List ℕ →
+    Result (Unit {0}) ShowErr → Type 0
+PutCaused faults lacks out out_now b piece result = IsPutCaused result b.left (length piece) (faults out)
+    (faults out_now) (lacks out) (lacks out_now)
 
 -- the same by the functions that tell a sink's faults and lacks
 abbrev pub ShowCaused : {Out : Type 0} → (Out → ℕ) → (Out → ℕ) → Out → Out → ℕ → ℕ → Result (Unit {0}) ShowErr → Type 0

@@ -11,6 +11,11 @@ pub record HasShortDocument (r : TextReading) (files : Option Files) (number mos
     pub stands : TextStands r files collection
     pub short : length (document collection number) ≤ most
 
+-- a fact on each such collection
+abbrev pub WhereShort : TextReading → Option Files → ℕ → ℕ → (List ℕ → Type 0) → Type 0
+WhereShort r files number most fact = (collection : List ℕ) → HasShortDocument r files number most collection →
+    fact collection
+
 -- a fact on that document, for each such collection
 abbrev pub ForShortDocument : TextReading → Option Files → ℕ → ℕ → (List ℕ → Type 0) → Type 0
 ForShortDocument r files number most fact = (collection : List ℕ) → HasShortDocument r files number most collection →

@@ -28,7 +28,7 @@ use Rattle.mg_layout.specs.declared.head.Head.{Head}
 use Rattle.mg_model.specs.Damage.{AnswersLoad}
 use Rattle.mg_defs.specs.Means.{IsModel, Tell}
 use Rattle.mg_model.specs.Models.{PartsStand}
-use Rattle.mg_text.specs.Decoding.{Ends, Gathers, Shown}
+use Rattle.mg_text.specs.Decoding.{Ends, Gathering, Gathers, Shown}
 use Rattle.mg_text_writer.specs.Documents.{TextHolds}
 use Rattle.mg_text.specs.Places.{most_text, place_width}
 
@@ -193,11 +193,11 @@ AnswersDoc result before now doc reads_before reads_now most =
     (GrewByPrefix before now doc × (reads_now ≤ reads_before + most))
 
 -- the document was shown or is held behind what was so before, or a prefix was shown; and so many reads of the text at most were added
-abbrev pub AnswersGathered : Result (Unit {0}) ShowErr → Option (List ℕ) → Option (List ℕ) → List ℕ → List ℕ → ℕ → ℕ →
-    ℕ → Type 0
-AnswersGathered result before now held bytes reads_before reads_now most =
-    Ends result (Shown before now held bytes × (reads_now ≤ reads_before + most))
-    (GrewByPrefix before now bytes × (reads_now ≤ reads_before + most))
+abbrev pub AnswersGathered : Result (Unit {0}) ShowErr → Option (List ℕ) → Option (List ℕ) → Gathering → List ℕ → ℕ →
+    ℕ → ℕ → ℕ → Type 0
+AnswersGathered result before now b bytes most reads_before reads_now most_reads =
+    Ends result (Shown before now b bytes most × (reads_now ≤ reads_before + most_reads))
+    (GrewByPrefix before now bytes × (reads_now ≤ reads_before + most_reads))
 
 -- a fact on the collection whose text and places the parts of a reader are
 abbrev pub WhereTextStands : TextReading → Option Files → (List ℕ → Type 0) → Type 0
@@ -217,28 +217,31 @@ abbrev pub PagesOfDocument : TextReading → ℕ → Reads → Reads → List �
 PagesOfDocument r number reads reads_now collection = reads_now part.Text
     ≤ reads part.Text + document_pages r.code collection number
 
--- where the parts stand: a document is shown or is held behind what was so before, or a prefix is shown
-abbrev pub GathersDoc : TextReading → Option Files → Option (List ℕ) → Option (List ℕ) → List ℕ → List ℕ → ℕ →
+-- where the parts stand and a document may come behind what was shown or is held: it is so too, or a prefix is shown
+abbrev pub GathersDoc : TextReading → Option Files → Option (List ℕ) → Option (List ℕ) → Gathering → Gathering → ℕ →
     Result (Unit {0}) ShowErr → Type 0
-GathersDoc r files sent sent_now held held_now number result = (collection : List ℕ) (before : Option (List ℕ))
-    (bytes : List ℕ) →
-    TextStands r files collection → Shown before sent held bytes →
-    Gathers result before sent_now held_now (bytes ++ document collection number)
+GathersDoc r files sent sent_now b b_now number result = (collection : List ℕ) (before : Option (List ℕ))
+    (bytes : List ℕ) (most : ℕ) →
+    TextStands r files collection → Shown before sent b bytes most →
+    length (bytes ++ document collection number) ≤ most →
+    Gathers result before sent_now b_now (bytes ++ document collection number) most
 
 -- that, and no more pages of the text are read than its bits lie on
 abbrev pub GathersWithin : {X Y : Type 0} → (X → Option Files) → (X → Reads) → (Y → Option (List ℕ)) → TextReading → X →
-    X → Y → Y → List ℕ → List ℕ → ℕ → Result (Unit {0}) ShowErr → Type 0
-GathersWithin files reads written r store store_now out out_now held held_now number result =
-    (collection : List ℕ) (before : Option (List ℕ)) (bytes : List ℕ) →
-    TextStands r (files store) collection → Shown before (written out) held bytes →
-    AnswersGathered result before (written out_now) held_now (bytes ++ document collection number)
+    X → Y → Y → Gathering → Gathering → ℕ → Result (Unit {0}) ShowErr → Type 0
+GathersWithin files reads written r store store_now out out_now b b_now number result =
+    (collection : List ℕ) (before : Option (List ℕ)) (bytes : List ℕ) (most : ℕ) →
+    TextStands r (files store) collection → Shown before (written out) b bytes most →
+    length (bytes ++ document collection number) ≤ most →
+    AnswersGathered result before (written out_now) b_now (bytes ++ document collection number) most
     (reads store part.Text) (reads store_now part.Text) (document_pages r.code collection number)
 
--- where the parts stand: a document is written, or a prefix of it, and no more pages of the text are read than its bits lie on
+-- where the parts stand and a document has at most so many bytes: it is written, or a prefix of it, and no more pages of the text are read than its bits lie on
 abbrev pub ShowsWithin : {X Y : Type 0} → (X → Option Files) → (X → Reads) → (Y → Option (List ℕ)) → TextReading → X →
-    X → Y → Y → ℕ → Result (Unit {0}) ShowErr → Type 0
-ShowsWithin files reads written r store store_now out out_now number result = WhereTextStands r (files store)
-    (λ collection. AnswersDoc result (written out) (written out_now) (document collection number)
+    X → Y → Y → ℕ → ℕ → Result (Unit {0}) ShowErr → Type 0
+ShowsWithin files reads written r store store_now out out_now number most result = WhereTextStands r (files store)
+    (λ collection. length (document collection number) ≤ most →
+    AnswersDoc result (written out) (written out_now) (document collection number)
     (reads store part.Text) (reads store_now part.Text) (document_pages r.code collection number))
 
 -- no part is bad

@@ -5,7 +5,7 @@ ghost use Rattle.mg_bits.specs.Feed.{Calm};
 ghost use Rattle.mg_defs.specs.CodedText.{codeword_of};
 ghost use Rattle.mg_defs.specs.Marks.{code_of};
 ghost use Rattle.mg_model.specs.Blocks.{short_piece};
-ghost use Rattle.mg_text.specs.Decoding.{Added, IsIn, ReadsHeld, ShowsPiece, ShowsHeld, ShowsPairs, ShowsWhole, ShowCaused, ShowsPair, ShowsDoc};
+ghost use Rattle.mg_text.specs.Decoding.{AddsOf, IsIn, ReadsHeld, ShowsPiece, ShowsHeld, ShowsPairs, ShowsWhole, ShowCaused, ShowsPair, ShowsDoc, bytes_to_come};
 
 use crate::show_buffer::ShowBuffer;
 use crate::symbols::{get_count, get_symbol, held_symbol};
@@ -29,21 +29,15 @@ fn show_piece<F: Feed, O: Sink>(
         (F.device dev.new) }
     ensures told { ShowsPiece F.feeding F.device O.written r.old r.new dev.old dev.new out.old
         out.new buffer.old buffer.new (code_of stream model.now) result }
-    ensures added { Added (O.written out.old) (O.written out.new) (O.faults out.old)
-        (O.faults out.new) (O.lacks out.old) (O.lacks out.new) }
+    ensures added { AddsOf O.written O.faults O.lacks out.old out.new (bytes_to_come buffer.old)
+        (bytes_to_come buffer.new) }
     ensures cause { ShowCaused O.faults O.lacks out.old out.new (F.device dev.old).faults
         (F.device dev.new).faults result }
 {
     match get_symbol(model.canon(stream), r, dev) {
         Ok(symbol) => match model.short_piece(stream, symbol) {
-            Some(entry) => match buffer.put_short(out, entry) {
-                Ok(()) => Ok(()),
-                Err(refusal) => Err(refused_put(refusal)),
-            },
-            None => match buffer.put(out, model.piece(stream, symbol)) {
-                Ok(()) => Ok(()),
-                Err(refusal) => Err(refused_put(refusal)),
-            },
+            Some(entry) => buffer.put_short(out, entry),
+            None => buffer.put(out, model.piece(stream, symbol)),
         },
         Err(refusal) => Err(ShowErr::Part(refusal)),
     }
@@ -65,8 +59,8 @@ fn show_pair<F: Feed, O: Sink>(
         (F.device dev.new) }
     ensures told { ShowsPair F.feeding F.device O.written r.old r.new dev.old dev.new out.old
         out.new buffer.old buffer.new model.now result }
-    ensures added { Added (O.written out.old) (O.written out.new) (O.faults out.old)
-        (O.faults out.new) (O.lacks out.old) (O.lacks out.new) }
+    ensures added { AddsOf O.written O.faults O.lacks out.old out.new (bytes_to_come buffer.old)
+        (bytes_to_come buffer.new) }
     ensures cause { ShowCaused O.faults O.lacks out.old out.new (F.device dev.old).faults
         (F.device dev.new).faults result }
 {
@@ -114,6 +108,7 @@ fn hold_next<F: Feed>(model: &TextModel, r: &mut BitReader<F>, buffer: &mut Show
     ensures told { OnTrue result (ShowsHeld F.feeding (F.fits r.old.feed) r.old r.new buffer.old
         buffer.new model.now) }
     ensures kept { OnFalse result (buffer.new ≡ buffer.old) }
+    ensures most { bytes_to_come buffer.new ≤ bytes_to_come buffer.old }
 {
     let word = match held_entry(model, Stream::Words, r) {
         Some(entry) => entry,
@@ -136,6 +131,7 @@ fn show_held<F: Feed>(model: &TextModel, r: &mut BitReader<F>, buffer: &mut Show
         buffer.new model.now) }
     ensures place { OnFalse result (r.new.place ≡ r.old.place) }
     ensures kept { OnFalse result (buffer.new ≡ buffer.old) }
+    ensures most { bytes_to_come buffer.new ≤ bytes_to_come buffer.old }
 {
     let start = r.place();
     if hold_next(model, r, buffer) {
@@ -160,8 +156,8 @@ fn show_pairs<F: Feed, O: Sink>(
         (F.device dev.new) }
     ensures told { ShowsPairs F.feeding F.device O.written r.old r.new dev.old dev.new out.old
         out.new buffer.old buffer.new model.now count result }
-    ensures added { Added (O.written out.old) (O.written out.new) (O.faults out.old)
-        (O.faults out.new) (O.lacks out.old) (O.lacks out.new) }
+    ensures added { AddsOf O.written O.faults O.lacks out.old out.new (bytes_to_come buffer.old)
+        (bytes_to_come buffer.new) }
     ensures cause { ShowCaused O.faults O.lacks out.old out.new (F.device dev.old).faults
         (F.device dev.new).faults result }
 {
@@ -191,8 +187,8 @@ pub fn gather_doc<F: Feed, O: Sink>(
         (F.device dev.new) }
     ensures told { ShowsDoc F.feeding F.device O.written r.old r.new dev.old dev.new out.old out.new
         buffer.old buffer.new model.now result }
-    ensures added { Added (O.written out.old) (O.written out.new) (O.faults out.old)
-        (O.faults out.new) (O.lacks out.old) (O.lacks out.new) }
+    ensures added { AddsOf O.written O.faults O.lacks out.old out.new (bytes_to_come buffer.old)
+        (bytes_to_come buffer.new) }
     ensures cause { ShowCaused O.faults O.lacks out.old out.new (F.device dev.old).faults
         (F.device dev.new).faults result }
 {
@@ -207,7 +203,7 @@ pub fn gather_doc<F: Feed, O: Sink>(
 }
 
 /// Shows the document whose bits stand at the place, and no byte behind it. The buffer holds
-/// nothing.
+/// nothing, and takes as many bytes as the document may have.
 pub fn show_doc<F: Feed, O: Sink>(
     model: &TextModel,
     r: &mut BitReader<F>,
@@ -216,14 +212,14 @@ pub fn show_doc<F: Feed, O: Sink>(
     out: &mut O,
 ) -> Result<(), ShowErr>
     requires fits { F.fits r.old.feed (F.device dev.old).files }
-    requires empty { buffer.old ≡ [] }
+    requires empty { buffer.old.held ≡ [] }
     ensures fits { F.fits r.new.feed (F.device dev.new).files }
     ensures calm { Calm (F.feeding r.old.feed) (F.feeding r.new.feed) (F.device dev.old)
         (F.device dev.new) }
     ensures told { ShowsWhole F.feeding F.device O.written r.old r.new dev.old dev.new out.old
-        out.new model.now result }
-    ensures added { Added (O.written out.old) (O.written out.new) (O.faults out.old)
-        (O.faults out.new) (O.lacks out.old) (O.lacks out.new) }
+        out.new buffer.old.left model.now result }
+    ensures added { AddsOf O.written O.faults O.lacks out.old out.new (bytes_to_come buffer.old)
+        (bytes_to_come buffer.new) }
     ensures cause { ShowCaused O.faults O.lacks out.old out.new (F.device dev.old).faults
         (F.device dev.new).faults result }
 {

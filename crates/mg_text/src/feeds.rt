@@ -34,7 +34,7 @@ impl<'a, S: Store> Feeds<'a, S> {
         Ok(Feeds {
             text: PageFeed::new(alloc, text)?,
             places: PageFeed::new(alloc, places)?,
-            buffer: ShowBuffer::new(alloc)?,
+            buffer: ShowBuffer::new(alloc, 0)?,
         })
     }
 }

@@ -6,9 +6,11 @@ ghost use Rattle.mg_dev.specs.declared.part.Part.TheVariants as part;
 ghost use Rattle.mg_defs.specs.PagesOf.{pages};
 ghost use Rattle.mg_defs.specs.Split.{documents};
 ghost use Rattle.mg_front.specs.Reading.{IsNotBad, LookedAt};
-ghost use Rattle.mg_text.specs.Decoding.{Added, IsShowCaused};
+ghost use Rattle.mg_text.specs.Decoding.{Added, AddsOf, IsShowCaused, bytes_to_come};
+ghost use Rattle.mg_text.specs.Held.{ForShortDocument, WhereShort};
 ghost use Rattle.mg_text.specs.Reading.{AnswersReader, AnswersTextSizes, IsTextReader, SameText, ShowIsNotBad, TextFits, TextStands, stored_at, WhereIsText, GathersDoc, DiffersInSize, GathersWithin, WhereTextStands, PagesOfDocument, ShowsWithin, WritesDocument};
 ghost use Rattle.mg_dev.specs.Moments.{Between};
+ghost use Rattle.mg_dev.specs.Streams.{AfterPut};
 
 use crate::decoder::{gather_doc, show_doc};
 use crate::feeds::Feeds;
@@ -20,6 +22,9 @@ use mg_layout::{Head, expect_size};
 use mg_model::TextModel;
 use std::alloc::{AllocError, Global};
 use std::marker::Model;
+
+/// The most bytes of a document: no collection has more.
+const GREATEST: u64 = (1 << 32) - 1;
 
 /// Shows the documents of a collection.
 ///
@@ -168,8 +173,8 @@ impl<'a, S: Store> TextReader<'a, S> {
     /// # Errors
     ///
     /// `Part` where the store failed, or with `Bad` where the place or the bits of the document are
-    /// damaged, and never for want of memory; `Write` where the sink failed; `Memory` where the sink
-    /// lacked it.
+    /// damaged or tell of more bytes than any collection has, and never for want of memory; `Write`
+    /// where the sink failed; `Memory` where the sink lacked it.
     pub fn doc<O: Sink>(&mut self, store: &mut S, number: u32, out: &mut O) -> Result<(), ShowErr>
         requires fits { TextFits self.old (S.files store.old) }
         requires some { 1 ≤ number }
@@ -191,7 +196,44 @@ impl<'a, S: Store> TextReader<'a, S> {
             (O.faults out.old) (O.faults out.new)
             (O.lacks out.old) (O.lacks out.new) }
     {
-        self.show(store, number, out)
+        self.doc_within(store, number, GREATEST, out)
+    }
+
+    /// Writes a document as [`TextReader::doc`] does, and of none more than so many bytes: damaged text
+    /// can tell of a document of any length.
+    ///
+    /// # Errors
+    ///
+    /// Those of [`TextReader::doc`], and `Part` with `Bad` where the bits of the document tell of more
+    /// bytes, before the piece that goes beyond them is written.
+    pub fn doc_within<O: Sink>(
+        &mut self,
+        store: &mut S,
+        number: u32,
+        most: u64,
+        out: &mut O,
+    ) -> Result<(), ShowErr>
+        requires fits { TextFits self.old (S.files store.old) }
+        requires some { 1 ≤ number }
+        requires within { number ≤ self.old.documents }
+        ensures fits { TextFits self.new (S.files store.new) }
+        ensures same { SameText self.old self.new }
+        ensures looked { Between S.files S.reads S.faults store.old store.new
+            (LookedAt part.Text part.Places) }
+        ensures content { ForShortDocument self.old (S.files store.old) number most
+            (λ doc. AfterPut (O.written out.old) (O.written out.new) doc result) }
+        ensures never_bad { ForShortDocument self.old (S.files store.old) number most
+            (λ _. ShowIsNotBad result) }
+        ensures pages { WhereShort self.old (S.files store.old) number most
+            (PagesOfDocument self.old number (S.reads store.old) (S.reads store.new)) }
+        ensures places { S.reads store.new part.Places ≤ S.reads store.old part.Places + 1 }
+        // Whatever the parts hold, no more bytes are added.
+        ensures added { AddsOf O.written O.faults O.lacks out.old out.new most 0 }
+        ensures cause { IsShowCaused result (S.faults store.old) (S.faults store.new)
+            (O.faults out.old) (O.faults out.new)
+            (O.lacks out.old) (O.lacks out.new) }
+    {
+        self.show(store, number, most, out)
     }
 
     /// Adds the bytes of a document to those that a buffer holds; what goes to the sink is as much
@@ -202,7 +244,7 @@ impl<'a, S: Store> TextReader<'a, S> {
     ///
     /// # Errors
     ///
-    /// Those of [`TextReader::doc`].
+    /// Those of [`TextReader::doc_within`], where the bound is what the buffer still takes.
     pub fn gather<O: Sink>(
         &mut self,
         store: &mut S,
@@ -219,13 +261,13 @@ impl<'a, S: Store> TextReader<'a, S> {
             (LookedAt part.Text part.Places) }
         ensures content { GathersDoc self.old (S.files store.old) (O.written out.old)
             (O.written out.new) buffer.old buffer.new number result }
-        ensures never_bad { WhereTextStands self.old (S.files store.old)
+        ensures never_bad { WhereShort self.old (S.files store.old) number buffer.old.left
             (λ _. ShowIsNotBad result) }
-        ensures pages { WhereTextStands self.old (S.files store.old)
+        ensures pages { WhereShort self.old (S.files store.old) number buffer.old.left
             (PagesOfDocument self.old number (S.reads store.old) (S.reads store.new)) }
         ensures places { S.reads store.new part.Places ≤ S.reads store.old part.Places + 1 }
-        ensures added { Added (O.written out.old) (O.written out.new) (O.faults out.old)
-            (O.faults out.new) (O.lacks out.old) (O.lacks out.new) }
+        ensures added { AddsOf O.written O.faults O.lacks out.old out.new (bytes_to_come buffer.old)
+            (bytes_to_come buffer.new) }
         ensures cause { IsShowCaused result (S.faults store.old) (S.faults store.new)
             (O.faults out.old) (O.faults out.new)
             (O.lacks out.old) (O.lacks out.new) }
@@ -258,8 +300,8 @@ impl<'a, S: Store> TextReader<'a, S> {
         ensures answer { GathersWithin S.files S.reads O.written self.old store.old store.new
             out.old out.new buffer.old buffer.new number result }
         ensures places { S.reads store.new part.Places ≤ S.reads store.old part.Places + 1 }
-        ensures added { Added (O.written out.old) (O.written out.new) (O.faults out.old)
-            (O.faults out.new) (O.lacks out.old) (O.lacks out.new) }
+        ensures added { AddsOf O.written O.faults O.lacks out.old out.new (bytes_to_come buffer.old)
+            (bytes_to_come buffer.new) }
         ensures cause { IsShowCaused result (S.faults store.old) (S.faults store.new)
             (O.faults out.old) (O.faults out.new)
             (O.lacks out.old) (O.lacks out.new) }
@@ -272,11 +314,18 @@ impl<'a, S: Store> TextReader<'a, S> {
         };
         let place = 8 * from;
         self.text.seek(place);
+        buffer.begin(place);
         gather_doc(&self.model, &mut self.text, store, buffer, out)
     }
 
     // Shows a document, where the parts stand or not.
-    fn show<O: Sink>(&mut self, store: &mut S, number: u32, out: &mut O) -> Result<(), ShowErr>
+    fn show<O: Sink>(
+        &mut self,
+        store: &mut S,
+        number: u32,
+        most: u64,
+        out: &mut O,
+    ) -> Result<(), ShowErr>
         requires fits { TextFits self.old (S.files store.old) }
         requires some { 1 ≤ number }
         requires within { number ≤ self.old.documents }
@@ -285,10 +334,9 @@ impl<'a, S: Store> TextReader<'a, S> {
         ensures looked { Between S.files S.reads S.faults store.old store.new
             (LookedAt part.Text part.Places) }
         ensures answer { ShowsWithin S.files S.reads O.written self.old store.old store.new out.old
-            out.new number result }
+            out.new number most result }
         ensures places { S.reads store.new part.Places ≤ S.reads store.old part.Places + 1 }
-        ensures added { Added (O.written out.old) (O.written out.new) (O.faults out.old)
-            (O.faults out.new) (O.lacks out.old) (O.lacks out.new) }
+        ensures added { AddsOf O.written O.faults O.lacks out.old out.new most 0 }
         ensures cause { IsShowCaused result (S.faults store.old) (S.faults store.new)
             (O.faults out.old) (O.faults out.new)
             (O.lacks out.old) (O.lacks out.new) }
@@ -300,7 +348,8 @@ impl<'a, S: Store> TextReader<'a, S> {
             Err(refusal) => return Err(ShowErr::Part(refusal)),
         };
         self.text.seek(8 * from);
-        self.buffer.clear();
+        self.buffer.start(most);
+        self.buffer.begin(8 * from);
         show_doc(&self.model, &mut self.text, store, &mut self.buffer, out)
     }
 }

@@ -32,7 +32,8 @@ use Rattle.mg_top.specs.Ends.{LacksAtOnce, Prints, SilentOnOutput, ToldWhy}
 use Rattle.mg_dev.specs.Runs.{IfStopped, Run, SaysNothing, KeepsFiles, Stops, StoreFailed, InputFailed, OutputFailed}
 use Rattle.mg_top.specs.Checked.{Checked, standing_line}
 use Rattle.mg_top.specs.Built.{Built, collection_of}
-use Rattle.mg_decode.specs.Decoded.{Decoded}
+use Rattle.mg_decode.specs.Decoded.{Decoded, WithinHead}
+use Rattle.mg_decode.proofs.CallerLemmas.{nothing_within}
 use Rattle.mg_session.specs.Matched.{Matched}
 use Rattle.mg_top.specs.Merged.{Merged}
 use Rattle.mg_top.specs.Migrated.{Migrated, documents_line}
@@ -137,6 +138,7 @@ module _ (run : Run) (stops : Stops run Memory) (store : run.store_now ≡ run.s
     done = λ c stands is. absurd (not_done is);
     prefix = λ c stands. prefix c;
     silent = λ is. silent;
+    bounded = λ told. subst (WithinHead run.store.files n run.out.written) (sym silent) (nothing_within run.store.files n run.out.written);
     cause = caused (DecodeStops (StoreFailed run) (OutputFailed run) run.store.files n) tt;
     not_built = λ told none. inr (inr stops);
     complete = λ c stands no_store no_output. inr stops;

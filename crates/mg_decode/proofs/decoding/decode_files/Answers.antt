@@ -1,7 +1,8 @@
 use Rattle.std.proofs.Common.{◌∙◌}
 use Rattle.mg_dev.specs.Faults.{fault_of_part, fault_of_show}
 use Rattle.mg_dev.specs.StreamLaws.{grew_nothing}
-use Rattle.mg_text.proofs.CallerLemmas.{added_none}
+use Rattle.mg_text.proofs.CallerLemmas.{added_none, adds_some}
+use Rattle.mg_decode.proofs.BoundLaws.{head_within, nothing_within}
 use Rattle.mg_decode.proofs.StopLaws.{bad_head, decode_stops, done, no_head, read_same, some_head, stands_loaded}
 use Rattle.mg_layout.proofs.CallerLemmas.{head_there, no_empty_head}
 use Rattle.mg_decode.proofs.decoding.decode_files.Goals as goal
@@ -11,6 +12,9 @@ returns-in-Err-clause-content g c = λ collection stands. grew_nothing _ collect
 
 pub returns-in-Err-clause-added : goal.returns-in-Err-clause-added
 returns-in-Err-clause-added g c = added_none _ _ _
+
+pub returns-in-Err-clause-bounded : goal.returns-in-Err-clause-bounded
+returns-in-Err-clause-bounded g c = λ told. nothing_within _ _ _
 
 pub returns-in-Err-clause-cause : goal.returns-in-Err-clause-cause
 returns-in-Err-clause-cause g c = rw c.from.ensures (bad_head _ _ c.in-Err.refusal c.in-Err.ensures.back c.in-Err.ensures.within _ _ _ c.in-Err.ensures.cause)
@@ -29,6 +33,9 @@ returns-in-None-clause-content g c = λ collection stands. grew_nothing _ collec
 pub returns-in-None-clause-added : goal.returns-in-None-clause-added
 returns-in-None-clause-added g c = added_none _ _ _
 
+pub returns-in-None-clause-bounded : goal.returns-in-None-clause-bounded
+returns-in-None-clause-bounded g c = λ told. nothing_within _ _ _
+
 pub returns-in-None-clause-cause : goal.returns-in-None-clause-cause
 returns-in-None-clause-cause g c = λ told. no_head _ c.in-Ok.loaded c.in-None.is (c.in-Ok.ensures.answer told)
 
@@ -42,6 +49,13 @@ pub returns-in-Ok-show_set-clause-content : goal.returns-in-Ok-show_set-clause-c
 returns-in-Ok-show_set-clause-content g c = λ collection stands.
     let by = stands_loaded _ _ _ collection c.in-Ok.loaded c.in-Some.head c.in-Some.is c.in-Ok.ensures.files c.in-Ok.ensures.answer stands in
     c.in-Ok-show_set.ensures.content by.0 collection by.1
+
+pub returns-in-Ok-show_set-clause-bounded : goal.returns-in-Ok-show_set-clause-bounded
+returns-in-Ok-show_set-clause-bounded g c = λ told.
+    head_within _ _ c.in-Some.head _ _ (some_head _ c.in-Ok.loaded c.in-Some.head c.in-Some.is (c.in-Ok.ensures.answer told)) c.in-Ok-show_set.ensures.added
+
+pub returns-in-Ok-show_set-clause-added : goal.returns-in-Ok-show_set-clause-added
+returns-in-Ok-show_set-clause-added g c = adds_some c.in-Ok-show_set.ensures.added
 
 pub returns-in-Ok-show_set-clause-not_built : goal.returns-in-Ok-show_set-clause-not_built
 returns-in-Ok-show_set-clause-not_built g c = λ told empty. absurd (no_empty_head _ _ (some_head _ c.in-Ok.loaded c.in-Some.head c.in-Some.is (c.in-Ok.ensures.answer told)) empty)
@@ -59,6 +73,13 @@ returns-in-Err-show_set-clause-cause g c = rw c.from-in-Err-show_set.ensures (de
     (λ collection stands.
     let by = stands_loaded _ _ _ collection c.in-Ok.loaded c.in-Some.head c.in-Some.is c.in-Ok.ensures.files c.in-Ok.ensures.answer stands in
     c.in-Err-show_set.ensures.never_bad by.0 collection by.1))
+
+pub returns-in-Err-show_set-clause-bounded : goal.returns-in-Err-show_set-clause-bounded
+returns-in-Err-show_set-clause-bounded g c = λ told.
+    head_within _ _ c.in-Some.head _ _ (some_head _ c.in-Ok.loaded c.in-Some.head c.in-Some.is (c.in-Ok.ensures.answer told)) c.in-Err-show_set.ensures.added
+
+pub returns-in-Err-show_set-clause-added : goal.returns-in-Err-show_set-clause-added
+returns-in-Err-show_set-clause-added g c = adds_some c.in-Err-show_set.ensures.added
 
 pub returns-in-Err-show_set-clause-not_built : goal.returns-in-Err-show_set-clause-not_built
 returns-in-Err-show_set-clause-not_built g c = λ told empty. absurd (no_empty_head _ _ (some_head _ c.in-Ok.loaded c.in-Some.head c.in-Some.is (c.in-Ok.ensures.answer told)) empty)

@@ -1,8 +1,9 @@
-use Rattle.std.proofs.Common.{◌≡◌, ap, sym}
+use Rattle.std.proofs.Common.{arith, ◌≡◌, ◌∙◌, ap, length, sym}
 use Rattle.mg_dev.specs.StreamLaws.{grew_nothing}
 use Rattle.mg_defs.specs.Heads as defs
 use Rattle.mg_defs.specs.Split.{has_open_end}
-use Rattle.mg_text.proofs.CallerLemmas.{added_none, set_is_text}
+use Rattle.mg_text.specs.Decoding.{Gathering}
+use Rattle.mg_text.proofs.CallerLemmas.{adds_none, set_is_text}
 use Rattle.mg_decode.proofs.StopLaws.{load_bad, show_stops}
 use Rattle.mg_decode.proofs.decoding.show_set.Goals as goal
 
@@ -10,7 +11,7 @@ pub returns-in-Err-clause-content : goal.returns-in-Err-clause-content
 returns-in-Err-clause-content g c = λ code collection stands. grew_nothing _ collection
 
 pub returns-in-Err-clause-added : goal.returns-in-Err-clause-added
-returns-in-Err-clause-added g c = added_none _ _ _
+returns-in-Err-clause-added g c = adds_none (omega arith)
 
 pub returns-in-Err-load-clause-content : goal.returns-in-Err-load-clause-content
 returns-in-Err-load-clause-content g c = λ code collection stands. grew_nothing _ collection
@@ -19,15 +20,24 @@ pub returns-in-Err-load-clause-never_bad : goal.returns-in-Err-load-clause-never
 returns-in-Err-load-clause-never_bad g c = λ code collection stands. load_bad c.in-Err-load.refusal (c.in-Err-load.ensures.never_bad code collection (set_is_text _ _ _ code collection stands))
 
 pub returns-in-Err-load-clause-added : goal.returns-in-Err-load-clause-added
-returns-in-Err-load-clause-added g c = added_none _ _ _
+returns-in-Err-load-clause-added g c = adds_none (omega arith)
 
 pub returns-clause-content : goal.returns-clause-content
 returns-clause-content g c = λ code collection stands.
     let ends : has_open_end collection ≡ c.args.head.now.open_end = sym (ap (λ (h : defs.Head). h.open_end) stands.head_is) in
+    let size : length collection ≡ c.args.head.now.collection = sym (ap (λ (h : defs.Head). h.collection) stands.head_is) in
     c.show_documents.ensures.content collection (c.in-Ok-load.ensures.stands code collection (set_is_text _ _ _ code collection stands)) ends
+    (size ∙ sym (ap (λ (b : Gathering). b.left) c.in-Ok.ensures))
 
 pub returns-clause-never_bad : goal.returns-clause-never_bad
-returns-clause-never_bad g c = λ code collection stands. c.show_documents.ensures.never_bad collection (c.in-Ok-load.ensures.stands code collection (set_is_text _ _ _ code collection stands))
+returns-clause-never_bad g c = λ code collection stands.
+    let ends : has_open_end collection ≡ c.args.head.now.open_end = sym (ap (λ (h : defs.Head). h.open_end) stands.head_is) in
+    let size : length collection ≡ c.args.head.now.collection = sym (ap (λ (h : defs.Head). h.collection) stands.head_is) in
+    c.show_documents.ensures.never_bad collection (c.in-Ok-load.ensures.stands code collection (set_is_text _ _ _ code collection stands)) ends
+    (size ∙ sym (ap (λ (b : Gathering). b.left) c.in-Ok.ensures))
+
+pub returns-clause-added : goal.returns-clause-added
+returns-clause-added g c = rw (ap (λ (b : Gathering). b.left) c.in-Ok.ensures) at c.show_documents.ensures.added
 
 pub returns-clause-cause : goal.returns-clause-cause
 returns-clause-cause g c = show_stops c.show_documents.result _ _ _ _ _ _ _ _ _ c.in-Ok-load.ensures.looked.faults c.show_documents.ensures.cause

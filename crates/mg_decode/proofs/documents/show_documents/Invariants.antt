@@ -1,8 +1,8 @@
-use Rattle.std.proofs.Common.{◌≡◌, ℕ, List}
+use Rattle.std.proofs.Common.{◌≡◌, ℕ, List, length}
 use Rattle.mg_dev.specs.declared.part.Part.TheVariants as part
 use Rattle.mg_defs.specs.Split.{has_open_end}
 use Rattle.mg_front.specs.Reading.{LookedAt}
-use Rattle.mg_text.specs.Decoding.{Added}
+use Rattle.mg_text.specs.Decoding.{AddsOf, bytes_to_come}
 use Rattle.mg_text.specs.Reading.{SameText, TextFits, TextStands}
 use Rattle.mg_decode.specs.Documents.{ShownFirst}
 use Rattle.mg_decode.proofs.documents.show_documents.Given as goal
@@ -13,7 +13,7 @@ invariant-loop-index g l = record {
   same : SameText l.fn.reader l.reader;
   looked : LookedAt part.Text part.Places (g.S.Store.files l.fn.store) (g.S.Store.files l.store) (g.S.Store.reads l.fn.store) (g.S.Store.reads l.store)
       (g.S.Store.faults l.fn.store) (g.S.Store.faults l.store);
-  added : Added (g.O.Sink.written l.fn.out) (g.O.Sink.written l.out) (g.O.Sink.faults l.fn.out) (g.O.Sink.faults l.out) (g.O.Sink.lacks l.fn.out) (g.O.Sink.lacks l.out);
-  told : (collection : List ℕ) → TextStands l.fn.reader (g.S.Store.files l.fn.store) collection → has_open_end collection ≡ l.open_end →
-      ShownFirst l.index (g.O.Sink.written l.fn.out) (g.O.Sink.written l.out) l.buffer collection;
+  added : AddsOf g.O.Sink.written g.O.Sink.faults g.O.Sink.lacks l.fn.out l.out l.fn.buffer.left (bytes_to_come l.buffer);
+  told : (collection : List ℕ) → TextStands l.fn.reader (g.S.Store.files l.fn.store) collection → has_open_end collection ≡ l.open_end → length collection ≡ l.fn.buffer.left →
+      ShownFirst l.index (g.O.Sink.written l.fn.out) (g.O.Sink.written l.out) l.buffer collection l.fn.buffer.left;
 }

@@ -1,6 +1,7 @@
 use Rattle.std.proofs.Common.{arith, ◌≡◌, ℕ, ◌+◌, ◌≤◌, List, ◌++◌, length, take, drop, get_or, ◌-◌, ap, ◌∙◌, length-append, length-drop, length-take}
 use Rattle.std.proofs.Math.Seq.{take-append-add}
 use Rattle.std.proofs.lemmas.List.{take_all, take-append-le, with_items_is}
+use Rattle.mg_text.specs.Decoding.{Gathering}
 use Rattle.mg_text.proofs.show_buffer.ShowBuffer.keep_short.Goals as goal
 
 -- what stands behind the piece is not held
@@ -27,7 +28,7 @@ returns c =
     let room : c.self.inside.used + 15 ≤ length c.self.inside.bytes.items = omega (
       arith,
       c.requires.room,
-      ap length c.self.view_is,
+      ap (λ (b : Gathering). length b.held) c.self.view_is,
       length-take c.self.inside.used c.self.inside.bytes.items,
       c.self.invariant.0,
       c.self.invariant.1,
@@ -46,6 +47,19 @@ returns c =
       same,
       c.self.inside.bytes.ok.0,
     ) in
-    ap (take (c.self.inside.used + c.from.result)) (with_items_is c.self.inside.bytes (take used bytes ++ (copied ++ rest)) long)
-    ∙ kept used c.from.result c.self.inside.bytes.items bytes copied entry rest c.args.self.now c.self.view_is c.deref_mut.ensures.value copy count
-    (omega (arith, room)) (omega (arith, count, fifteen, c.requires.short))
+    let view : take used c.self.inside.bytes.items ≡ c.args.self.now.held = ap (λ (b : Gathering). b.held) c.self.view_is in
+    record {
+      held = ap (take (c.self.inside.used + c.from.result)) (with_items_is c.self.inside.bytes (take used bytes ++ (copied ++ rest)) long)
+          ∙ kept used c.from.result c.self.inside.bytes.items bytes copied entry rest c.args.self.now.held view c.deref_mut.ensures.value copy count
+          (omega (arith, room)) (omega (arith, count, fifteen, c.requires.short));
+      left = omega (
+        arith,
+        length-take (get_or entry 0 0) (drop 1 entry),
+        length-drop 1 entry,
+        c.told-entry,
+        count,
+        c.requires.short,
+        c.requires.left,
+        ap (λ (b : Gathering). b.left) c.self.view_is,
+      );
+    }
