@@ -14,12 +14,14 @@ use Rattle.mg_runs.specs.Decoding.{IsSmall}
 use Rattle.mg_runs.proofs.Short.{gamma_short}
 use Rattle.mg_runs.proofs.Decoding.{Plan, plan, behind_code}
 use Rattle.mg_defs.specs.RunBits.{postings_bits, run_bits, before_first}
-use Rattle.mg_runs.specs.Cursors.{IsAtPosting, IsRunAt, IsNear, NoDamage}
+use Rattle.mg_runs.specs.Cursors.{IsAt, IsAtPosting, IsRunAt, IsNear, NoDamage, Tells}
+use Rattle.mg_runs.specs.Damages.{TellsBit}
 use Rattle.mg_runs.specs.declared.cursor.Cursor.{Cursor}
 use Rattle.mg_runs.specs.declared.decode.Decoded.{Decoded}
 use Rattle.std.specs.Prelude.{IsOkAnd, Ok, Err}
 use Rattle.std.specs.declared.result.Result.{Result}
 use Rattle.mg_dev.specs.declared.part_err.PartErr.{PartErr}
+use Rattle.mg_dev.specs.declared.part_err.PartErr.TheVariants.{Device, Memory, Bad}
 
 bits_take : (n : ℕ) (xs : List ℕ) → bits_of (take n xs) ≡ take (8 * n) (bits_of xs)
 unfolding bits_of
@@ -126,16 +128,26 @@ moved cursor slot file x y ys offset found at posting next =
       run = record { rising = at.run.rising.1; small = at.run.small.1 };
     }
 
-pub ok_undamaged : {T : Type 0} (P : T → Type 0) (r : Result T PartErr) → IsOkAnd r P → NoDamage r
-ok_undamaged P (Ok value) h = tt
-ok_undamaged P (Err e) h = absurd h
+-- a refusal that is no damage tells no bit
+pub bit_undamaged : (T : Type 0) (at : ℕ) (e : PartErr) → NoDamage {T = T} (Err e) → TellsBit at e
+bit_undamaged T at Device h = tt
+bit_undamaged T at Memory h = tt
+bit_undamaged T at (Bad bad) h = absurd h
+
+-- where one posting is left, none follows
+pub at_end : (cursor ended : Cursor) (slot now file : List ℕ) (x : TermPosting) (xs : List TermPosting) → IsAtPosting cursor slot file x xs →
+    cursor.left ≡ 1 → ended.left ≡ 0 → IsAt ended now file xs
+at_end cursor ended slot now file x [] at one end = end
+at_end cursor ended slot now file x (y ∷ ys) at one end = let l = at.left in absurd (omega arith)
 
 -- where more than one posting is left, another one follows
-pub more_left : (cursor near : Cursor) (slot now file : List ℕ) (x : TermPosting) (xs : List TermPosting) (r : Result Cursor PartErr) →
+pub at_next : (cursor near : Cursor) (slot now file : List ℕ) (x : TermPosting) (xs : List TermPosting) (r : Result Cursor PartErr) →
     IsAtPosting cursor slot file x xs → (cursor.left ≡ 1 → ⊥) → IsAtPosting near now file x xs →
-    ((y : TermPosting) (ys : List TermPosting) → IsAtPosting near now file x (y ∷ ys) → NoDamage r) → NoDamage r
-more_left cursor near slot now file x [] r at more is next = let l = at.left in absurd (more (omega arith))
-more_left cursor near slot now file x (y ∷ ys) r at more is next = next y ys is
+    ((y : TermPosting) (ys : List TermPosting) → IsAtPosting near now file x (y ∷ ys) → IsOkAnd r (λ c. IsAtPosting c now file y ys)) →
+    Tells r (λ c. IsAt c now file xs)
+at_next cursor near slot now file x [] r at more is next = let l = at.left in absurd (more (omega arith))
+at_next cursor near slot now file x (y ∷ ys) (Ok c) at more is next = next y ys is
+at_next cursor near slot now file x (y ∷ ys) (Err e) at more is next = absurd (next y ys is)
 
 -- ---- a run's header
 

@@ -1,5 +1,6 @@
 -- Occurrences taken one after the other.
-use Rattle.std.proofs.Common.{◌≡◌, ℕ, zero, suc, ◌+◌, ◌-◌, ◌*◌, ◌/◌, ◌%◌, ◌<◌, ◌≤◌, ◌^◌, min, max, List, [], ◌∷◌, ◌++◌, length, sym, ap, ◌∙◌, subst, arith, drop, map, IsSome, is_some, length-append, append-nil}
+use Rattle.std.proofs.Common.{◌≡◌, ℕ, zero, suc, ◌+◌, ◌-◌, ◌*◌, ◌/◌, ◌%◌, ◌<◌, ◌≤◌, ◌^◌, min, max, List, [], ◌∷◌, ◌++◌, length, sym, ap, ◌∙◌, subst}
+use Rattle.std.proofs.Common.{arith, drop, map, IsSome, is_some, length-append, append-nil}
 use Rattle.std.specs.declared.option.Option.{Option}
 use Rattle.std.proofs.lemmas.List.{length-map}
 use Rattle.std.proofs.lemmas.List.Concat.{flat_map-append}
@@ -17,6 +18,7 @@ use Rattle.mg_runs.proofs.Segments.{finished-room, finished-full, finished-low, 
 use Rattle.mg_bits.specs.BitWriting.{Holds, WroteBits, bits_put}
 use Rattle.mg_runs.specs.Bytes.{AreEntries}
 use Rattle.mg_runs.specs.Fed.{Inverting, IsFed, IsOccurrence, cap_of, starts}
+use Rattle.mg_runs.specs.Merged.{MayEnd}
 use Rattle.mg_runs.proofs.RoundsBits.{starts_more}
 
 some_cap : (limit : ℕ) → 4096 ≤ limit → 1 ≤ limit / 12
@@ -61,6 +63,13 @@ fed_length runs files fed is =
 
 finished-high : (cap n : ℕ) → 1 ≤ cap → n - 1 < suc (finished cap n) * cap
 finished-high cap n some = grind arith
+
+-- the writer may put a run behind those that are finished
+pub fed_may_end : (runs : Inverting) (files : Option Files) (fed : List (ℕ × ℕ)) → IsFed runs files fed → MayEnd runs.writer files
+fed_may_end runs files fed is =
+    let cap : ℕ = cap_of runs.pool in
+    let below : runs.writer.place ≤ 512 * (finished cap (length fed) * cap) = is.below in
+    record { holds = is.holds; place = omega (arith, below, finished-low cap (length fed) (some_cap runs.pool.limit is.least), is.few); whole = is.whole }
 
 pub fed_most : (runs : Inverting) (files : Option Files) (fed : List (ℕ × ℕ)) → IsFed runs files fed → length runs.pool.entries ≤ cap_of runs.pool
 fed_most runs files fed is =

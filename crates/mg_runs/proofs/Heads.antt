@@ -1,14 +1,17 @@
 -- The least of the first postings, by keys.
-use Rattle.std.proofs.Common.{◌≡◌, ℕ, ◌+◌, ◌-◌, ◌*◌, ◌<◌, ◌≤◌, ◌^◌, inl, inr, List, [], ◌∷◌, length, sym, ap, ◌∙◌, subst, arith, get_or, Some}
+use Rattle.std.proofs.Common.{◌≡◌, ℕ, ◌+◌, ◌-◌, ◌*◌, ◌<◌, ◌≤◌, ◌^◌, inl, inr, List, [], ◌∷◌, ◌++◌, length, sym, ap, ◌∙◌, subst, arith, get_or, Some}
+use Rattle.std.proofs.Math.Seq.{get_or-append_seam}
 use Rattle.std.proofs.lemmas.Bool.{cases_lt}
 use Rattle.std.proofs.lemmas.Bool.Decides.{nat_tests}
 use Rattle.std.proofs.lemmas.Grind.{common_steps}
+use Rattle.std.proofs.lemmas.List.{get_or-set_other, get_or_append_left}
 use Rattle.mg_defs.specs.declared.TermPosting.{TermPosting}
 use Rattle.mg_defs.specs.Postings.{IsBefore, AllAfter}
 use Rattle.mg_runs.specs.PostingOrder.{NoLater}
 use Rattle.mg_runs.specs.Decoding.{IsSmall}
-use Rattle.mg_runs.specs.Cursors.{IsAt, IsRun}
-use Rattle.mg_runs.specs.Merging.{first, AllFrom, IsShaped, StandFor, key_of, no_cursor}
+use Rattle.mg_runs.specs.Cursors.{IsAt, IsAtPosting, IsRun}
+use Rattle.mg_runs.specs.Merging.{first, AllFrom, AreOpen, IsShaped, StandFor, key_of, no_cursor}
+use Rattle.mg_runs.specs.Slots.{ChangesOneSlot}
 use Rattle.mg_runs.specs.declared.cursor.Cursor.{Cursor}
 
 key_is : (c : Cursor) → (c.left ≡ 0 → ⊥) → key_of c ≡ c.posting.term * 2 ^ 32 + (c.posting.doc - 1)
@@ -67,3 +70,35 @@ head_told slots cursors keys file lefts w c shape stand h is more least =
         | inr high ↦ subst (λ l. AllFrom c.posting l) (sym (past lefts k (omega arith))) tt
       ],
     )
+
+-- ---- cursors that are opened one by one
+
+-- one cursor more, whose slot alone has changed
+pub open_more : {slots news : List (List ℕ)} {cursors : List Cursor} {file : List ℕ} {runs : List (List TermPosting)} {k : ℕ} (c : Cursor) →
+    length cursors ≡ k → k < length slots → ChangesOneSlot k slots news → AreOpen slots cursors file runs k →
+    IsAt c (get_or news k []) file (get_or runs k []) → AreOpen news (cursors ++ c ∷ []) file runs (k + 1)
+open_more {slots = slots} {news = news} {cursors = cursors} {file = file} {runs = runs} {k = k} c size within change before at = record {
+  at = λ j h. elim (cases_lt j k) [
+    | inl low ↦
+        let cursor : get_or (cursors ++ c ∷ []) j no_cursor ≡ get_or cursors j no_cursor = get_or_append_left cursors (c ∷ []) no_cursor j (omega arith) in
+        let slot : get_or news j [] ≡ get_or slots j []
+        = ap (λ (s : List (List ℕ)). get_or s j []) change ∙ get_or-set_other slots k j (get_or news k []) [] (λ e. omega arith) in
+        subst (λ (x : Cursor). IsAt x (get_or news j []) file (get_or runs j [])) (sym cursor)
+        (subst (λ (s : List ℕ). IsAt (get_or cursors j no_cursor) s file (get_or runs j [])) (sym slot) (before.at j low))
+    | inr high ↦
+        let same : j ≡ k = omega arith in
+        let cursor : get_or (cursors ++ c ∷ []) k no_cursor ≡ c
+        = ap (λ n. get_or (cursors ++ c ∷ []) n no_cursor) (sym size) ∙ get_or-append_seam cursors c [] no_cursor in
+        subst (λ n. IsAt (get_or (cursors ++ c ∷ []) n no_cursor) (get_or news n []) file (get_or runs n [])) (sym same)
+        (subst (λ (x : Cursor). IsAt x (get_or news k []) file (get_or runs k [])) (sym cursor) at)
+  ];
+}
+
+-- the posting at which a cursor is that has some left
+pub at_first : {slots : List (List ℕ)} {cursors : List Cursor} {file : List ℕ} {lefts : List (List TermPosting)} → StandFor slots cursors file lefts →
+    (k : ℕ) (c : Cursor) (x : TermPosting) (xs : List TermPosting) → k < length cursors → c ≡ get_or cursors k no_cursor → get_or lefts k [] ≡ x ∷ xs →
+    IsAtPosting c (get_or slots k []) file x xs
+at_first {slots = slots} {file = file} {lefts = lefts} stand k c x xs within same first =
+    let at : IsAt c (get_or slots k []) file (get_or lefts k [])
+    = subst (λ (z : Cursor). IsAt z (get_or slots k []) file (get_or lefts k [])) (sym same) (stand.at k within) in
+    subst (λ l. IsAt c (get_or slots k []) file l) first at

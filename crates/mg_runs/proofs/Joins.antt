@@ -1,18 +1,15 @@
 -- Postings that are counted and written.
-use Rattle.std.proofs.Common.{◌≡◌, ℕ, zero, suc, ◌+◌, ◌-◌, ◌*◌, ◌%◌, ◌^◌, ◌<◌, ◌≤◌, List, [], ◌∷◌, ◌++◌, length, drop, refl, sym, ap, ◌∙◌, subst, arith, Some, None, is_some, unwrap_or, ◌≢◌, append_assoc, append-nil, length-append, IsSome}
+use Rattle.std.proofs.Common.{◌≡◌, ℕ, zero, suc, ◌+◌, ◌-◌, ◌*◌, ◌%◌, ◌^◌, ◌<◌, ◌≤◌, List, [], ◌∷◌, ◌++◌, length, drop, refl, sym, ap, ◌∙◌, subst}
+use Rattle.std.proofs.Common.{arith, Some, None, is_some, unwrap_or, ◌≢◌, append_assoc, append-nil, length-append, IsSome}
 use Rattle.std.proofs.lemmas.List.{drop-drop}
 use Rattle.std.specs.Prelude.{Err}
 use Rattle.std.specs.declared.option.Option.{Option}
 use Rattle.mg_dev.specs.Files.{Files, Reads, file_at, bytes_at}
 use Rattle.mg_dev.specs.declared.part.Part.{Part}
-use Rattle.mg_dev.specs.Causes.{HasPutCause}
-use Rattle.mg_dev.specs.declared.device.PutErr.{PutErr}
-use Rattle.mg_dev.specs.declared.device.PutErr.TheVariants.{Failed}
 use Rattle.mg_dev.specs.PartCauses.{HasPartCause}
 use Rattle.mg_dev.specs.declared.part_err.PartErr.{PartErr}
 use Rattle.mg_defs.specs.Bits.{Bits, digits, filled, to_byte}
 use Rattle.mg_defs.specs.Codes.{gamma}
-use Rattle.mg_defs.proofs.BitLaws.{length_digits}
 use Rattle.mg_defs.specs.Postings.{IsBefore, AllAfter}
 use Rattle.mg_defs.specs.RunBits.{before_first, run_posting_bits, postings_bits, run_bits}
 use Rattle.mg_defs.specs.declared.TermPosting.{TermPosting}
@@ -25,6 +22,7 @@ use Rattle.mg_runs.specs.Merging.{first, AreLeft}
 use Rattle.mg_runs.specs.Joins.{IsCounting, IsPutting, Passed}
 use Rattle.mg_runs.specs.declared.cursor.Cursor.{Cursor}
 use Rattle.mg_runs.proofs.CursorLaws.{after_start}
+use Rattle.mg_runs.proofs.Puts.{to_byte_same}
 use Rattle.mg_runs.proofs.Steps.{split_first, caused_as}
 
 some_left : (left : List TermPosting) (count : ℕ) (p : TermPosting) → count ≤ length left → Some p ≡ first (drop count left) → count + 1 ≤ length left
@@ -123,9 +121,6 @@ put_start slots cursors file f w left has run room = record {
 }
 
 -- a writer's refusal
-pub put_as : (T U : Type 0) (f g : ℕ) (e : PutErr) → HasPutCause {T = T} f g (Err e) → HasPutCause {T = U} f g (Err e)
-put_as T U f g e cause = record { later = cause.later; failed = λ h. let same : e ≡ Failed = cc in cause.failed (ap (λ x. Err x) same) }
-
 pub put_cause : (T : Type 0) (f g h : ℕ) (e : PartErr) → f ≤ g → HasPartCause {T = ℕ} g h (Err e) → HasPartCause {T = T} f h (Err e)
 put_cause T f g h e le cause = let later = cause.later in record { later = omega arith; device = caused_as ℕ T f g h e le cause.device }
 
@@ -163,14 +158,6 @@ passed_wrote wrote le = record {
 pub passed_bytes : {part : Part} {name other : List ℕ} {f g : Option Files} {r s : Reads} {m n : ℕ} → Passed part name f g r s m n → other ≢ name → bytes_at g other ≡ bytes_at f other
 passed_bytes {other = other} passed apart = ap (λ b. unwrap_or b []) (passed.others other apart)
 
-to_byte_same : (p n : ℕ) → p % 8 ≡ 0 → to_byte (p + n) ≡ to_byte n
-to_byte_same p n h =
-    let e : (p + n) % 8 ≡ n % 8 = omega arith in
-    ap (λ k. (8 - k) % 8) e
-
-to_byte_below : (n : ℕ) → to_byte n < 8
-to_byte_below n = omega arith
-
 -- the number of postings, the postings and zero-bits to a byte are a run
 pub run_written : {f0 f1 f2 f3 : Option Files} {w0 w1 w2 w3 : BitWriting} {n : ℕ} (xs : List TermPosting) → w0.place % 8 ≡ 0 → n ≡ length xs →
     is_some f1 ≡ is_some f0 → is_some f2 ≡ is_some f1 → WroteBits w0 w1 f0 f1 (gamma n) → WroteBits w1 w2 f1 f2 (postings_bits before_first xs) →
@@ -182,8 +169,3 @@ run_written {f0 = f0} {f1 = f1} {f2 = f2} {f3 = f3} {w0 = w0} {w1 = w1} {w2 = w2
     let p : w2.place ≡ w0.place + length (run_bits xs) = run.place in
     let q : to_byte w2.place ≡ to_byte (length (run_bits xs)) = ap (λ k. to_byte k) p ∙ to_byte_same w0.place (length (run_bits xs)) whole in
     bits_more f0 f2 f3 w0 w2 w3 (run_bits xs) (digits (to_byte (length (run_bits xs))) 0) (t2 ∙ t1) run (subst (λ k. WroteBits w2 w3 f2 f3 (digits k 0)) q d)
-
-pub aligned_place : (f0 f1 : Option Files) (w0 w1 : BitWriting) → WroteBits w0 w1 f0 f1 (digits (to_byte w0.place) 0) → w1.place ≤ w0.place + 8
-aligned_place f0 f1 w0 w1 wrote =
-    let p = wrote.place in
-    omega (arith, p, length_digits (to_byte w0.place) 0, to_byte_below w0.place)

@@ -2,6 +2,7 @@ mod Chunks
 mod Like
 mod Short
 mod Sorting
+mod Puts
 mod OnRun
 mod Parts
 mod Feeding
@@ -23,6 +24,7 @@ mod RoundsFirst
 mod JoinedGroups
 mod Working
 mod LastRun
+mod Finishing
 mod Kept
 mod PostingGroups
 mod Segments

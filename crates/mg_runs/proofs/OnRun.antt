@@ -1,5 +1,6 @@
 -- A run, one posting after the other.
-use Rattle.std.proofs.Common.{◌≡◌, ℕ, suc, ◌+◌, ◌-◌, ◌*◌, ◌<◌, ◌≤◌, List, [], ◌∷◌, ◌++◌, length, refl, sym, ap, ◌∙◌, subst, arith, drop, map, get_or, append_assoc}
+use Rattle.std.proofs.Common.{◌≡◌, ℕ, suc, ◌+◌, ◌-◌, ◌*◌, ◌<◌, ◌≤◌, List, [], ◌∷◌, ◌++◌, Ok, length, refl, sym, ap, ◌∙◌, subst, arith}
+use Rattle.std.proofs.Common.{drop, map, get_or, append_assoc}
 use Rattle.std.specs.List.{All}
 use Rattle.std.specs.declared.option.Option.{Option}
 use Rattle.std.proofs.lemmas.Grind.{common_steps}
@@ -9,13 +10,13 @@ use Rattle.mg_defs.specs.declared.TermPosting.{TermPosting}
 use Rattle.mg_defs.specs.Postings.{IsBefore, AllAfter, RisingByTerm, with_count, added, gathered}
 use Rattle.mg_defs.specs.RunBits.{before_first, run_posting_bits, postings_bits, run_bits}
 use Rattle.mg_defs.proofs.Gathering.{Rising-gathered, added-cases}
-use Rattle.mg_runs.proofs.PostingGroups.{AllAfter-gathered}
-use Rattle.mg_bits.specs.Writer.{WroteTo}
-use Rattle.mg_bits.specs.BitWriting.{BitWriting, Holds, WroteBits}
-use Rattle.mg_bits.proofs.CallerLemmas.{bits_more, to_more}
+use Rattle.mg_bits.specs.BitWriting.{BitWriting}
+use Rattle.mg_codes.specs.Writers.{PutsBits}
 use Rattle.mg_runs.specs.Bytes.{entry_in, number_in}
 use Rattle.mg_runs.specs.Groups.{IsGroup}
 use Rattle.mg_runs.specs.OnRun.{IsOnRun}
+use Rattle.mg_runs.proofs.PostingGroups.{AllAfter-gathered}
+use Rattle.mg_runs.proofs.Puts.{puts_more, puts_ok}
 
 after_start : (entries : List (List ℕ)) → All (λ e. 1 ≤ number_in 4 e) entries → AllAfter before_first (map entry_in entries)
 after_start [] all = tt
@@ -23,19 +24,18 @@ after_start (e ∷ es) all =
     let d : 1 ≤ number_in 4 e = all 0 e (omega arith) in
     (record { term = omega arith; doc = λ q. omega arith }, after_start es (λ k d h. all (suc k) d (omega arith)))
 
-pub on_run_start : (f0 f1 : Option Files) (r0 r1 : Reads) (w0 w1 : BitWriting) (entries : List (List ℕ)) (count : ℕ) →
-    count ≡ length (gathered (map entry_in entries)) → All (λ e. 1 ≤ number_in 4 e) entries → WroteBits w0 w1 f0 f1 (gamma count) → Holds w1 f1 →
-    w1.place ≤ w0.place + 66 → WroteTo w0.name f0 f1 r0 r1 → IsOnRun f0 f1 r0 r1 w0 w1 entries 0 before_first
+pub on_run_start : {Store T : Type 0} {x : T} {files : Store → Option Files} {reads : Store → Reads} {faults : Store → ℕ} {start now : Store}
+    {v w : BitWriting} {count : ℕ} (entries : List (List ℕ)) → count ≡ length (gathered (map entry_in entries)) → All (λ e. 1 ≤ number_in 4 e) entries →
+    PutsBits (gamma count) files reads faults v w start now (Ok x) → w.place ≤ v.place + 66 →
+    IsOnRun files reads faults start now v w entries 0 before_first
 unfolding run_bits
-on_run_start f0 f1 r0 r1 w0 w1 entries count e docs bits holds place wrote = record {
+on_run_start {count = count} entries e docs puts place = record {
   within = omega arith;
   done = gamma count;
-  bits = bits;
+  puts = puts_ok puts;
   rest = ap (λ n. gamma n ++ postings_bits before_first (gathered (map entry_in entries))) e;
   before = AllAfter-gathered before_first (map entry_in entries) (after_start entries docs);
   place = omega arith;
-  holds = holds;
-  wrote = wrote;
 }
 
 same_posting : (x y : TermPosting) → x.term ≡ y.term → x.doc ≡ y.doc → x.count ≡ y.count → x ≡ y
@@ -51,36 +51,36 @@ group_first entries from next p group a b d =
     let e : with_count group.head (next - from) ≡ p = same_posting (with_count group.head (next - from)) p (group.term ∙ sym a) (group.doc ∙ sym b) (sym d) in
     group.one ∙ ap (λ x. x ∷ gathered (map entry_in (drop next entries))) e
 
-pub on_run_before : (f0 f1 : Option Files) (r0 r1 : Reads) (w0 w1 : BitWriting) (entries : List (List ℕ)) (from next : ℕ) (last p : TermPosting) →
-    IsOnRun f0 f1 r0 r1 w0 w1 entries from last → gathered (map entry_in (drop from entries)) ≡ p ∷ gathered (map entry_in (drop next entries)) →
-    IsBefore last p
-on_run_before f0 f1 r0 r1 w0 w1 entries from next last p run e = (subst (λ xs. AllAfter last xs) e run.before).0
+pub on_run_before : {Store : Type 0} {files : Store → Option Files} {reads : Store → Reads} {faults : Store → ℕ} {start now : Store} {v w : BitWriting}
+    {entries : List (List ℕ)} {from : ℕ} {last p : TermPosting} (left : List TermPosting) → IsOnRun files reads faults start now v w entries from last →
+    gathered (map entry_in (drop from entries)) ≡ p ∷ left → IsBefore last p
+on_run_before {last = last} left run e = (subst (λ xs. AllAfter last xs) e run.before).0
 
-pub on_run_step : (f0 f1 f2 : Option Files) (r0 r1 r2 : Reads) (w0 w1 w2 : BitWriting) (entries : List (List ℕ)) (from next : ℕ) (last p : TermPosting) →
-    IsOnRun f0 f1 r0 r1 w0 w1 entries from last → gathered (map entry_in (drop from entries)) ≡ p ∷ gathered (map entry_in (drop next entries)) →
-    from < next → next ≤ length entries → WroteBits w1 w2 f1 f2 (run_posting_bits last p) → Holds w2 f2 → w2.place ≤ w1.place + 256 →
-    WroteTo w1.name f1 f2 r1 r2 → IsOnRun f0 f2 r0 r2 w0 w2 entries next p
-on_run_step f0 f1 f2 r0 r1 r2 w0 w1 w2 entries from next last p run e after within bits holds place wrote =
+pub on_run_step : {Store T : Type 0} {x : T} {files : Store → Option Files} {reads : Store → Reads} {faults : Store → ℕ} {start now next_now : Store}
+    {u v w : BitWriting} {entries : List (List ℕ)} {from next : ℕ} {last p : TermPosting} → IsOnRun files reads faults start now u v entries from last →
+    gathered (map entry_in (drop from entries)) ≡ p ∷ gathered (map entry_in (drop next entries)) → from < next → next ≤ length entries →
+    PutsBits (run_posting_bits last p) files reads faults v w now next_now (Ok x) → w.place ≤ v.place + 256 →
+    IsOnRun files reads faults start next_now u w entries next p
+on_run_step {u = u} {v = v} {entries = entries} {from = from} {next = next} {last = last} {p = p} run e after within puts place =
     let left : List TermPosting = gathered (map entry_in (drop next entries)) in
-    let old : w1.place ≤ w0.place + 66 + 256 * from = run.place in
+    let old : v.place ≤ u.place + 66 + 256 * from = run.place in
     record {
       within = within;
       done = run.done ++ run_posting_bits last p;
-      bits = bits_more f0 f1 f2 w0 w1 w2 run.done (run_posting_bits last p) run.wrote.told run.bits bits;
+      puts = puts_ok (puts_more run.puts puts);
       rest = append_assoc run.done (run_posting_bits last p) (postings_bits p left) ∙ ap (λ xs. run.done ++ postings_bits last xs) (sym e) ∙ run.rest;
       before = (subst (λ xs. RisingByTerm xs) e (Rising-gathered (map entry_in (drop from entries)))).0;
       place = omega arith;
-      holds = holds;
-      wrote = to_more w0.name f0 f1 f2 r0 r1 r2 run.wrote (subst (λ n. WroteTo n f1 f2 r1 r2) run.bits.name wrote);
     }
 
-pub on_run_end : (f0 f1 : Option Files) (r0 r1 : Reads) (w0 w1 : BitWriting) (entries : List (List ℕ)) (from : ℕ) (last : TermPosting) →
-    IsOnRun f0 f1 r0 r1 w0 w1 entries from last → length entries ≤ from → WroteBits w0 w1 f0 f1 (run_bits (gathered (map entry_in entries)))
-on_run_end f0 f1 r0 r1 w0 w1 entries from last run h =
+pub on_run_end : {Store : Type 0} {files : Store → Option Files} {reads : Store → Reads} {faults : Store → ℕ} {start now : Store} {v w : BitWriting}
+    {entries : List (List ℕ)} {from : ℕ} {last : TermPosting} → IsOnRun files reads faults start now v w entries from last → length entries ≤ from →
+    PutsBits {T = Unit {0}} (run_bits (gathered (map entry_in entries))) files reads faults v w start now (Ok tt)
+on_run_end {files = files} {reads = reads} {faults = faults} {start = start} {now = now} {v = v} {w = w} {entries = entries} {from = from} {last = last} run h =
     let none : drop from entries ≡ [] = grind (arith, common_steps) in
     let e : run.done ++ [] ≡ run_bits (gathered (map entry_in entries)) = ap (λ es. run.done ++ postings_bits last (gathered (map entry_in es))) (sym none) ∙ run.rest in
     let f : run.done ≡ run.done ++ [] = grind (arith, common_steps) in
-    subst (λ bits. WroteBits w0 w1 f0 f1 bits) (f ∙ e) run.bits
+    subst (λ bits. PutsBits {T = Unit {0}} bits files reads faults v w start now (Ok tt)) (f ∙ e) run.puts
 
 added_some : (x : TermPosting) (xs : List TermPosting) → added x xs ≡ [] → ⊥
 added_some x [] e = cc

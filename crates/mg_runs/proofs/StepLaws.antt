@@ -1,5 +1,6 @@
 -- Steps: what is one, one behind another, and one with another answer.
-use Rattle.std.proofs.Common.{◌≡◌, ◌≤◌, ◌∙◌, ℕ, List, Ok, Err, refl, sym, subst, arith}
+use Rattle.std.proofs.Common.{◌≡◌, ◌≤◌, ◌∙◌, ℕ, List, [], Ok, Err, refl, sym, ap, subst, arith, get_or, set}
+use Rattle.std.proofs.lemmas.List.{set-get_or, set-set}
 use Rattle.std.specs.Prelude.{IfOk}
 use Rattle.std.specs.declared.option.Option.{Option}
 use Rattle.std.specs.declared.result.Result.{Result}
@@ -15,7 +16,7 @@ use Rattle.mg_runs.specs.Cursors.{NoMemory}
 use Rattle.mg_runs.specs.Damages.{NamesPart, TellsBit, TellsBitOf}
 use Rattle.mg_runs.specs.Pooled.{Pooled, SamePool}
 use Rattle.mg_runs.specs.Reading.{GroupShaped}
-use Rattle.mg_runs.specs.Steps.{GroupLook, GroupStep, GroupWrite, HasSlots, LookStep, PassStep, PoolBack, RefusesAt, RunStep, WriterStep}
+use Rattle.mg_runs.specs.Steps.{GroupLook, GroupStep, GroupWrite, HasSlots, LookStep, PassStep, PoolBack, RefusesAt, RunStep, SlotStep, WriterStep}
 use Rattle.mg_runs.specs.declared.group.Group.{Group}
 use Rattle.mg_runs.proofs.Joins.{passed_looked, passed_more, passed_none, passed_wrote}
 use Rattle.mg_runs.proofs.Steps.{caused_as, looked_more, looked_none, memory_as, pool_more}
@@ -82,6 +83,43 @@ refuses_bad {U} e caused memory names bit = record {
   memory = memory_as ℕ U e memory;
   names = names;
   bit = bit;
+}
+
+-- ---- slots
+
+pub slot_none : {T : Type 0} {x : T} {part : Part} (slot : ℕ) (a : Pooled) (f : Option Files) (r : Reads) (n : ℕ) → SlotStep slot part a a (Ok x) f f r r n n
+slot_none slot a f r n = record {
+  slots = sym (set-get_or a.slots slot []);
+  pool = record { entries = λ e. e; peak = refl; limit = refl };
+  memory = tt;
+  look = look_none f r n;
+}
+
+pub slot_ok : {T U : Type 0} {x : T} {y : U} {slot : ℕ} {part : Part} {a b : Pooled} {f g : Option Files} {r s : Reads} {m n : ℕ} →
+    SlotStep slot part a b (Ok x) f g r s m n → SlotStep slot part a b (Ok y) f g r s m n
+slot_ok step = record { slots = step.slots; pool = step.pool; memory = tt; look = look_ok step.look }
+
+pub slot_err : {T U : Type 0} {e : PartErr} {slot : ℕ} {part : Part} {a b : Pooled} {f g : Option Files} {r s : Reads} {m n : ℕ} →
+    SlotStep {T = T} slot part a b (Err e) f g r s m n → SlotStep {T = U} slot part a b (Err e) f g r s m n
+slot_err {T} {U} {e} step = record { slots = step.slots; pool = step.pool; memory = memory_as T U e step.memory; look = look_err {T = T} {U = U} step.look }
+
+pub slot_then : {T U : Type 0} {x : T} {result : Result U PartErr} {slot : ℕ} {part : Part} {a b c : Pooled} {f g h : Option Files} {r s t : Reads} {l m n : ℕ} →
+    SlotStep slot part a b (Ok x) f g r s l m → SlotStep slot part b c result g h s t m n → SlotStep slot part a c result f h r t l n
+slot_then {slot = slot} {a = a} {c = c} one two = record {
+  slots = two.slots ∙ ap (λ (s : List (List ℕ)). set s slot (get_or c.slots slot [])) one.slots ∙ set-set a.slots slot _ _;
+  pool = pool_more one.pool two.pool;
+  memory = two.memory;
+  look = look_then one.look two.look;
+}
+
+-- a slot was filled, and its bytes were read
+pub slot_refuses : {T U : Type 0} {x : T} {result : Result U PartErr} {slot at : ℕ} {part : Part} {a b : Pooled} {f g : Option Files} {r s : Reads} {m n : ℕ} →
+    SlotStep slot part a b (Ok x) f g r s m n → RefusesAt part at result → SlotStep slot part a b result f g r s m n
+slot_refuses step read = record {
+  slots = step.slots;
+  pool = step.pool;
+  memory = read.memory;
+  look = record { looked = step.look.looked; cause = record { later = step.look.cause.later; device = read.caused _ _ }; names = read.names };
 }
 
 -- ---- looks at a group

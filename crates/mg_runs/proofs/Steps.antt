@@ -1,7 +1,11 @@
 -- Calls one after the other, and refusals passed on.
 use Rattle.std.proofs.Common.{◌≡◌, ℕ, ◌≤◌, List, [], ◌∷◌, refl, ap, ◌∙◌, arith, Some}
-use Rattle.std.specs.Prelude.{Err}
+use Rattle.std.specs.Prelude.{Err, IfOk, Ok}
 use Rattle.std.specs.declared.option.Option.{Option}
+use Rattle.std.specs.declared.result.Result.{Result}
+use Rattle.mg_dev.specs.Causes.{HasPutCause}
+use Rattle.mg_dev.specs.declared.device.PutErr.{PutErr}
+use Rattle.mg_dev.specs.declared.device.PutErr.TheVariants.{Failed}
 use Rattle.mg_dev.specs.declared.part.Part.{Part}
 use Rattle.mg_dev.specs.declared.part_err.PartErr.{PartErr}
 use Rattle.mg_dev.specs.declared.part_err.PartErr.TheVariants.{Device, Memory, Bad}
@@ -10,7 +14,7 @@ use Rattle.mg_dev.specs.PartCauses.{IsCaused}
 use Rattle.mg_bits.specs.Pages.{Looked}
 use Rattle.mg_defs.specs.declared.TermPosting.{TermPosting}
 use Rattle.mg_runs.specs.Pooled.{Pooled, SamePool}
-use Rattle.mg_runs.specs.Cursors.{NoDamage, NoMemory}
+use Rattle.mg_runs.specs.Cursors.{NoDamage, NoMemory, Tells}
 use Rattle.mg_runs.specs.Merging.{first}
 
 pub looked_more : {part : Part} {f g h : Option Files} {r s t : Reads} {l m n : ℕ} → Looked part f g r s l m → Looked part g h s t m n → Looked part f h r t l n
@@ -41,10 +45,41 @@ undamaged_as T U Device h = tt
 undamaged_as T U Memory h = tt
 undamaged_as T U (Bad bad) h = h
 
+-- a refusal that is no damage, or that was told before, is told here
+pub tells_none : (T U : Type 0) (P : U → Type 0) (e : PartErr) → NoDamage {T = T} (Err e) → Tells {T = U} (Err e) P
+tells_none T U P Device h = tt
+tells_none T U P Memory h = tt
+tells_none T U P (Bad bad) h = h
+
+pub damage_none : (T U : Type 0) (P : T → Type 0) (e : PartErr) → Tells {T = T} (Err e) P → NoDamage {T = U} (Err e)
+damage_none T U P Device h = tt
+damage_none T U P Memory h = tt
+damage_none T U P (Bad bad) h = h
+
+pub tells_err : (T U : Type 0) (P : T → Type 0) (Q : U → Type 0) (e : PartErr) → Tells {T = T} (Err e) P → Tells {T = U} (Err e) Q
+tells_err T U P Q Device h = tt
+tells_err T U P Q Memory h = tt
+tells_err T U P Q (Bad bad) h = h
+
+-- what is told of an answer, and that it is no damage
+pub tells_ok : {T : Type 0} (P : T → Type 0) (r : Result T PartErr) → Tells r P → IfOk r P
+tells_ok P (Ok x) h = h
+tells_ok P (Err e) h = tt
+
+pub tells_undamaged : {T : Type 0} (P : T → Type 0) (r : Result T PartErr) → Tells r P → NoDamage r
+tells_undamaged P (Ok x) h = tt
+tells_undamaged P (Err Device) h = tt
+tells_undamaged P (Err Memory) h = tt
+tells_undamaged P (Err (Bad bad)) h = h
+
 pub memory_as : (T U : Type 0) (e : PartErr) → NoMemory {T = T} (Err e) → NoMemory {T = U} (Err e)
 memory_as T U Device h = tt
 memory_as T U Memory h = h
 memory_as T U (Bad bad) h = tt
+
+-- a writer's refusal
+pub put_as : (T U : Type 0) (f g : ℕ) (e : PutErr) → HasPutCause {T = T} f g (Err e) → HasPutCause {T = U} f g (Err e)
+put_as T U f g e cause = record { later = cause.later; failed = λ h. let same : e ≡ Failed = cc in cause.failed (ap (λ x. Err x) same) }
 
 -- a list by its first posting
 pub split_first : (left : List TermPosting) (y : TermPosting) → first left ≡ Some y → (ys : List TermPosting) × (left ≡ y ∷ ys)

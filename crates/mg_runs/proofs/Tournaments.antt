@@ -1,9 +1,9 @@
 -- Tournaments, one node after the other.
-use Rattle.std.proofs.Common.{◌≡◌, ◌≢◌, ℕ, zero, suc, ◌+◌, ◌-◌, ◌*◌, ◌/◌, ◌<◌, ◌≤◌, inl, inr, List, [], ◌∷◌, length, refl, sym, ap, ◌∙◌, subst, arith, get_or, set, drop, length-set}
+use Rattle.std.proofs.Common.{◌≡◌, ◌≢◌, ℕ, zero, suc, ◌+◌, ◌-◌, ◌*◌, ◌/◌, ◌<◌, ◌≤◌, ◌⊎◌, inl, inr, List, [], ◌∷◌, length, refl, sym, ap, ◌∙◌, subst, arith, get_or, set, drop, length-set}
 use Rattle.std.proofs.lemmas.Bool.{cases_lt, cases_eq}
-use Rattle.std.proofs.lemmas.List.{get_or-drop, get_or-set_other}
+use Rattle.std.proofs.lemmas.List.{get_or-drop, get_or-set_other, get_or-set_same, get_or_default}
 use Rattle.std.proofs.lemmas.Grind.{common_steps}
-use Rattle.mg_runs.specs.Tournament.{IsNode, IsPlayedBut, IsPlayedFrom, IsTournament}
+use Rattle.mg_runs.specs.Tournament.{IsLesser, IsNode, IsPlayedAt, IsPlayedBut, IsPlayedFrom, IsTournament}
 
 -- ---- lists by their places
 
@@ -44,20 +44,52 @@ kept ks ws ls xs i node a b c d e f = record {
   ];
 }
 
+child_within : (i child : ℕ) → (child ≡ 2 * i) ⊎ (child ≡ 2 * i + 1) → child ≤ 2 * i + 1
+child_within i child (inl e) = omega arith
+child_within i child (inr e) = omega arith
+
+-- a node that takes the key and the winner of the lesser node below it
+pub played_at : (i child : ℕ) (ks ws : List ℕ) → 1 ≤ i → 2 * i + 1 < length ks → 2 * i + 1 < length ws → IsLesser ks i child → (key winner : ℕ) →
+    key ≡ get_or ks child key → winner ≡ get_or ws child winner → IsPlayedAt i ks ws (set ks i key) (set ws i winner)
+played_at i child ks ws some keys winners lesser key winner read who_read =
+    let within : child ≤ 2 * i + 1 = child_within i child lesser.below in
+    let key_is : key ≡ get_or ks child 0 = read ∙ get_or_default ks child key 0 (omega arith) in
+    let winner_is : winner ≡ get_or ws child 0 = who_read ∙ get_or_default ws child winner 0 (omega arith) in
+    let own : get_or (set ks i key) i 0 ≡ key = get_or-set_same ks i key 0 (omega arith) in
+    let who : get_or (set ws i winner) i 0 ≡ winner = get_or-set_same ws i winner 0 (omega arith) in
+    let left : get_or (set ks i key) (2 * i) 0 ≡ get_or ks (2 * i) 0 = get_or-set_other ks i (2 * i) key 0 (λ e. omega arith) in
+    let right : get_or (set ks i key) (2 * i + 1) 0 ≡ get_or ks (2 * i + 1) 0 = get_or-set_other ks i (2 * i + 1) key 0 (λ e. omega arith) in
+    let who_left : get_or (set ws i winner) (2 * i) 0 ≡ get_or ws (2 * i) 0 = get_or-set_other ws i (2 * i) winner 0 (λ e. omega arith) in
+    let who_right : get_or (set ws i winner) (2 * i + 1) 0 ≡ get_or ws (2 * i + 1) 0 = get_or-set_other ws i (2 * i + 1) winner 0 (λ e. omega arith) in
+    record {
+      node = record {
+        left = omega (arith, own, key_is, left, lesser.left);
+        right = omega (arith, own, key_is, right, lesser.right);
+        from = elim lesser.below [
+          | inl e ↦ inl (own ∙ key_is ∙ ap (λ k. get_or ks k 0) e ∙ sym left, who ∙ winner_is ∙ ap (λ k. get_or ws k 0) e ∙ sym who_left)
+          | inr e ↦ inr (own ∙ key_is ∙ ap (λ k. get_or ks k 0) e ∙ sym right, who ∙ winner_is ∙ ap (λ k. get_or ws k 0) e ∙ sym who_right)
+        ];
+      };
+      same_keys = λ k other. get_or-set_other ks i k key 0 other;
+      same_winners = λ k other. get_or-set_other ws i k winner 0 other;
+      keys_length = length-set ks i key;
+      winners_length = length-set ws i winner;
+    }
+
 -- a node was played: its parent may be off now
-pub played : (i count : ℕ) (ks ws ls xs : List ℕ) → IsPlayedBut i count ks ws → 1 ≤ i → i < count → IsNode ls xs i →
-    ((k : ℕ) → (k ≡ i → ⊥) → get_or ls k 0 ≡ get_or ks k 0) → ((k : ℕ) → (k ≡ i → ⊥) → get_or xs k 0 ≡ get_or ws k 0) → length ls ≡ length ks →
-    length xs ≡ length ws → IsPlayedBut (i / 2) count ls xs
-played i count ks ws ls xs t low high node keys winners a b = record {
-  keys_length = a ∙ t.keys_length;
-  winners_length = b ∙ t.winners_length;
-  leaves = λ k h. winners (count + k) (λ e. omega arith) ∙ t.leaves k h;
+pub played : {i count : ℕ} {ks ws ls xs : List ℕ} → IsPlayedBut i count ks ws → 1 ≤ i → i < count → IsPlayedAt i ks ws ls xs →
+    IsPlayedBut (i / 2) count ls xs
+played {i = i} {count = count} {ks = ks} {ws = ws} {ls = ls} {xs = xs} t low high now = record {
+  keys_length = now.keys_length ∙ t.keys_length;
+  winners_length = now.winners_length ∙ t.winners_length;
+  leaves = λ k h. now.same_winners (count + k) (λ e. omega arith) ∙ t.leaves k h;
   nodes = λ j l h other. elim (cases_eq j i) [
-    | inl same ↦ subst (λ n. IsNode ls xs n) (sym same) node
+    | inl same ↦ subst (λ n. IsNode ls xs n) (sym same) now.node
     | inr apart ↦
         let left : 2 * j ≡ i → ⊥ = λ e. other (omega arith) in
         let right : 2 * j + 1 ≡ i → ⊥ = λ e. other (omega arith) in
-        kept ks ws ls xs j (t.nodes j l h apart) (keys j apart) (keys (2 * j) left) (keys (2 * j + 1) right) (winners j apart) (winners (2 * j) left) (winners (2 * j + 1) right)
+        kept ks ws ls xs j (t.nodes j l h apart) (now.same_keys j apart) (now.same_keys (2 * j) left) (now.same_keys (2 * j + 1) right)
+        (now.same_winners j apart) (now.same_winners (2 * j) left) (now.same_winners (2 * j + 1) right)
   ];
 }
 
@@ -82,20 +114,20 @@ key_set count contestant key ks ls len same =
     drop_same count ls (set ks (count + contestant) key) (len ∙ sym (length-set ks (count + contestant) key)) same ∙ drop-set count contestant (count + contestant) ks key refl
 
 -- a node was played on the way down
-pub played_down : (i from count : ℕ) (ks ws ls xs : List ℕ) → IsPlayedFrom from count ks ws → from ≡ i + 1 → 1 ≤ i → i < count → IsNode ls xs i →
-    ((k : ℕ) → (k ≡ i → ⊥) → get_or ls k 0 ≡ get_or ks k 0) → ((k : ℕ) → (k ≡ i → ⊥) → get_or xs k 0 ≡ get_or ws k 0) → length ls ≡ length ks →
-    length xs ≡ length ws → IsPlayedFrom i count ls xs
-played_down i from count ks ws ls xs t next low high node keys winners a b = record {
-  keys_length = a ∙ t.keys_length;
-  winners_length = b ∙ t.winners_length;
-  leaves = λ k h. winners (count + k) (λ e. omega arith) ∙ t.leaves k h;
+pub played_down : {i from count : ℕ} {ks ws ls xs : List ℕ} → IsPlayedFrom from count ks ws → from ≡ i + 1 → 1 ≤ i → i < count →
+    IsPlayedAt i ks ws ls xs → IsPlayedFrom i count ls xs
+played_down {i = i} {from = from} {count = count} {ks = ks} {ws = ws} {ls = ls} {xs = xs} t next low high now = record {
+  keys_length = now.keys_length ∙ t.keys_length;
+  winners_length = now.winners_length ∙ t.winners_length;
+  leaves = λ k h. now.same_winners (count + k) (λ e. omega arith) ∙ t.leaves k h;
   nodes = λ j l h above. elim (cases_eq j i) [
-    | inl same ↦ subst (λ n. IsNode ls xs n) (sym same) node
+    | inl same ↦ subst (λ n. IsNode ls xs n) (sym same) now.node
     | inr apart ↦
         let more : from ≤ j = strictly i j from above apart next in
         let left : 2 * j ≡ i → ⊥ = λ e. omega arith in
         let right : 2 * j + 1 ≡ i → ⊥ = λ e. omega arith in
-        kept ks ws ls xs j (t.nodes j l h more) (keys j apart) (keys (2 * j) left) (keys (2 * j + 1) right) (winners j apart) (winners (2 * j) left) (winners (2 * j + 1) right)
+        kept ks ws ls xs j (t.nodes j l h more) (now.same_keys j apart) (now.same_keys (2 * j) left) (now.same_keys (2 * j + 1) right)
+        (now.same_winners j apart) (now.same_winners (2 * j) left) (now.same_winners (2 * j + 1) right)
   ];
 }
   where

@@ -1,10 +1,11 @@
 -- Entries as 12 bytes each.
-use Rattle.std.specs.Prelude.{◌≡◌, ◌≤◌, ◌+◌, ◌++◌, ℕ, List, [], ◌∷◌, map, slice_index}
+use Rattle.std.specs.Prelude.{◌≡◌, ◌≤◌, ◌<◌, ◌+◌, ◌*◌, ◌^◌, ◌++◌, ℕ, List, [], ◌∷◌, length, map, slice_index}
 use Rattle.std.specs.Int.{w32, to_be_bytes, from_be_bytes}
 use Rattle.std.specs.List.{AllByRecursion}
 use Rattle.std.specs.Simd.{first_chunks}
 use Rattle.mg_defs.specs.declared.TermPosting.{TermPosting}
 
+-- the number of four bytes from this place on
 unfoldable pub number_in : ℕ → List ℕ → ℕ
 number_in from bytes = from_be_bytes w32 (slice_index bytes from ∷ slice_index bytes (from + 1) ∷
     slice_index bytes (from + 2) ∷ slice_index bytes (from + 3) ∷ [])
@@ -13,6 +14,7 @@ number_in from bytes = from_be_bytes w32 (slice_index bytes from ∷ slice_index
 abbrev pub entry_in : List ℕ → TermPosting
 entry_in bytes = record { term = number_in 0 bytes; doc = number_in 4 bytes; count = number_in 8 bytes }
 
+-- the twelve bytes of an entry
 unfoldable pub bytes_of : ℕ → ℕ → ℕ → List ℕ
 bytes_of term doc count = to_be_bytes w32 term ++ (to_be_bytes w32 doc ++ to_be_bytes w32 count)
 
@@ -23,3 +25,10 @@ entries_in count bytes = map entry_in (first_chunks 12 count bytes)
 -- each counts one, and has a document
 abbrev pub AreEntries : List TermPosting → Type 0
 AreEntries xs = AllByRecursion (λ x. (x.count ≡ 1) × (1 ≤ x.doc)) xs
+
+-- the bytes begin with so many entries, at least one and fewer than a pool has room for
+pub record AreTaken (count : ℕ) (bytes : List ℕ) : Type 0 where
+  pub some : 1 ≤ count
+  pub few : count < 2 ^ 27
+  pub room : 12 * count ≤ length bytes
+  pub are : AreEntries (entries_in count bytes)

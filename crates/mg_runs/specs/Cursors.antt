@@ -70,6 +70,29 @@ NoDamage (Err Device) = Unit {0}
 NoDamage (Err Memory) = Unit {0}
 NoDamage (Err (Bad bad)) = ⊥
 
+-- the answer is as told, and is no damage
+abbrev pub Tells : {T : Type 0} → Result T PartErr → (T → Type 0) → Type 0
+Tells (Ok value) claim = claim value
+Tells (Err Device) claim = Unit {0}
+Tells (Err Memory) claim = Unit {0}
+Tells (Err (Bad bad)) claim = ⊥
+
+-- the cursor is where it was, and its next bits begin within the first half of the slot
+pub record IsKept (old new : Cursor) : Type 0 where
+  pub near : IsNear new
+  pub left : new.left ≡ old.left
+  pub place : new.place ≡ old.place
+
+-- one posting less is left than before, and where some are left the cursor is at one
+pub record HasMoved (old new : Cursor) : Type 0 where
+  pub left : new.left + 1 ≡ old.left
+  pub posting : HasPosting new
+
+-- no more postings are left than a run may have, and where some are left the cursor is at one
+pub record IsBegun (cursor : Cursor) : Type 0 where
+  pub few : cursor.left < 2 ^ 32
+  pub posting : HasPosting cursor
+
 -- for each posting behind the one that the cursor is at, with those after it: by the bytes of the file
 abbrev pub ForNextAt : Cursor → List ℕ → (List ℕ → TermPosting → List TermPosting → Type 0) → Type 0
 ForNextAt cursor slot claim = (file : List ℕ) (x y : TermPosting) (ys : List TermPosting) →

@@ -8,7 +8,7 @@ ghost use Rattle.mg_runs.specs.Cursors.{HasPosting, NoDamage};
 ghost use Rattle.mg_runs.specs.Decoding.{IsInDocument};
 ghost use Rattle.mg_runs.specs.Merging.{IsAlike, IsHead, key_of as key, left_together, no_cursor, first as first_of, NoneBefore, AllOpen};
 ghost use Rattle.mg_runs.specs.Reading.{GroupHas, GroupMerged, GroupShaped, GroupStands, ForLefts, ForRuns, ForStep, ForTaken, ForLeft};
-ghost use Rattle.mg_runs.specs.Steps.{GroupStep, HasSlots, LookStep, PoolBack};
+ghost use Rattle.mg_runs.specs.Steps.{GroupLoaded, GroupStep, HasSlots, LookStep};
 
 use crate::Pool;
 use crate::cursor::Cursor;
@@ -103,17 +103,8 @@ impl<'a> Group<'a> {
         places: &[u64],
     ) -> Result<Self, PartErr>
         requires slots { HasSlots pool (length places.now) }
-        ensures shape { IfOk result (λ g. GroupShaped g) }
-        ensures total { IfOk result (λ g. left_together g.cursors.items
-            ≤ 2 ^ 32 * length places.now) }
-        ensures told { ForRuns file.entry (S.files store.old) places.now
-            (λ bytes runs. IfOk result (λ g. GroupStands g bytes runs)) }
-        ensures undamaged { ForRuns file.entry (S.files store.old) places.now
-            (λ _ _. NoDamage result) }
-        ensures pool { IfOk result (λ g. PoolBack (length places.now) pool g.pool) }
-        ensures file { IfOk result (λ g. g.file ≡ file.entry) }
-        ensures read { Between S.files S.reads S.faults store.old store.new
-            (LookStep file.entry.part result) }
+        ensures { Between S.files S.reads S.faults store.old store.new
+            (GroupLoaded pool file.entry places.now result) }
     {
         pool.use_slots(places.len());
         match open_all(alloc, store, &mut pool, &file, places) {

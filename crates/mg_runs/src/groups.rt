@@ -4,7 +4,7 @@ ghost use Rattle.std.specs.List.{All};
 ghost use Rattle.std.specs.List.Sorted.{IsPermutation};
 ghost use Rattle.mg_runs.specs.PostingOrder.{NotFalling};
 ghost use Rattle.mg_runs.specs.Bytes.{entry_in, number_in};
-ghost use Rattle.mg_runs.specs.Groups.{IsGroup};
+ghost use Rattle.mg_runs.specs.Groups.{InOrder, IsGroup};
 
 use crate::entry::number_at;
 use mg_fields::eight_at;
@@ -29,8 +29,7 @@ pub fn sort_entries(entries: &mut [[u8; 12]])
 /// Where the entries end that are like this one.
 pub fn group_end(entries: &[[u8; 12]], from: usize) -> usize
     requires from { from < length entries.now }
-    requires order { NotFalling (map entry_in entries.now) }
-    requires ones { All (λ e. number_in 8 e ≡ 1) entries.now }
+    requires order { InOrder entries.now }
     ensures after { from < result }
     ensures within { result ≤ length entries.now }
     ensures group { IsGroup entries.now from result }

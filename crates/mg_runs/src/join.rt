@@ -4,11 +4,12 @@ ghost use Rattle.mg_dev.specs.declared.part.Part.{Part as AnyPart};
 ghost use Rattle.mg_dev.specs.Causes.{HasPutCause};
 ghost use Rattle.mg_dev.specs.Moments.{Between};
 ghost use Rattle.mg_dev.specs.PartCauses.{HasPartCause};
-ghost use Rattle.mg_defs.specs.Postings.{IsBefore, merged};
+ghost use Rattle.mg_defs.specs.Postings.{merged};
 ghost use Rattle.mg_defs.specs.declared.TermPosting.{TermPosting};
 ghost use Rattle.mg_runs.specs.Cursors.{NoDamage};
 ghost use Rattle.mg_runs.specs.Damages.{NamesItsPart, NamesPart};
 ghost use Rattle.mg_runs.specs.Merging.{AreRuns, left_together};
+ghost use Rattle.mg_runs.specs.PostingOrder.{Follows};
 ghost use Rattle.mg_runs.specs.Joins.{WrotePostings, WritesRun, Counts};
 ghost use Rattle.mg_runs.specs.Reading.{ForCounted, ForRuns, ForGroup, ForLeft, ForLeftRun, ForPutting, GroupShaped, PutSince};
 ghost use Rattle.mg_runs.specs.Steps.{GroupLook, GroupWrite, HasSlots, LookStep, MayWrite, PoolBack, RunStep};
@@ -68,8 +69,7 @@ fn count_postings<S: Store>(group: &mut Group<'_>, store: &mut S) -> Result<u64,
 
 /// Whether a posting may stand behind another one in a run.
 fn can_follow(last: &TermPosting, posting: &TermPosting) -> bool
-    ensures { IsTrue result ↔ (IsBefore last.now posting.now × (1 ≤ posting.now.doc)
-        × (1 ≤ posting.now.count)) }
+    ensures { IsTrue result ↔ Follows last.now posting.now }
 {
     (posting.term > last.term || (posting.term == last.term && posting.doc > last.doc))
         && posting.doc >= 1

@@ -7,8 +7,7 @@ ghost use Rattle.mg_runs.specs.Damages.{NamesItsPart, NamesPartOf, TellsBitIn};
 ghost use Rattle.mg_runs.specs.Joins.{IsRunPart, Worked};
 ghost use Rattle.mg_runs.specs.Left.{IsMerging, postings_left, ForMerging};
 ghost use Rattle.mg_runs.specs.Merging.{first as first_of};
-ghost use Rattle.mg_runs.specs.Reading.{RoundTells, ForRound};
-ghost use Rattle.mg_runs.specs.Steps.{LookStep};
+ghost use Rattle.mg_runs.specs.Merged.{MergeOpened};
 ghost use Rattle.mg_dev.specs.Moments.{Between};
 
 use crate::group::Group;
@@ -51,17 +50,8 @@ impl<'a> Merge<'a> {
         requires limit { round.pool.limit ≤ 2 ^ 30 }
         requires entries { round.pool.entries ≡ [] }
         requires part { IsRunPart round.file.part }
-        ensures left { (whole : List TermPosting) →
-            RoundTells round.entry (S.files store.old) whole →
-            IfOk result (λ made. IsMerging made (S.files store.new) whole) }
-        ensures undamaged { ForRound round.entry (S.files store.old) (λ _. NoDamage result) }
-        ensures few { IfOk result (λ merge. postings_left merge ≤ 2 ^ 56) }
-        ensures base { IfOk result (λ merge. merge.base ≡ round.entry.file.base.now) }
-        ensures runs { IfOk result (λ merge. merge.runs ≡ runs) }
-        ensures peak { IfOk result (λ merge. merge.peak ≡
-            max round.entry.pool.peak (64 * length round.entry.places.items)) }
-        ensures read { Between S.files S.reads S.faults store.old store.new
-            (LookStep round.entry.file.part result) }
+        ensures { Between S.files S.reads S.faults store.old store.new
+            (MergeOpened round.entry runs result) }
     {
         let Round { pool, places, file } = round;
         let base = file.base;

@@ -1,9 +1,7 @@
 //! Memory of fixed size.
 ghost use Rattle.std.specs.Prelude.{◌≡◌, ◌≤◌, ◌<◌, ◌+◌, ◌*◌, ◌/◌, ◌^◌, ◌++◌, ◌↔◌, [], ◌∷◌, IfOk, IsTrue, length, max, slice_index_or};
-ghost use Rattle.mg_dev.specs.Causes.{HasCause};
-ghost use Rattle.mg_bits.specs.Pages.{Looked};
-ghost use Rattle.mg_runs.specs.Pooled.{used, slot_bytes};
-ghost use Rattle.mg_runs.specs.Slots.{FillsFrom, ChangesOneSlot};
+ghost use Rattle.mg_runs.specs.Pooled.{SamePool, used, slot_bytes};
+ghost use Rattle.mg_runs.specs.Slots.{FillLook, FillsFrom, ChangesOneSlot};
 ghost use Rattle.mg_dev.specs.Moments.{Between};
 
 use crate::entry::put_entry;
@@ -147,14 +145,11 @@ impl Pool {
     ) -> Result<usize, Failed>
         requires { slot < length self.old.slots }
         ensures slots { ChangesOneSlot slot self.old.slots self.new.slots }
-        ensures entries { self.old.entries ≡ [] → self.new.entries ≡ [] }
-        ensures peak { self.new.peak ≡ self.old.peak }
-        ensures limit { self.new.limit ≡ self.old.limit }
+        ensures same { SamePool self.old self.new }
         ensures filled { FillsFrom file.now (S.files store.old) at (slot_bytes self.new slot)
             result }
-        ensures looked { Between S.files S.reads S.faults store.old store.new
-            (Looked file.now.part) }
-        ensures cause { HasCause (S.faults store.old) (S.faults store.new) result }
+        ensures look { Between S.files S.reads S.faults store.old store.new
+            (FillLook file.now.part result) }
     {
         fill_slot(store, file, at, &mut self.bytes, slot)
     }

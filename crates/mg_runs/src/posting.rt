@@ -1,11 +1,11 @@
 //! A posting in bits.
 ghost use Rattle.std.specs.Prelude.{◌≡◌, ◌+◌, ◌≤◌, ◌<◌, ◌^◌, OnOk};
-ghost use Rattle.mg_dev.specs.Causes.{HasPutCause};
 ghost use Rattle.mg_defs.specs.Codes.{gamma};
 ghost use Rattle.mg_defs.specs.Postings.{IsBefore};
 ghost use Rattle.mg_defs.specs.RunBits.{run_posting_bits, doc_gap as gap_of};
-ghost use Rattle.mg_bits.specs.Writer.{WroteTo};
-ghost use Rattle.mg_bits.specs.BitWriting.{Holds, WroteBits};
+ghost use Rattle.mg_bits.specs.BitWriting.{Holds};
+ghost use Rattle.mg_codes.specs.Writers.{PutsBits};
+ghost use Rattle.mg_runs.specs.PostingOrder.{Follows};
 
 use mg_bits::BitWriter;
 use mg_codes::put_gamma;
@@ -30,17 +30,11 @@ pub fn put_number<S: Store>(w: &mut BitWriter<'_>, store: &mut S, x: u64) -> Res
     requires place { w.old.place ≤ 2 ^ 63 }
     requires some { 1 ≤ x }
     requires below { x < 2 ^ 33 }
-    ensures holds { OnOk result (Holds w.new (S.files store.new)) }
-    ensures bits { OnOk result (WroteBits w.old w.new (S.files store.old) (S.files store.new)
-        (gamma x)) }
+    ensures puts { PutsBits (gamma x) S.files S.reads S.faults w.old w.new store.old store.new
+        result }
     ensures place { OnOk result (w.new.place ≤ w.old.place + 66) }
-    ensures name { w.new.name ≡ w.old.name }
-    ensures wrote { WroteTo w.old.name (S.files store.old) (S.files store.new) (S.reads store.old)
-        (S.reads store.new) }
-    ensures cause { HasPutCause (S.faults store.old) (S.faults store.new) result }
 {
-    put_gamma(w, store, x)?;
-    Ok(())
+    put_gamma(w, store, x)
 }
 
 /// Writes a posting after another one.
@@ -52,17 +46,10 @@ pub fn put_posting<S: Store>(
 ) -> Result<(), PutErr>
     requires holds { Holds w.old (S.files store.old) }
     requires place { w.old.place + 256 ≤ 2 ^ 63 }
-    requires before { IsBefore last.now posting.now }
-    requires doc { 1 ≤ posting.now.doc }
-    requires count { 1 ≤ posting.now.count }
-    ensures holds { OnOk result (Holds w.new (S.files store.new)) }
-    ensures bits { OnOk result (WroteBits w.old w.new (S.files store.old) (S.files store.new)
-        (run_posting_bits last.now posting.now)) }
+    requires follows { Follows last.now posting.now }
+    ensures puts { PutsBits (run_posting_bits last.now posting.now) S.files S.reads S.faults
+        w.old w.new store.old store.new result }
     ensures place { OnOk result (w.new.place ≤ w.old.place + 256) }
-    ensures name { w.new.name ≡ w.old.name }
-    ensures wrote { WroteTo w.old.name (S.files store.old) (S.files store.new) (S.reads store.old)
-        (S.reads store.new) }
-    ensures cause { HasPutCause (S.faults store.old) (S.faults store.new) result }
 {
     put_number(w, store, u64::from(posting.term - last.term) + 1)?;
     put_number(w, store, u64::from(doc_gap(last, posting)))?;

@@ -3,9 +3,8 @@ ghost use Rattle.std.specs.Prelude.{◌≡◌, ◌≤◌, ◌<◌, ◌+◌, ◌-
 ghost use Rattle.mg_dev.specs.Moments.{Between};
 ghost use Rattle.mg_runs.specs.Cursors.{NoDamage};
 ghost use Rattle.mg_runs.specs.Joins.{IsRunPart, other, GroupsJoined};
-ghost use Rattle.mg_runs.specs.Stays.{SamePart};
-ghost use Rattle.mg_runs.specs.Reading.{ForStored, RoundHas, ForRound, peak_with, next_name};
-ghost use Rattle.mg_runs.specs.Steps.{HasSlots, MayWrite, PassStep, PoolBack, RunStep, WorkStep};
+ghost use Rattle.mg_runs.specs.Reading.{ForStored};
+ghost use Rattle.mg_runs.specs.Steps.{HasSlots, MayWrite, PoolBack, RoundJoined, RoundsDone, RunStep};
 
 use crate::Pool;
 use crate::join::{join, refused};
@@ -94,17 +93,8 @@ impl<'a> Round<'a> {
         requires slots { HasSlots self.pool width }
         requires more { width < length self.places.items }
         requires part { IsRunPart self.file.part }
-        ensures told { ForRound self.entry (S.files store.old)
-            (λ whole. IfOk result (λ next. RoundHas next (S.files store.new) whole)) }
-        ensures undamaged { ForRound self.entry (S.files store.old) (λ _. NoDamage result) }
-        ensures count { IfOk result
-            (λ next. length next.places.items ≡ (length self.entry.places.items + width - 1) /
-            width) }
-        ensures pool { IfOk result (λ next. PoolBack width self.entry.pool next.pool) }
-        ensures base { IfOk result (λ next. next.file.base ≡ self.entry.file.base) }
-        ensures part { IfOk result (λ next. next.file.part ≡ other self.entry.file.part) }
-        ensures step { Between S.files S.reads S.faults store.old store.new
-            (PassStep self.entry.file.part (next_name self.entry.file) result) }
+        ensures { Between S.files S.reads S.faults store.old store.new
+            (RoundJoined width self.entry result) }
     {
         let Round { pool, places, file } = self;
         let to = FileRef {
@@ -138,21 +128,8 @@ impl<'a> Round<'a> {
         requires some { 2 ≤ width }
         requires slots { HasSlots self.pool width }
         requires part { IsRunPart self.file.part }
-        ensures told { ForRound self.entry (S.files store.old)
-            (λ whole. IfOk result (λ last. RoundHas last (S.files store.new) whole)) }
-        ensures undamaged { ForRound self.entry (S.files store.old) (λ _. NoDamage result) }
-        ensures few { IfOk result (λ last. length last.places.items ≤ width) }
-        ensures count { IfOk result
-            (λ last. length last.places.items ≡ 0 → length self.entry.places.items ≡ 0) }
-        ensures entries { IfOk result (λ last. last.pool.entries ≡ []) }
-        ensures limit { IfOk result (λ last. last.pool.limit ≡ self.entry.pool.limit) }
-        ensures peak { IfOk result (λ last. peak_with width last ≡ peak_with width self.entry) }
-        ensures base { IfOk result (λ last. last.file.base ≡ self.entry.file.base) }
-        ensures part { IfOk result (λ last. IsRunPart last.file.part) }
-        ensures run { SamePart self.entry.file.base.now Part.Run (S.files store.old)
-            (S.files store.new) }
-        ensures step { Between S.files S.reads S.faults store.old store.new
-            (WorkStep self.entry.file.base.now result) }
+        ensures { Between S.files S.reads S.faults store.old store.new
+            (RoundsDone width self.entry result) }
     {
         let mut round = self;
         while round.places.len() > width {

@@ -1,14 +1,12 @@
 //! The entries of a pool as a run.
 ghost use Rattle.std.specs.Prelude.{◌≡◌, ◌+◌, ◌*◌, ◌%◌, ◌≤◌, ◌<◌, ◌^◌, ℕ, OnOk, length, map, slice_index};
-ghost use Rattle.std.specs.List.{All};
-ghost use Rattle.mg_dev.specs.Causes.{HasPutCause};
 ghost use Rattle.mg_defs.specs.Bits.{filled};
 ghost use Rattle.mg_defs.specs.Postings.{gathered};
-ghost use Rattle.mg_runs.specs.PostingOrder.{NotFalling};
 ghost use Rattle.mg_defs.specs.RunBits.{run_bits};
-ghost use Rattle.mg_bits.specs.Writer.{WroteTo};
-ghost use Rattle.mg_bits.specs.BitWriting.{Holds, WroteBits};
-ghost use Rattle.mg_runs.specs.Bytes.{entry_in, entries_in, number_in, AreEntries};
+ghost use Rattle.mg_bits.specs.BitWriting.{Holds};
+ghost use Rattle.mg_codes.specs.Writers.{PutsBits};
+ghost use Rattle.mg_runs.specs.Bytes.{AreTaken, entry_in, entries_in};
+ghost use Rattle.mg_runs.specs.Groups.{InOrder};
 
 use crate::entry::number_at;
 use crate::groups::{group_end, sort_entries};
@@ -24,9 +22,7 @@ fn bytes_fit(bytes: &[u8])
 
 /// How many postings sorted entries have.
 fn distinct(entries: &[[u8; 12]]) -> u32
-    requires few { length entries.now < 2 ^ 27 }
-    requires order { NotFalling (map entry_in entries.now) }
-    requires ones { All (λ e. number_in 8 e ≡ 1) entries.now }
+    requires { InOrder entries.now }
     ensures value { result ≡ length (gathered (map entry_in entries.now)) }
     ensures few { result < 2 ^ 27 }
 {
@@ -47,22 +43,17 @@ fn put_list<S: Store>(
 ) -> Result<(), PutErr>
     requires holds { Holds w.old (S.files store.old) }
     requires place { w.old.place + 256 * length entries.now + 1024 ≤ 2 ^ 63 }
-    requires few { length entries.now < 2 ^ 27 }
     requires some { 1 ≤ length entries.now }
-    requires order { NotFalling (map entry_in entries.now) }
-    requires ones { All (λ e. number_in 8 e ≡ 1) entries.now }
-    requires docs { All (λ e. 1 ≤ number_in 4 e) entries.now }
-    ensures holds { OnOk result (Holds w.new (S.files store.new)) }
-    ensures bits { OnOk result (WroteBits w.old w.new (S.files store.old) (S.files store.new)
-        (run_bits (gathered (map entry_in entries.now)))) }
+    requires order { InOrder entries.now }
+    ensures puts { PutsBits (run_bits (gathered (map entry_in entries.now)))
+        S.files S.reads S.faults w.old w.new store.old store.new result }
     ensures place { OnOk result (w.new.place ≤ w.old.place + 66 + 256 * length entries.now) }
-    ensures name { w.new.name ≡ w.old.name }
-    ensures wrote { WroteTo w.old.name (S.files store.old) (S.files store.new) (S.reads store.old)
-        (S.reads store.new) }
-    ensures cause { HasPutCause (S.faults store.old) (S.faults store.new) result }
 {
     let count = distinct(entries);
-    put_number(w, store, u64::from(count))?;
+    match put_number(w, store, u64::from(count)) {
+        Ok(()) => {}
+        Err(refusal) => return Err(refusal),
+    }
     let mut last = TermPosting {
         term: 0,
         doc: 0,
@@ -76,7 +67,10 @@ fn put_list<S: Store>(
             doc: number_at(&entries[from], 4),
             count: (next - from) as u32,
         };
-        put_posting(w, store, &last, &posting)?;
+        match put_posting(w, store, &last, &posting) {
+            Ok(()) => {}
+            Err(refusal) => return Err(refusal),
+        }
         last = posting;
         from = next;
     }
@@ -93,19 +87,11 @@ pub fn write_entries<S: Store>(
     requires holds { Holds w.old (S.files store.old) }
     requires place { w.old.place + 256 * count + 2048 ≤ 2 ^ 63 }
     requires whole { w.old.place % 8 ≡ 0 }
-    requires some { 1 ≤ count }
-    requires few { count < 2 ^ 27 }
-    requires room { 12 * count ≤ length bytes.old }
-    requires entries { AreEntries (entries_in count bytes.old) }
-    ensures holds { OnOk result (Holds w.new (S.files store.new)) }
-    ensures bits { OnOk result (WroteBits w.old w.new (S.files store.old) (S.files store.new)
-        (filled (run_bits (gathered (entries_in count bytes.old))))) }
+    requires entries { AreTaken count bytes.old }
+    ensures puts { PutsBits (filled (run_bits (gathered (entries_in count bytes.old))))
+        S.files S.reads S.faults w.old w.new store.old store.new result }
     ensures place { OnOk result (w.new.place ≤ w.old.place + 128 + 256 * count) }
     ensures whole { OnOk result (w.new.place % 8 ≡ 0) }
-    ensures name { w.new.name ≡ w.old.name }
-    ensures wrote { WroteTo w.old.name (S.files store.old) (S.files store.new) (S.reads store.old)
-        (S.reads store.new) }
-    ensures cause { HasPutCause (S.faults store.old) (S.faults store.new) result }
 {
     bytes_fit(bytes);
     let front = &mut bytes[..12 * count];

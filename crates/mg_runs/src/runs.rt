@@ -19,7 +19,7 @@ ghost use Rattle.mg_runs.specs.Fed.{IsFed, cap_of, starts, ForFed, TookOne, HasR
 ghost use Rattle.mg_runs.specs.Joins.{Worked};
 ghost use Rattle.mg_runs.specs.Left.{IsMerging, postings_left};
 ghost use Rattle.mg_runs.specs.Stays.{SameButRuns};
-ghost use Rattle.mg_runs.specs.Merged.{RunsMerged};
+ghost use Rattle.mg_runs.specs.Merged.{EndsRun, MayEnd, RunsFinished, RunsMerged};
 ghost use Rattle.mg_dev.specs.Moments.{Between};
 
 use crate::join::refused;
@@ -92,6 +92,25 @@ pub fn spill<S: Store>(pool: &mut Pool, w: &mut BitWriter<'_>, store: &mut S) ->
     Ok(())
 }
 
+/// Writes the pool's entries as a run, and keeps where it begins.
+fn end_run<S: Store>(
+    pool: &mut Pool,
+    w: &mut BitWriter<'_>,
+    places: &mut Vec<u64>,
+    store: &mut S,
+) -> Result<(), PutErr>
+    requires writer { MayEnd w.old (S.files store.old) }
+    requires some { 1 ≤ length pool.old.entries }
+    requires entries { AreEntries pool.old.entries }
+    ensures { Between S.files S.reads S.faults store.old store.new (EndsRun pool.old pool.new
+        w.old w.new places.old.items places.new.items result) }
+{
+    match places.push(w.place()) {
+        Ok(()) => spill(pool, w, store),
+        Err(_) => Err(PutErr::Memory),
+    }
+}
+
 impl<'a> Runs<'a> {
     /// Takes a pool into which nothing was put before. The parts of the runs are there and empty
     /// then.
@@ -157,9 +176,7 @@ impl<'a> Runs<'a> {
         ensures cause { HasPutCause (S.faults store.old) (S.faults store.new) result }
     {
         if self.pool.is_full() {
-            let place = self.writer.place();
-            self.places.push(place)?;
-            spill(&mut self.pool, &mut self.writer, store)?;
+            end_run(&mut self.pool, &mut self.writer, &mut self.places, store)?;
         }
         self.pool.push(term, doc);
         Ok(())
@@ -169,24 +186,8 @@ impl<'a> Runs<'a> {
     /// gives no run.
     fn finish<S: Store>(self, store: &mut S) -> Result<Round<'a>, PartErr>
         requires fed { (fed : List (ℕ × ℕ)) × IsFed self (S.files store.old) fed }
-        ensures run { IsSome (S.files store.old) → ForFed self.entry (S.files store.old)
-            (λ fed. OnOk result (HasRunBits self.entry (S.files store.new) fed)) }
-        ensures bytes { IsSome (S.files store.old) →
-            OnOk result (AreBytes (bytes_at (S.files store.new)
-            (full_name self.entry.base Part.Run))) }
-        ensures places { ForFed self.entry (S.files store.old)
-            (λ fed. IfOk result (λ round. round.places.items
-            ≡ starts 0 (runs_of (cap_of self.entry.pool) fed))) }
-        ensures undamaged { NoDamage result }
-        ensures entries { IfOk result (λ round. round.pool.entries ≡ []) }
-        ensures limit { IfOk result (λ round. round.pool.limit ≡ self.entry.pool.limit) }
-        ensures peak { IfOk result (λ round. round.pool.peak ≡ self.entry.pool.peak) }
-        ensures base { IfOk result (λ round. round.file.base.now ≡ self.entry.base) }
-        ensures part { IfOk result (λ round. round.file.part ≡ Part.Run) }
-        ensures wrote { WroteTo (full_name self.entry.base Part.Run) (S.files store.old)
-            (S.files store.new) (S.reads store.old) (S.reads store.new) }
-        ensures cause { HasPartCause (S.faults store.old) (S.faults store.new) result }
-        ensures names { IfErr result NamesItsPart }
+        ensures { Between S.files S.reads S.faults store.old store.new
+            (RunsFinished self.entry result) }
     {
         let Runs {
             mut pool,
@@ -196,11 +197,7 @@ impl<'a> Runs<'a> {
             ..
         } = self;
         if pool.used() > 0 {
-            match places.push(writer.place()) {
-                Ok(()) => {}
-                Err(_) => return Err(PartErr::Memory),
-            }
-            match spill(&mut pool, &mut writer, store) {
+            match end_run(&mut pool, &mut writer, &mut places, store) {
                 Ok(()) => {}
                 Err(refusal) => return Err(refused(refusal)),
             }

@@ -1,9 +1,7 @@
 //! Slots of 64 bytes, as buffers of a file.
 ghost use Rattle.std.specs.Prelude.{◌≡◌, ◌≤◌, ◌<◌, ◌*◌, ◌+◌, ℕ, [], length, slice_index_or};
 ghost use Rattle.std.specs.Simd.{first_chunks};
-ghost use Rattle.mg_dev.specs.Causes.{HasCause};
-ghost use Rattle.mg_bits.specs.Pages.{Looked};
-ghost use Rattle.mg_runs.specs.Slots.{FillsFrom, slots_in, slot_at, ChangesOneSlot, ForSlots};
+ghost use Rattle.mg_runs.specs.Slots.{FillLook, FillsFrom, slots_in, slot_at, ChangesOneSlot, ForSlots};
 ghost use Rattle.mg_dev.specs.Moments.{Between};
 
 use mg_dev::{Failed, FileRef, Store};
@@ -17,8 +15,8 @@ fn read_slot<S: Store>(
 ) -> Result<usize, Failed>
     requires { length slot.old ≡ 64 }
     ensures filled { FillsFrom file.now (S.files store.old) at slot.new result }
-    ensures looked { Between S.files S.reads S.faults store.old store.new (Looked file.now.part) }
-    ensures cause { HasCause (S.faults store.old) (S.faults store.new) result }
+    ensures look { Between S.files S.reads S.faults store.old store.new
+        (FillLook file.now.part result) }
 {
     store.read_at(file, at, slot)
 }
@@ -37,8 +35,8 @@ fn fill_in<S: Store>(
     ensures filled { ForSlots slot bytes.old
         (λ count. FillsFrom file.now (S.files store.old) at
         (slot_at (slots_in count bytes.new) slot) result) }
-    ensures looked { Between S.files S.reads S.faults store.old store.new (Looked file.now.part) }
-    ensures cause { HasCause (S.faults store.old) (S.faults store.new) result }
+    ensures look { Between S.files S.reads S.faults store.old store.new
+        (FillLook file.now.part result) }
 {
     let from = 64 * slot;
     let part = &mut bytes[from..from + 64];
@@ -60,8 +58,8 @@ pub fn fill_slot<S: Store>(
     ensures filled { ForSlots slot bytes.old.items (λ count.
         FillsFrom file.now (S.files store.old) at (slot_at (slots_in count bytes.new.items) slot)
         result) }
-    ensures looked { Between S.files S.reads S.faults store.old store.new (Looked file.now.part) }
-    ensures cause { HasCause (S.faults store.old) (S.faults store.new) result }
+    ensures look { Between S.files S.reads S.faults store.old store.new
+        (FillLook file.now.part result) }
 {
     fill_in(store, file, at, bytes, slot)
 }

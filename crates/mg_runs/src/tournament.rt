@@ -1,6 +1,6 @@
 //! The least of many keys.
 ghost use Rattle.std.specs.Prelude.{◌≡◌, ◌≤◌, ◌<◌, ◌+◌, ◌*◌, ◌-◌, ◌^◌, ℕ, IfOk, length, slice_index, slice_set};
-ghost use Rattle.mg_runs.specs.Tournament.{IsNode};
+ghost use Rattle.mg_runs.specs.Tournament.{IsLesser, IsPlayedAt};
 
 use std::alloc::{AllocError, Global};
 use std::marker::Model;
@@ -29,28 +29,28 @@ impl Model for Tournament {
     ghost invariant = { λ t. IsTournament t.count t.keys.items t.winners.items };
 }
 
+/// The one of the two nodes below a node that has the lesser key.
+fn lesser(keys: &Vec<u64>, i: usize) -> usize
+    requires { 2 * i + 1 < length keys.now.items }
+    ensures { IsLesser keys.now.items i result }
+{
+    if keys[2 * i + 1] < keys[2 * i] {
+        2 * i + 1
+    } else {
+        2 * i
+    }
+}
+
 /// Gives a node the lesser of the two keys below it.
 fn play(keys: &mut Vec<u64>, winners: &mut Vec<u32>, i: usize)
     requires node { 1 ≤ i }
     requires keys { 2 * i + 1 < length keys.old.items }
     requires winners { 2 * i + 1 < length winners.old.items }
-    ensures node { IsNode keys.new.items winners.new.items i }
-    ensures same_keys { (k : ℕ) → (k ≡ i → ⊥) → slice_index keys.new.items k
-        ≡ slice_index keys.old.items k }
-    ensures same_winners { (k : ℕ) → (k ≡ i → ⊥) → slice_index winners.new.items k
-        ≡ slice_index winners.old.items k }
-    ensures keys { length keys.new.items ≡ length keys.old.items }
-    ensures winners { length winners.new.items ≡ length winners.old.items }
+    ensures { IsPlayedAt i keys.old.items winners.old.items keys.new.items winners.new.items }
 {
-    let left = keys[2 * i];
-    let right = keys[2 * i + 1];
-    let (key, winner) = if right < left {
-        (right, winners[2 * i + 1])
-    } else {
-        (left, winners[2 * i])
-    };
-    keys[i] = key;
-    winners[i] = winner;
+    let child = lesser(keys, i);
+    keys[i] = keys[child];
+    winners[i] = winners[child];
 }
 
 impl Tournament {

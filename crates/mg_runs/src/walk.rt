@@ -5,8 +5,9 @@ ghost use Rattle.mg_dev.specs.PartCauses.{IsCaused};
 ghost use Rattle.mg_defs.specs.RunBits.{before_first};
 ghost use Rattle.mg_runs.specs.Pooled.{slot_bytes};
 ghost use Rattle.mg_runs.specs.Damages.{NamesPart, TellsBit};
-ghost use Rattle.mg_runs.specs.Cursors.{HasPosting, IsNear, NoDamage, NoMemory, ForNextAt, ForHeader, IsAtPostingBy, IsAtBy};
+ghost use Rattle.mg_runs.specs.Cursors.{HasMoved, IsBegun, IsKept, IsNear, NoDamage, NoMemory, Tells, ForNextAt, ForHeader, IsAtPostingBy, IsAtBy};
 ghost use Rattle.mg_runs.specs.Reading.{ForPosting, ForRun};
+ghost use Rattle.mg_runs.specs.Slots.{FillsFrom};
 ghost use Rattle.mg_runs.specs.Steps.{RefusesAt, SlotStep};
 
 use crate::Pool;
@@ -31,6 +32,26 @@ pub fn damage(part: Part, at: u64) -> PartErr
     })
 }
 
+/// Reads a file's bytes from a place on into a slot, and answers how many these are.
+fn read_bytes<S: Store>(
+    pool: &mut Pool,
+    store: &mut S,
+    file: &FileRef<'_>,
+    at: u64,
+    slot: usize,
+) -> Result<usize, PartErr>
+    requires { slot < length pool.old.slots }
+    ensures filled { FillsFrom file.now (S.files store.old) at (slot_bytes pool.new slot) result }
+    ensures undamaged { NoDamage result }
+    ensures step { Between S.files S.reads S.faults store.old store.new
+        (SlotStep slot file.now.part pool.old pool.new result) }
+{
+    match pool.fill(store, file, at, slot) {
+        Ok(count) => Ok(count),
+        Err(_) => Err(PartErr::Device),
+    }
+}
+
 /// The cursor, with a slot that has the bytes of the next posting.
 fn refreshed<S: Store>(
     pool: &mut Pool,
@@ -42,19 +63,16 @@ fn refreshed<S: Store>(
     requires { slot < length pool.old.slots }
     ensures at { ForPosting cursor.now pool.old slot file.now (S.files store.old)
         (λ bytes x xs. IfOk result (IsAtPostingBy pool.new slot bytes x xs)) }
+    ensures kept { IfOk result (IsKept cursor.now) }
     ensures undamaged { NoDamage result }
-    ensures near { IfOk result (λ c. IsNear c) }
-    ensures left { IfOk result (λ c. c.left ≡ cursor.now.left) }
-    ensures place { IfOk result (λ c. c.place ≡ cursor.now.place) }
     ensures step { Between S.files S.reads S.faults store.old store.new
         (SlotStep slot file.now.part pool.old pool.new result) }
-    ensures bit { IfErr result (TellsBit cursor.now.place) }
 {
     let byte = cursor.place / 8;
     if byte >= cursor.start && byte - cursor.start <= 32 {
         return Ok(*cursor);
     }
-    match pool.fill(store, file, byte, slot) {
+    match read_bytes(pool, store, file, byte, slot) {
         Ok(count) => Ok(Cursor {
             posting: cursor.posting,
             left: cursor.left,
@@ -62,7 +80,7 @@ fn refreshed<S: Store>(
             start: byte,
             count,
         }),
-        Err(_) => Err(PartErr::Device),
+        Err(refusal) => Err(refusal),
     }
 }
 
@@ -73,8 +91,7 @@ fn read_behind(pool: &Pool, part: Part, slot: usize, cursor: &Cursor) -> Result<
     requires left { 1 ≤ cursor.now.left }
     ensures told { ForNextAt cursor.now (slot_bytes pool.now slot)
         (λ file y ys. IsOkAnd result (IsAtPostingBy pool.now slot file y ys)) }
-    ensures left { IfOk result (λ c. c.left + 1 ≡ cursor.now.left) }
-    ensures posting { IfOk result (λ c. HasPosting c) }
+    ensures moved { IfOk result (HasMoved cursor.now) }
     ensures refuses { RefusesAt part cursor.now.place result }
 {
     let all = pool.slot(slot);
@@ -106,11 +123,8 @@ pub fn advanced<S: Store>(
     requires slot { slot < length pool.old.slots }
     requires left { 1 ≤ cursor.now.left }
     ensures told { ForPosting cursor.now pool.old slot file.now (S.files store.old)
-        (λ bytes _ xs. IfOk result (IsAtBy pool.new slot bytes xs)) }
-    ensures undamaged { ForPosting cursor.now pool.old slot file.now (S.files store.old)
-        (λ _ _ _. NoDamage result) }
-    ensures left { IfOk result (λ c. c.left + 1 ≡ cursor.now.left) }
-    ensures posting { IfOk result (λ c. HasPosting c) }
+        (λ bytes _ xs. Tells result (IsAtBy pool.new slot bytes xs)) }
+    ensures moved { IfOk result (HasMoved cursor.now) }
     ensures step { Between S.files S.reads S.faults store.old store.new
         (SlotStep slot file.now.part pool.old pool.new result) }
     ensures bit { IfErr result (TellsBit cursor.now.place) }
@@ -141,8 +155,8 @@ fn read_header(
     requires slot { slot < length pool.now.slots }
     ensures told { ForHeader place count (slot_bytes pool.now slot)
         (λ file xs. IsOkAnd result (IsAtPostingBy pool.now slot file before_first xs)) }
-    ensures left { IfOk result (λ c. 1 ≤ c.left) }
-    ensures left_below { IfOk result (λ c. c.left < 2 ^ 32) }
+    ensures some { IfOk result (λ c. 1 ≤ c.left) }
+    ensures few { IfOk result (λ c. c.left < 2 ^ 32) }
     ensures refuses { RefusesAt part place result }
 {
     let all = pool.slot(slot);
@@ -177,18 +191,16 @@ pub fn opened<S: Store>(
 ) -> Result<Cursor, PartErr>
     requires slot { slot < length pool.old.slots }
     ensures told { ForRun place file.now (S.files store.old)
-        (λ bytes xs. IfOk result (IsAtBy pool.new slot bytes xs)) }
-    ensures undamaged { ForRun place file.now (S.files store.old) (λ _ _. NoDamage result) }
-    ensures left { IfOk result (λ c. c.left < 2 ^ 32) }
-    ensures posting { IfOk result (λ c. HasPosting c) }
+        (λ bytes xs. Tells result (IsAtBy pool.new slot bytes xs)) }
+    ensures begun { IfOk result IsBegun }
     ensures step { Between S.files S.reads S.faults store.old store.new
         (SlotStep slot file.now.part pool.old pool.new result) }
 {
-    match pool.fill(store, file, place / 8, slot) {
+    match read_bytes(pool, store, file, place / 8, slot) {
         Ok(count) => match read_header(pool, file.part, slot, place, count) {
             Ok(cursor) => advanced(pool, store, file, slot, &cursor),
             Err(refusal) => Err(refusal),
         },
-        Err(_) => Err(PartErr::Device),
+        Err(refusal) => Err(refusal),
     }
 }

@@ -1,7 +1,6 @@
-use Rattle.std.proofs.Common.{arith}
+use Rattle.mg_runs.proofs.Puts.{put_within}
 use Rattle.mg_runs.proofs.Short.{gamma_short}
 use Rattle.mg_runs.proofs.posting.put_number.Goals as goal
 
 pub returns-clause-place : goal.returns-clause-place
-returns-clause-place g c =
-    omega (arith, c.in_ok-put_gamma.ensures.bits.place, gamma_short c.args.x c.requires.some c.requires.below)
+returns-clause-place g c = put_within _ _ _ _ _ 66 c.put_gamma.result c.put_gamma.ensures.bits (gamma_short c.args.x c.requires.some c.requires.below)

@@ -1,5 +1,6 @@
-use Rattle.std.proofs.Common.{◌-◌, ◌∙◌, refl, arith}
-use Rattle.mg_runs.proofs.OnRun.{on_run_start, on_run_step, on_run_before, group_first, some_posting}
+use Rattle.std.proofs.Common.{[], ◌-◌, ◌∙◌, refl, arith}
+use Rattle.mg_runs.proofs.OnRun.{on_run_start, on_run_step, on_run_before, on_run_end, group_first, some_posting}
+use Rattle.mg_runs.proofs.Puts.{puts_err, puts_more, puts_ok}
 use Rattle.mg_defs.specs.declared.TermPosting.{TermPosting}
 use Rattle.mg_runs.proofs.run.put_list.Goals as goal
 
@@ -8,25 +9,32 @@ put_number-requires-clause-some g c =
     omega (arith, some_posting c.args.entries.now c.requires.some, c.from.ensures, c.distinct-count.ensures.value)
 
 pub loop-from-init : goal.loop-from-init
-loop-from-init g c = record {
-  run = on_run_start _ _ _ _ _ _ c.args.entries.now c.from.result (c.from.ensures ∙ c.distinct-count.ensures.value) c.requires.docs
-      c.in_ok-put_number.ensures.bits c.in_ok-put_number.ensures.holds c.in_ok-put_number.ensures.place c.put_number.ensures.wrote;
-  faults = c.put_number.ensures.cause.later;
-}
+loop-from-init g c =
+    on_run_start c.args.entries.now (c.from.ensures ∙ c.distinct-count.ensures.value) c.requires.order.docs c.in-Ok.ensures.puts c.in-Ok.ensures.place
 
-pub put_posting-requires-clause-before : goal.put_posting-requires-clause-before
-put_posting-requires-clause-before g c =
+pub put_posting-requires-clause-follows : goal.put_posting-requires-clause-follows
+put_posting-requires-clause-follows g c =
     let p : TermPosting = record { term = c.number_at.result; doc = c.number_at-in-loop-from.result; count = c.group_end-next.result - c.loop-from.from } in
-    on_run_before _ _ _ _ _ _ c.args.entries.now c.loop-from.from c.group_end-next.result c.loop-from.last p c.loop-from.invariant.run
-    (group_first c.args.entries.now c.loop-from.from c.group_end-next.result p c.group_end-next.ensures.group c.number_at.ensures c.number_at-in-loop-from.ensures refl)
+    let doc = c.requires.order.docs c.loop-from.from [] c.loop-from-test.true in
+    record {
+      before = on_run_before _ c.loop-from.invariant
+          (group_first c.args.entries.now c.loop-from.from c.group_end-next.result p c.group_end-next.ensures.group c.number_at.ensures c.number_at-in-loop-from.ensures refl);
+      doc = omega (arith, doc, c.number_at-in-loop-from.ensures);
+      count = omega (arith, c.group_end-next.ensures.after);
+    }
 
 pub loop-from-preserved : goal.loop-from-preserved
 loop-from-preserved g c =
     let p : TermPosting = record { term = c.number_at.result; doc = c.number_at-in-loop-from.result; count = c.group_end-next.result - c.loop-from.from } in
-    record {
-      run = on_run_step _ _ _ _ _ _ _ _ _ c.args.entries.now c.loop-from.from c.group_end-next.result c.loop-from.last p c.loop-from.invariant.run
-          (group_first c.args.entries.now c.loop-from.from c.group_end-next.result p c.group_end-next.ensures.group c.number_at.ensures c.number_at-in-loop-from.ensures refl)
-          c.group_end-next.ensures.after c.group_end-next.ensures.within c.in_ok-put_posting.ensures.bits c.in_ok-put_posting.ensures.holds
-          c.in_ok-put_posting.ensures.place c.put_posting.ensures.wrote;
-      faults = omega (arith, c.put_posting.ensures.cause.later, c.loop-from.invariant.faults);
-    }
+    on_run_step {p = p} c.loop-from.invariant
+    (group_first c.args.entries.now c.loop-from.from c.group_end-next.result p c.group_end-next.ensures.group c.number_at.ensures c.number_at-in-loop-from.ensures refl)
+    c.group_end-next.ensures.after c.group_end-next.ensures.within c.in-Ok-put_posting.ensures.puts c.in-Ok-put_posting.ensures.place
+
+pub returns-clause-puts : goal.returns-clause-puts
+returns-clause-puts g c = on_run_end c.loop-from.invariant c.loop-from-test.false
+
+pub returns-in-Err-clause-puts : goal.returns-in-Err-clause-puts
+returns-in-Err-clause-puts g c = puts_err c.in-Err.ensures.puts
+
+pub returns-in-Err-put_posting-clause-puts : goal.returns-in-Err-put_posting-clause-puts
+returns-in-Err-put_posting-clause-puts g c = puts_err (puts_more c.loop-from.invariant.puts c.in-Err-put_posting.ensures.puts)

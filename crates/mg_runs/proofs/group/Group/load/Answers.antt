@@ -1,29 +1,56 @@
-use Rattle.std.proofs.Common.{rules, [], sym, ◌∙◌, arith, subst}
+use Rattle.std.proofs.Common.{rules, [], refl, sym, ◌∙◌, arith, subst}
 use Rattle.std.proofs.lemmas.List.{get_or_default}
 use Rattle.mg_runs.specs.Cursors.{IsRun}
+use Rattle.std.proofs.Common.{Global, Vec}
+use Rattle.mg_runs.specs.declared.cursor.Cursor.{Cursor}
+use Rattle.mg_runs.specs.declared.group.Group.{Group}
 use Rattle.mg_dev.specs.declared.part_err.PartErr.TheVariants.{Memory}
 use Rattle.mg_runs.proofs.StepLaws.{look_bad, look_err, look_ok}
+use Rattle.mg_runs.proofs.Steps.{undamaged_as}
 use Rattle.mg_runs.proofs.group.Group.load.Goals as goal
 
-pub returns-in-Ok-ranked-clause-told : goal.returns-in-Ok-ranked-clause-told
-returns-in-Ok-ranked-clause-told g c = λ told runs are.
-    let open_at = c.in-Ok.ensures.told told runs are in
-    let len = c.in-Ok.ensures.len in
-    let size = are.size in
-    record {
-      size = size ∙ sym len;
-      at = λ k h. open_at.at k (omega arith);
-      runs = λ k d h. subst (λ l. IsRun l) (get_or_default runs k [] d h) ((are.at k (omega arith)).run);
-    }
+pub returns-in-Ok-ranked : goal.returns-in-Ok-ranked
+returns-in-Ok-ranked g c = record {
+  shape = record {
+    slot_count = c.open_all.ensures.slots ∙ sym c.in-Ok.ensures.len;
+    key_count = c.in-Ok-ranked.ensures.len;
+    by_key = c.in-Ok-ranked.ensures.keys;
+    postings = c.in-Ok.ensures.postings;
+  };
+  total = c.in-Ok.ensures.total;
+  told = λ told runs are.
+      let open_at = c.in-Ok.ensures.told told runs are in
+      let len = c.in-Ok.ensures.len in
+      let size = are.size in
+      record {
+        size = size ∙ sym len;
+        at = λ k h. open_at.at k (omega arith);
+        runs = λ k d h. subst (λ l. IsRun l) (get_or_default runs k [] d h) ((are.at k (omega arith)).run);
+      };
+  undamaged = λ told runs are. tt;
+  pool = record { entries = search rules; limit = search rules; peak = search rules };
+  file = refl;
+  read = look_ok c.in-Ok.ensures.read;
+}
 
-pub returns-in-Ok-ranked-clause-pool : goal.returns-in-Ok-ranked-clause-pool
-returns-in-Ok-ranked-clause-pool g c = record { entries = search rules; limit = search rules; peak = search rules }
+pub returns-in-Ok : goal.returns-in-Ok
+returns-in-Ok g c = record {
+  shape = tt;
+  total = tt;
+  told = λ told runs are. tt;
+  undamaged = λ told runs are. tt;
+  pool = tt;
+  file = tt;
+  read = look_bad Memory c.in-Ok.ensures.read (λ f g. tt) tt;
+}
 
-pub returns-in-Ok-ranked-clause-read : goal.returns-in-Ok-ranked-clause-read
-returns-in-Ok-ranked-clause-read g c = look_ok c.in-Ok.ensures.read
-
-pub returns-in-Ok-clause-read : goal.returns-in-Ok-clause-read
-returns-in-Ok-clause-read g c = look_bad Memory c.in-Ok.ensures.read (λ f g. tt) tt
-
-pub returns-clause-read : goal.returns-clause-read
-returns-clause-read g c = look_err c.in-Err.ensures.read
+pub returns : goal.returns
+returns g c = record {
+  shape = tt;
+  total = tt;
+  told = λ told runs are. tt;
+  undamaged = λ told runs are. undamaged_as (Vec Cursor Global) Group c.in-Err.refusal (c.in-Err.ensures.undamaged told runs are);
+  pool = tt;
+  file = tt;
+  read = look_err c.in-Err.ensures.read;
+}

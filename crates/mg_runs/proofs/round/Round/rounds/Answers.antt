@@ -25,31 +25,44 @@ loop-alloc-preserved g c =
       worked = worked_more inv.worked (worked_passed c.loop-alloc.round.file.part inv.part passed);
     }
 
-pub returns-in-Err-clause-undamaged : goal.returns-in-Err-clause-undamaged
-returns-in-Err-clause-undamaged g c = λ told whole is.
-    let inv = c.loop-alloc.invariant in
-    c.in-Err.ensures.undamaged (inv.worked.told ∙ told) whole (inv.told told whole is)
-
-pub returns-in-Err-clause-run : goal.returns-in-Err-clause-run
-returns-in-Err-clause-run g c =
-    let inv = c.loop-alloc.invariant in
-    let passed = rw inv.base at c.joined.ensures.step.passed in
-    passed_run _ c.loop-alloc.round.file.part passed ∙ inv.run
-
-pub returns-in-Err-clause-step : goal.returns-in-Err-clause-step
-returns-in-Err-clause-step g c =
+pub returns-in-Err : goal.returns-in-Err
+returns-in-Err g c =
     let inv = c.loop-alloc.invariant in
     let passed = rw inv.base at c.joined.ensures.step.passed in
     record {
-      worked = worked_more inv.worked (worked_passed c.loop-alloc.round.file.part inv.part passed);
-      cause = cause_err {T = Round} inv.worked.faults c.in-Err.ensures.step.cause;
-      names = names_its c.loop-alloc.round.file.part c.in-Err.refusal inv.part c.in-Err.ensures.step.names;
+      told = λ told whole is. tt;
+      undamaged = λ told whole is. c.in-Err.ensures.undamaged (inv.worked.told ∙ told) whole (inv.told told whole is);
+      few = tt;
+      count = tt;
+      entries = tt;
+      limit = tt;
+      peak = tt;
+      base = tt;
+      part = tt;
+      run = passed_run _ c.loop-alloc.round.file.part passed ∙ inv.run;
+      step = record {
+        worked = worked_more inv.worked (worked_passed c.loop-alloc.round.file.part inv.part passed);
+        cause = cause_err {T = Round} inv.worked.faults c.in-Err.ensures.step.cause;
+        names = names_its c.loop-alloc.round.file.part c.in-Err.refusal inv.part c.in-Err.ensures.step.names;
+      };
     }
 
-pub returns-clause-step : goal.returns-clause-step
-returns-clause-step g c =
-    let worked = c.loop-alloc.invariant.worked in
-    record { worked = worked; cause = cause_ok worked.faults; names = tt }
+pub returns : goal.returns
+returns g c =
+    let inv = c.loop-alloc.invariant in
+    record {
+      told = inv.told;
+      undamaged = λ told whole is. tt;
+      few = omega (arith, c.loop-alloc-test.false, c.len.ensures);
+      count = inv.count;
+      entries = inv.entries;
+      limit = inv.limit;
+      peak = inv.peak;
+      base = inv.base;
+      part = inv.part;
+      run = inv.run;
+      step = record { worked = inv.worked; cause = cause_ok inv.worked.faults; names = tt };
+    }
 
 pub joined-requires-clause-slots : goal.joined-requires-clause-slots
 joined-requires-clause-slots g c = record { some = search rules; room = search rules; limit = search rules; entries = search rules }
