@@ -38,11 +38,13 @@ joining_next file places whole width at end made f0 f1 w0 w1 is joining zero som
       subst (λ p. IsGroupAt (take width (drop at is.runs)) p) (sym place) (group_at width at is.runs joining.bits made joining.joined some (omega arith) (omega arith) is.written),
     )
 
-pub joining_more : (file places : List ℕ) (whole : List TermPosting) (width at end : ℕ) (made now : List ℕ) (f0 f1 f2 : Option Files) (w0 w1 w2 : BitWriting) (is : AreStored file places whole) →
+-- the next group is joined, and its place is kept
+pub joining_more : {file places : List ℕ} {whole : List TermPosting} {width at end : ℕ} {made now : List ℕ} {f0 f1 f2 : Option Files} {w0 w1 w2 : BitWriting}
+    (is : AreStored file places whole) →
     IsJoining width is.runs at made f0 f1 w0 w1 → w0.place ≡ 0 → at < length places → end ≡ at + min width (length places - at) →
     is_some f1 ≡ is_some f0 → WroteBits w1 w2 f1 f2 (filled (run_bits (merged (take width (drop at is.runs))))) → now ≡ made ++ w1.place ∷ [] →
     IsJoining width is.runs end now f0 f2 w0 w2
-joining_more file places whole width at end made now f0 f1 f2 w0 w1 w2 is joining zero less e told wrote push =
+joining_more {file} {places} {whole} {width} {at} {end} {made} {now} {f0} {f1} {f2} {w0} {w1} {w2} is joining zero less e told wrote push =
     let size : length is.runs ≡ length places = stored_count file places whole is in
     let place : w1.place ≡ length joining.bits = joining_place width is.runs at made f0 f1 w0 w1 joining zero in
     let group : List Bool = filled (run_bits (merged (take width (drop at is.runs)))) in

@@ -1,5 +1,5 @@
 use Rattle.mg_defs.specs.RunBits.{run_posting_bits}
-use Rattle.mg_runs.proofs.Puts.{puts_err, puts_more, puts_ok}
+use Rattle.mg_runs.proofs.Puts.{puts_more, puts_ok}
 use Rattle.mg_runs.proofs.posting.put_posting.Goals as goal
 
 pub returns-clause-puts : goal.returns-clause-puts

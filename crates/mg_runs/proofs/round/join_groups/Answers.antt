@@ -62,7 +62,7 @@ loop-at-preserved g c =
           let group = joining_next _ c.args.places.now whole c.args.width at end _ _ _ _ _ is joining c.requires.place c.requires.slots.some c.requires.more less e in
           let next = rw same at c.in-Ok-join.ensures.told in
           let wrote = next (inv.step.writer.pass.passed.told ∙ told) _ group.0 group.1 in
-          joining_more _ c.args.places.now whole c.args.width at end _ _ _ _ _ _ _ _ is joining c.requires.place less e inv.step.writer.pass.passed.told wrote push;
+          joining_more is joining c.requires.place less e inv.step.writer.pass.passed.told wrote push;
     }
 
 pub returns-clause-told : goal.returns-clause-told

@@ -1,6 +1,6 @@
 use Rattle.std.proofs.Common.{[], ◌-◌, ◌∙◌, refl, arith}
 use Rattle.mg_runs.proofs.OnRun.{on_run_start, on_run_step, on_run_before, on_run_end, group_first, some_posting}
-use Rattle.mg_runs.proofs.Puts.{puts_err, puts_more, puts_ok}
+use Rattle.mg_runs.proofs.Puts.{puts_err, puts_more}
 use Rattle.mg_defs.specs.declared.TermPosting.{TermPosting}
 use Rattle.mg_runs.proofs.run.put_list.Goals as goal
 

@@ -1,7 +1,7 @@
-use Rattle.std.proofs.Common.{◌*◌, ◌^◌, ◌<◌, List, ℕ, arith, ap, ◌∙◌, subst, refl, sym, take}
+use Rattle.std.proofs.Common.{◌*◌, ◌^◌, ◌<◌, List, ℕ, arith, ◌∙◌, subst, refl, sym, take}
 use Rattle.std.specs.List.{All}
 use Rattle.mg_runs.specs.Bytes.{number_in}
-use Rattle.mg_runs.proofs.Puts.{aligned_place, puts_err, puts_filled, puts_more}
+use Rattle.mg_runs.proofs.Puts.{aligned_place, puts_filled}
 use Rattle.mg_runs.proofs.Sorting.{front_chunks, numbers_small, taken_sorted}
 use Rattle.mg_runs.proofs.run.write_entries.Goals as goal
 
