@@ -2,6 +2,7 @@
 ghost use Rattle.std.specs.Prelude.{◌≡◌, ◌≤◌, ◌<◌, ◌+◌, ◌*◌, ◌/◌, ◌^◌, ◌++◌, ◌↔◌, [], ◌∷◌, IfOk, IsTrue, length, max, slice_index_or};
 ghost use Rattle.mg_runs.specs.Pooled.{SamePool, used, slot_bytes};
 ghost use Rattle.mg_runs.specs.Slots.{FillLook, FillsFrom, ChangesOneSlot};
+ghost use Rattle.mg_runs.specs.Steps.{PoolBack};
 ghost use Rattle.mg_dev.specs.Moments.{Between};
 
 use crate::entry::put_entry;
@@ -127,9 +128,7 @@ impl Pool {
         requires entries { self.old.entries ≡ [] }
         requires room { count ≤ self.old.limit / 64 }
         ensures slots { length self.new.slots ≡ count }
-        ensures entries { self.new.entries ≡ [] }
-        ensures peak { self.new.peak ≡ max self.old.peak (used self.new) }
-        ensures limit { self.new.limit ≡ self.old.limit }
+        ensures back { PoolBack count self.old self.new }
     {
         self.slots = count;
         self.peak = self.peak.max(64 * count as u64);

@@ -1,11 +1,11 @@
-use Rattle.std.proofs.Common.{rules, [], refl, sym, ◌∙◌, arith, subst}
+use Rattle.std.proofs.Common.{[], refl, sym, ◌∙◌, arith, subst}
 use Rattle.std.proofs.lemmas.List.{get_or_default}
 use Rattle.mg_runs.specs.Cursors.{IsRun}
 use Rattle.std.proofs.Common.{Global, Vec}
 use Rattle.mg_runs.specs.declared.cursor.Cursor.{Cursor}
 use Rattle.mg_runs.specs.declared.group.Group.{Group}
 use Rattle.mg_dev.specs.declared.part_err.PartErr.TheVariants.{Memory}
-use Rattle.mg_runs.proofs.StepLaws.{look_bad, look_err, look_ok}
+use Rattle.mg_runs.proofs.StepLaws.{back_same, look_bad, look_err, look_ok}
 use Rattle.mg_runs.proofs.Steps.{undamaged_as}
 use Rattle.mg_runs.proofs.group.Group.load.Goals as goal
 
@@ -28,7 +28,7 @@ returns-in-Ok-ranked g c = record {
         runs = λ k d h. subst (λ l. IsRun l) (get_or_default runs k [] d h) ((are.at k (omega arith)).run);
       };
   undamaged = λ told runs are. tt;
-  pool = record { entries = search rules; limit = search rules; peak = search rules };
+  pool = back_same c.use_slots.ensures.back c.open_all.ensures.pool;
   file = refl;
   read = look_ok c.in-Ok.ensures.read;
 }
