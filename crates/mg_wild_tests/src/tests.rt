@@ -1,17 +1,31 @@
 //! What no clause says: that calls succeed, on the documents "the cat sat", "the dog" and
-//! "Cat, cat & dog!".
-use mg_dev::{FileRef, Part, PartErr, Store};
+//! "Cat, cat & dog!", and which part is told as damaged.
+use mg_dev::{FileRef, Part, PartErr, PutErr, Store};
 use mg_layout::Head;
-use mg_mem::MemStore;
+use mg_mem::SureStore;
 use mg_query::LINE_LIMIT;
-use mg_wild::{Pattern, PatternErr, RotErr, Rotated, read_pattern};
+use mg_wild::{RotErr, Rotated, read_pattern};
 use std::alloc::Global;
 use std::test::Fail;
 
-const LEX: &[u8] = b"\x03cat\0\0\0\x02\0\0\0\0\0\0\0\0\0\0\0\0\
+static LEX: &[u8] = b"\x03cat\0\0\0\x02\0\0\0\0\0\0\0\0\0\0\0\0\
     \0\x03dog\0\0\0\x02\0\0\0\0\0\0\0\x01\0\0\0\x01\
     \0\x03sat\0\0\0\x01\0\0\0\0\0\0\0\x02\0\0\0\x02\
     \0\x03the\0\0\0\x02\0\0\0\0\0\0\0\x03\0\0\0\x03";
+
+// Lines, and the numbers of the terms that match their patterns.
+static FOUND: [(&[u8], &[u32]); 10] = [
+    (b"*at", &[0, 2]),
+    (b"d*g", &[1]),
+    (b"C*", &[0]),
+    (b"*", &[0, 1, 2, 3]),
+    (b"c*cat", &[]),
+    (b"zz*", &[]),
+    (b"*t", &[0, 2]),
+    (b"the*", &[3]),
+    (b"t*he", &[3]),
+    (b"th*he", &[]),
+];
 
 fn head_of(terms: u32) -> Head {
     Head {
@@ -31,33 +45,12 @@ fn head_of(terms: u32) -> Head {
     }
 }
 
-// The pattern of a line that a session would take.
-fn pattern_of(alloc: Global, line: &[u8]) -> Result<Pattern, PatternErr> {
-    if line.len() > LINE_LIMIT {
-        return Err(PatternErr::Memory);
-    }
-    read_pattern(alloc, line)
-}
-
-// The place where a line is refused.
-fn refused_at(alloc: Global, line: &[u8]) -> Option<u32> {
-    match pattern_of(alloc, line) {
-        Err(PatternErr::Bad { at }) => Some(at),
-        _ => None,
-    }
-}
-
-// Whether a line is read as these two sides.
-fn reads_as(alloc: Global, line: &[u8], left: &[u8], right: &[u8]) -> bool {
-    match pattern_of(alloc, line) {
-        Ok(pattern) => pattern.left.as_bytes() == left && pattern.right.as_bytes() == right,
-        Err(_) => false,
-    }
-}
-
 // Whether the terms with these numbers match a line's pattern, and no others.
 fn finds(alloc: Global, lexicon: &Rotated, line: &[u8], numbers: &[u32]) -> bool {
-    let Ok(pattern) = pattern_of(alloc, line) else {
+    if line.len() > LINE_LIMIT {
+        return false;
+    }
+    let Ok(pattern) = read_pattern(alloc, line) else {
         return false;
     };
     match lexicon.matching(alloc, &pattern) {
@@ -66,75 +59,51 @@ fn finds(alloc: Global, lexicon: &Rotated, line: &[u8], numbers: &[u32]) -> bool
     }
 }
 
-#[test]
-fn lines_are_read(rt: HostRuntime) -> Result<(), Fail> {
-    let alloc = rt.alloc();
-    for (line, left, right) in [
-        (b"*at".as_slice(), b"".as_slice(), b"at".as_slice()),
-        (b"d*g", b"d", b"g"),
-        (b"C*", b"c", b""),
-        (b"*", b"", b""),
-        (b"c*cat", b"c", b"cat"),
-        (b" \tQ\xc3\x89*\xc3\xa9Z \t", b"q\xc3\x89", b"\xc3\xa9z"),
-        (b"a*a", b"a", b"a"),
-    ] {
-        assert!(rt; reads_as(alloc, line, left, right));
+// Whether they are found for each line.
+fn finds_all(alloc: Global, lexicon: &Rotated, rows: &[(&[u8], &[u32])]) -> bool {
+    for (line, numbers) in rows {
+        if !finds(alloc, lexicon, line, numbers) {
+            return false;
+        }
     }
-    for (line, at) in [
-        (b"cat".as_slice(), 3),
-        (b"c*a*", 3),
-        (b".set x", 0),
-        (b"  cat \t", 5),
-        (b"", 0),
-        (b" \t", 2),
-        (b"**", 1),
-        (b"a b*", 1),
-    ] {
-        assert!(rt; refused_at(alloc, line) == Some(at));
-    }
-    Ok(())
+    true
 }
 
-#[test]
-fn terms_that_match_are_found(rt: HostRuntime) -> Result<(), Fail> {
-    let alloc = rt.alloc();
-    let mut store = MemStore::new(alloc);
+// The same by the lexicon of a store, of so many terms.
+fn loads<S: Store>(
+    alloc: Global,
+    store: &mut S,
+    terms: u32,
+    rows: &[(&[u8], &[u32])],
+) -> Result<bool, RotErr> {
+    let lexicon = Rotated::load(alloc, store, "set", &head_of(terms))?;
+    Ok(finds_all(alloc, &lexicon, rows))
+}
+
+// The same of the three documents' lexicon.
+fn loads_three(
+    alloc: Global,
+    terms: u32,
+    rows: &[(&[u8], &[u32])],
+) -> Result<Result<bool, RotErr>, PutErr> {
+    let mut store = SureStore::new(alloc);
     let file = FileRef {
         base: "set",
         part: Part::Lex,
     };
     store.append(&file, LEX)?;
-    let lexicon = Rotated::load(alloc, &mut store, "set", &head_of(4))?;
-    for (line, numbers) in [
-        (b"*at".as_slice(), [0u32, 2].as_slice()),
-        (b"d*g", &[1]),
-        (b"C*", &[0]),
-        (b"*", &[0, 1, 2, 3]),
-        (b"c*cat", &[]),
-        (b"zz*", &[]),
-        (b"*t", &[0, 2]),
-        (b"the*", &[3]),
-        (b"t*he", &[3]),
-        (b"th*he", &[]),
-    ] {
-        assert!(rt; finds(alloc, &lexicon, line, numbers));
-    }
+    Ok(loads(alloc, &mut store, terms, rows))
+}
+
+#[test]
+fn terms_that_match_are_found(rt: HostRuntime) -> Result<(), Fail> {
+    assert!(rt; loads_three(rt.alloc(), 4, &FOUND)? == Ok(true));
     Ok(())
 }
 
 #[test]
 fn entries_of_another_number_of_terms_are_damage(rt: HostRuntime) -> Result<(), Fail> {
-    let alloc = rt.alloc();
-    let mut store = MemStore::new(alloc);
-    let file = FileRef {
-        base: "set",
-        part: Part::Lex,
-    };
-    store.append(&file, LEX)?;
-    let damaged = match Rotated::load(alloc, &mut store, "set", &head_of(3)) {
-        Err(RotErr::Part(PartErr::Bad(bad))) => Some(bad.part),
-        _ => None,
-    };
-    assert!(rt; damaged == Some(Part::Lex));
+    let told = loads_three(rt.alloc(), 3, &[])?;
+    assert!(rt; matches!(told, Err(RotErr::Part(PartErr::Bad(bad))) if bad.part == Part::Lex));
     Ok(())
 }
