@@ -1,68 +1,110 @@
-//! What no clause says: that calls succeed, and rows over parts that another implementation made.
+//! What no clause says: that calls succeed, rows over parts that another implementation made, which refusal comes of a term
+//! that no document has, and that each failing call is told.
 ghost use Rattle.std.specs.Prelude.{◌≤◌, length};
 
-use mg_dev::{Part, PartErr};
+use mg_dev::{Part, PartErr, Store};
 use mg_layout::TermInfo;
 use mg_mem::MemStore;
 use mg_rank::{Ranked, Row, rank};
 use std::alloc::{AllocError, Global};
 use std::test::Fail;
 
-fn info(number: u32, docs: u32, post_at: u64, skip_at: u32) -> TermInfo {
-    TermInfo {
-        number,
-        docs,
-        post_at,
-        skip_at,
-    }
-}
-
-// Twelve documents over six trees: ash, box, elm, fir, oak, yew.
-fn trees() -> [TermInfo; 6] {
-    [
-        info(0, 4, 0, 0),
-        info(1, 1, 3, 1),
-        info(2, 9, 4, 2),
-        info(3, 4, 8, 3),
-        info(4, 5, 11, 4),
-        info(5, 2, 14, 5),
-    ]
-}
-
-const TREES_POST: [u8; 16] = [
-    110, 65, 104, 64, 10, 69, 34, 160, 134, 204, 32, 14, 210, 64, 97, 0,
+// Lists, skip entries and weights of twelve documents.
+static PARTS: [(&str, &[u8]); 3] = [
+    (
+        "set.post",
+        &[
+            110, 65, 104, 64, 10, 69, 34, 160, 134, 204, 32, 14, 210, 64, 97, 0,
+        ],
+    ),
+    // 12 0, 5 0, 12 0, 10 0, 9 0, 5 0.
+    (
+        "set.skip",
+        b"\0\0\0\0\0\0\0\x0c\0\0\0\0\0\0\0\0\0\0\0\0\0\0\0\x05\0\0\0\0\0\0\0\0\
+        \0\0\0\0\0\0\0\x0c\0\0\0\0\0\0\0\0\0\0\0\0\0\0\0\x0a\0\0\0\0\0\0\0\0\
+        \0\0\0\0\0\0\0\x09\0\0\0\0\0\0\0\0\0\0\0\0\0\0\0\x05\0\0\0\0\0\0\0\0",
+    ),
+    // 362 753 256 572 874 952 980 849 256 362 661 836.
+    (
+        "set.weights",
+        b"\0\0\x01\x6a\0\0\x02\xf1\0\0\x01\0\0\0\x02\x3c\0\0\x03\x6a\0\0\x03\xb8\
+        \0\0\x03\xd4\0\0\x03\x51\0\0\x01\0\0\0\x01\x6a\0\0\x02\x95\0\0\x03\x44",
+    ),
 ];
 
-const TREES_SKIP: [u64; 12] = [12, 0, 5, 0, 12, 0, 10, 0, 9, 0, 5, 0];
+// Six trees of the twelve documents: two of them, and all.
+static OAK_ELM: [TermInfo; 2] = [
+    TermInfo {
+        number: 4,
+        docs: 5,
+        post_at: 11,
+        skip_at: 4,
+    },
+    TermInfo {
+        number: 2,
+        docs: 9,
+        post_at: 4,
+        skip_at: 2,
+    },
+];
 
-const TREES_WEIGHTS: [u32; 12] = [362, 753, 256, 572, 874, 952, 980, 849, 256, 362, 661, 836];
+static SIX: [TermInfo; 6] = [
+    TermInfo {
+        number: 4,
+        docs: 5,
+        post_at: 11,
+        skip_at: 4,
+    },
+    TermInfo {
+        number: 2,
+        docs: 9,
+        post_at: 4,
+        skip_at: 2,
+    },
+    TermInfo {
+        number: 0,
+        docs: 4,
+        post_at: 0,
+        skip_at: 0,
+    },
+    TermInfo {
+        number: 3,
+        docs: 4,
+        post_at: 8,
+        skip_at: 3,
+    },
+    TermInfo {
+        number: 5,
+        docs: 2,
+        post_at: 14,
+        skip_at: 5,
+    },
+    TermInfo {
+        number: 1,
+        docs: 1,
+        post_at: 3,
+        skip_at: 1,
+    },
+];
 
-// Puts the numbers of Skip, of 8 bytes each.
-fn put_skip(alloc: Global, store: &mut MemStore, skip: &[u64]) -> Result<(), AllocError> {
-    let mut bytes = Vec::new(alloc);
-    for number in skip {
-        bytes.extend_from_slice(&number.to_be_bytes())?;
-    }
-    store.put_file("set.skip", &bytes)
-}
+// The best rows of two terms.
+static TWO_BEST: [(u32, u64); 3] = [(1, 138132), (6, 132689), (9, 115456)];
 
-// Puts the weights, of 4 bytes each.
-fn put_weights(alloc: Global, store: &mut MemStore, weights: &[u32]) -> Result<(), AllocError> {
-    let mut bytes = Vec::new(alloc);
-    for number in weights {
-        bytes.extend_from_slice(&number.to_be_bytes())?;
-    }
-    store.put_file("set.weights", &bytes)
-}
-
-// A store with the parts of the twelve documents.
-fn store_of(alloc: Global) -> Result<MemStore, AllocError> {
-    let mut store = MemStore::new(alloc);
-    store.put_file("set.post", &TREES_POST)?;
-    put_skip(alloc, &mut store, &TREES_SKIP)?;
-    put_weights(alloc, &mut store, &TREES_WEIGHTS)?;
-    Ok(store)
-}
+// The best rows of all six.
+static ALL: [(u32, u64); 12] = [
+    (5, 277815),
+    (7, 182671),
+    (8, 182173),
+    (2, 181464),
+    (4, 153757),
+    (12, 152551),
+    (10, 149175),
+    (1, 138132),
+    (6, 132689),
+    (3, 131072),
+    (9, 115456),
+    (11, 79872),
+];
 
 fn rows_are(ranked: &Ranked, wanted: &[(u32, u64)], total: u32) -> bool {
     let rows = ranked.rows();
@@ -79,67 +121,93 @@ fn rows_are(ranked: &Ranked, wanted: &[(u32, u64)], total: u32) -> bool {
 }
 
 // Whether so many rows of the best are these, of so many documents.
-fn ranks(
+fn ranks<S: Store>(
     alloc: Global,
-    store: &mut MemStore,
+    store: &mut S,
     terms: &[TermInfo],
-    most: u32,
     wanted: &[(u32, u64)],
-    total: u32,
+    counts: (u32, u32),
 ) -> Result<bool, PartErr>
     requires { length terms.now ≤ 64 }
 {
-    let ranked = rank(alloc, store, "set", terms, 12, most)?;
-    Ok(rows_are(&ranked, wanted, total))
+    let ranked = rank(alloc, store, "set", terms, 12, counts.0)?;
+    Ok(rows_are(&ranked, wanted, counts.1))
 }
 
-// The best rows of all six terms.
-const ALL: [(u32, u64); 12] = [
-    (5, 277815),
-    (7, 182671),
-    (8, 182173),
-    (2, 181464),
-    (4, 153757),
-    (12, 152551),
-    (10, 149175),
-    (1, 138132),
-    (6, 132689),
-    (3, 131072),
-    (9, 115456),
-    (11, 79872),
-];
+// A store with the parts of the twelve documents.
+fn twelve(alloc: Global) -> Result<MemStore, AllocError> {
+    let mut store = MemStore::new(alloc);
+    for (name, bytes) in &PARTS {
+        store.put_file(name, bytes)?;
+    }
+    Ok(store)
+}
+
+// The same over the twelve documents.
+fn ranks_twelve(
+    alloc: Global,
+    terms: &[TermInfo],
+    wanted: &[(u32, u64)],
+    counts: (u32, u32),
+) -> Result<bool, PartErr>
+    requires { length terms.now ≤ 64 }
+{
+    let mut store = twelve(alloc)?;
+    ranks(alloc, &mut store, terms, wanted, counts)
+}
 
 #[test]
 fn twelve_documents_are_ranked(rt: HostRuntime) -> Result<(), Fail> {
-    let alloc = rt.alloc();
-    let mut store = store_of(alloc)?;
-    let [ash, bx, elm, fir, oak, yew] = trees();
-    let two: &[(u32, u64)] = &[(1, 138132), (6, 132689), (9, 115456)];
-    assert!(rt; ranks(alloc, &mut store, &[oak, elm], 3, two, 10)?);
-    let six = [oak, elm, ash, fir, yew, bx];
-    assert!(rt; ranks(alloc, &mut store, &six, 1000, &ALL, 12)?);
+    assert!(rt; ranks_twelve(rt.alloc(), &OAK_ELM, &TWO_BEST, (3, 10))?);
+    assert!(rt; ranks_twelve(rt.alloc(), &SIX, &ALL, (1000, 12))?);
     Ok(())
 }
 
 // Why the twelve documents are not ranked by a term, if they are not, and how many calls of the store that took.
 fn refusal(alloc: Global, term: TermInfo, call: u64) -> Result<(Option<PartErr>, u64), AllocError> {
-    let mut store = store_of(alloc)?;
+    let mut store = twelve(alloc)?;
     store.fail_at(call, 0)?;
-    let told = rank(alloc, &mut store, "set", &[term], 12, 3).err();
+    let told = ranks(alloc, &mut store, &[term], &[], (3, 0)).err();
     Ok((told, store.calls()))
 }
 
 #[test]
 fn damage_and_failing_calls_are_told(rt: HostRuntime) -> Result<(), Fail> {
     let alloc = rt.alloc();
-    let (none, _) = refusal(alloc, info(0, 0, 0, 0), 1000)?;
+    let (none, _) = refusal(
+        alloc,
+        TermInfo {
+            number: 0,
+            docs: 0,
+            post_at: 0,
+            skip_at: 0,
+        },
+        1000,
+    )?;
     let told = matches!(none, Some(PartErr::Bad(bad)) if bad.part == Part::Lex && bad.found == 0);
     assert!(rt; told, "a term that no document has");
-    let [ash, ..] = trees();
-    let (whole, calls) = refusal(alloc, ash, 1000)?;
+    let (whole, calls) = refusal(
+        alloc,
+        TermInfo {
+            number: 0,
+            docs: 4,
+            post_at: 0,
+            skip_at: 0,
+        },
+        1000,
+    )?;
     assert!(rt; whole.is_none(), "no call fails");
     for call in 0..calls {
-        let told = refusal(alloc, ash, call)?;
+        let told = refusal(
+            alloc,
+            TermInfo {
+                number: 0,
+                docs: 4,
+                post_at: 0,
+                skip_at: 0,
+            },
+            call,
+        )?;
         assert!(rt;
             told == (Some(PartErr::Device), call.saturating_add(1)),
             "{call}"
