@@ -1,15 +1,14 @@
-//! What no clause says: bytes of runs as they stand in a file, postings beside those of a plain
-//! sort, and which damage is met first. Failing devices stand with the tools.
-ghost use Rattle.std.specs.Prelude.{◌≡◌, ◌≤◌, ◌^◌, ℕ, List, IfOk, None, codes, length};
+//! What no clause says: bytes of runs that are joined, which parts that takes, and which damage is met first. The bytes of a
+//! first run stand with the builds, failing devices with the tools.
+ghost use Rattle.std.specs.Prelude.{◌≡◌, ◌≤◌, ◌^◌, ℕ, List, IfOk, None};
 ghost use Rattle.mg_runs.specs.Fed.{IsFed};
 ghost use Rattle.mg_runs.specs.Left.{IsMerging};
 ghost use Rattle.mg_defs.specs.declared.TermPosting.{TermPosting};
 
-use mg_defs::TermPosting;
 use mg_dev::{Bad, Failed, FileRef, Part, PartErr, PutErr, Store};
 use mg_mem::SureStore;
 use mg_runs::{Merge, Pool, Runs};
-use std::alloc::{AllocError, Global};
+use std::alloc::Global;
 use std::test::Fail;
 
 /// A writer's refusal as a reader's.
@@ -20,171 +19,47 @@ fn refused(refusal: PutErr) -> PartErr {
     }
 }
 
-fn posting(term: u32, doc: u32, count: u32) -> TermPosting {
-    TermPosting { term, doc, count }
+/// So many occurrences, each of one of so many terms, and so many a document.
+struct Sample {
+    count: u32,
+    terms: u32,
+    a_document: u32,
 }
 
-/// Scattered occurrences, each a term of so many and how many documents come before its own.
-fn scattered(alloc: Global, count: u32, terms: u32) -> Result<Vec<(u32, u16)>, AllocError>
-    requires count { count ≤ 1000000 }
-    requires terms { 1 ≤ terms }
-    ensures len { IfOk result (λ sample. length sample.items ≡ count) }
+/// Takes scattered occurrences with the smallest pool.
+fn take<S: Store>(alloc: Global, store: &mut S, sample: &Sample) -> Result<Runs<'static>, PutErr>
+    requires count { sample.now.count ≤ 1000000 }
+    requires terms { 1 ≤ sample.now.terms }
+    requires documents { 1 ≤ sample.now.a_document }
+    ensures { IfOk result (λ runs. (fed : List (ℕ × ℕ)) × IsFed runs (S.files store.new) fed) }
 {
-    let mut sample = Vec::new(alloc);
+    let mut runs = Runs::start(alloc, store, "set", Pool::new(alloc, 4096)?)?;
     let mut state = 12345u32;
-    for k in 0..count {
+    for k in 0..sample.count {
         state = state.wrapping_mul(1664525).wrapping_add(1013904223);
-        sample.push(((state >> 16) % terms, (k / 40) as u16))?;
-    }
-    Ok(sample)
-}
-
-/// Takes these occurrences.
-fn take<S: Store>(
-    alloc: Global,
-    store: &mut S,
-    budget: u64,
-    sample: &[(u32, u16)],
-) -> Result<Runs<'static>, PutErr>
-    requires least { 4096 ≤ budget }
-    requires most { budget ≤ 2 ^ 30 }
-    requires count { length sample.now ≤ 1000000 }
-    ensures fed { IfOk result (λ runs. (fed : List (ℕ × ℕ)) × IsFed runs (S.files store.new) fed) }
-    ensures limit { IfOk result (λ runs. runs.pool.limit ≡ budget) }
-    ensures base { IfOk result (λ runs. runs.base ≡ codes "set") }
-{
-    let mut runs = Runs::start(alloc, store, "set", Pool::new(alloc, budget)?)?;
-    for k in 0..sample.len() {
-        let (term, before) = sample[k];
-        runs.add(store, term, u32::from(before) + 1)?;
+        let term = (state >> 16) % sample.terms;
+        runs.add(store, term, k / sample.a_document + 1)?;
     }
     Ok(runs)
 }
 
-/// Whether a merge has the postings of these sorted occurrences left, and no more.
-fn gives<S: Store>(
-    merge: &mut Merge<'_>,
-    store: &mut S,
-    sorted: &[(u32, u16)],
-) -> Result<bool, PartErr>
-    requires left { (left : List TermPosting) × IsMerging merge.old (S.files store.old) left }
+/// How many postings a merge has left, and a checksum of them.
+fn sum_up<S: Store>(merge: &mut Merge<'_>, store: &mut S) -> Result<(u32, u32), PartErr>
+    requires { (left : List TermPosting) × IsMerging merge.old (S.files store.old) left }
 {
-    let mut from = 0;
-    while from < sorted.len() {
-        let (term, before) = sorted[from];
-        let mut count = 1u32;
-        from += 1;
-        while from < sorted.len() && sorted[from] == (term, before) {
-            from += 1;
-            count = count.wrapping_add(1);
-        }
-        match merge.next(store) {
-            Ok(next) => {
-                if next != Some(posting(term, u32::from(before) + 1, count)) {
-                    return Ok(false);
-                }
-            }
-            Err(refusal) => return Err(refusal),
+    let mut sum = 0u32;
+    for count in 0..1_000_000u32 {
+        match merge.next(store)? {
+            None => return Ok((count, sum)),
+            Some(next) => sum = added(added(added(sum, next.term), next.doc), next.count),
         }
     }
-    match merge.next(store) {
-        Ok(next) => Ok(next.is_none()),
-        Err(refusal) => Err(refusal),
-    }
+    Ok((1_000_000, sum))
 }
 
-/// Whether the postings of a sample, merged in a pool of so many bytes, are those of a plain sort.
-fn merges_as_sorted<S: Store>(
-    alloc: Global,
-    store: &mut S,
-    budget: u64,
-    sample: &[(u32, u16)],
-) -> Result<bool, PartErr>
-    requires least { 4096 ≤ budget }
-    requires most { budget ≤ 2 ^ 30 }
-    requires count { length sample.now ≤ 1000000 }
-{
-    let mut sorted = Vec::new(alloc);
-    sorted.extend_from_slice(sample)?;
-    sorted.sort_unstable();
-    let runs = match take(alloc, store, budget, sample) {
-        Ok(runs) => runs,
-        Err(refusal) => return Err(refused(refusal)),
-    };
-    match runs.merge(store) {
-        Ok(mut merge) => gives(&mut merge, store, &sorted),
-        Err(refusal) => Err(refusal),
-    }
-}
-
-#[test]
-fn a_pool_tells_its_sizes(rt: HostRuntime) -> Result<(), Fail> {
-    let mut pool = Pool::new(rt.alloc(), 4096)?;
-    assert!(rt; pool.cap() == 341 && pool.width() == 64);
-    assert!(rt; pool.used() == 0 && pool.peak() == 0 && pool.limit() == 4096);
-    pool.push(7, 1);
-    assert!(rt; pool.used() == 12 && pool.peak() == 12 && pool.limit() == 4096);
-    assert!(rt; !pool.is_full());
-    Ok(())
-}
-
-/// How many runs these occurrences make in a pool of 4096 bytes, and its greatest use.
-fn merged<S: Store>(
-    alloc: Global,
-    store: &mut S,
-    sample: &[(u32, u16)],
-) -> Result<(u32, u64), PartErr>
-    requires count { length sample.now ≤ 1000000 }
-{
-    let runs = match take(alloc, store, 4096, sample) {
-        Ok(runs) => runs,
-        Err(refusal) => return Err(refused(refusal)),
-    };
-    match runs.merge(store) {
-        Ok(merge) => Ok((merge.runs(), merge.peak())),
-        Err(refusal) => Err(refusal),
-    }
-}
-
-#[test]
-fn a_run_is_these_bytes(rt: HostRuntime) -> Result<(), Fail> {
-    let words = [
-        (0, 0),
-        (2, 0),
-        (3, 0),
-        (1, 1),
-        (3, 1),
-        (0, 2),
-        (0, 2),
-        (1, 2),
-    ];
-    let mut store = SureStore::new(rt.alloc());
-    let counted = merged(rt.alloc(), &mut store, &words)?;
-    assert!(rt; counted == (1, 96));
-    assert!(rt; store.file("set.run") == Some(b"\xd8\x49\x20\x42\x00".as_slice()));
-    Ok(())
-}
-
-#[test]
-fn runs_are_joined_in_rounds(rt: HostRuntime) -> Result<(), Fail> {
-    let mut store = SureStore::new(rt.alloc());
-    let counted = merged(rt.alloc(), &mut store, &[(0, 0); 25000])?;
-    assert!(rt; counted == (74, 4096));
-    let joined: &[u8] = b"\x1f\xff\x95\x40\x1f\xfd\x1a\x00";
-    assert!(rt; store.file("set.mergea") == Some(joined));
-    assert!(rt; store.file("set.mergeb") == Some(b"".as_slice()));
-    Ok(())
-}
-
-#[test]
-fn postings_are_those_of_a_sort(rt: HostRuntime) -> Result<(), Fail> {
-    let alloc = rt.alloc();
-    let sample = scattered(alloc, 25000, 97)?;
-    let mut store = SureStore::new(alloc);
-    assert!(rt; merges_as_sorted(alloc, &mut store, 4096, &sample)?);
-    assert!(rt; store.reads_of(Part::MergeA) > 0);
-    assert!(rt; store.reads_of(Part::MergeB) == 0 && store.reads_of(Part::Text) == 0);
-    Ok(())
+/// A checksum with one number more.
+fn added(sum: u32, number: u32) -> u32 {
+    sum.wrapping_mul(31).wrapping_add(number)
 }
 
 /// A store that tells none of its files. So many reads are sound; those after it give one-bits alone.
@@ -231,16 +106,6 @@ impl Store for Spoiled {
     }
 }
 
-/// How merging a sample ends where so many reads are sound, and how often the runs were read.
-fn merged_spoiled(alloc: Global, sound: u64, sample: &[(u32, u16)]) -> (Result<bool, PartErr>, u64)
-    requires count { length sample.now ≤ 1000000 }
-{
-    let held = SureStore::new(alloc);
-    let mut store = Spoiled { sound, held };
-    let merged = merges_as_sorted(alloc, &mut store, 4096, sample);
-    (merged, store.held.reads_of(Part::Run))
-}
-
 /// The damage of a part at its first code.
 fn first_code(part: Part) -> Bad {
     Bad {
@@ -252,14 +117,71 @@ fn first_code(part: Part) -> Bad {
     }
 }
 
+/// What a merge of a sample tells: its runs, the greatest use of the pool, how many postings there are, and a checksum of them.
+fn told<S: Store>(alloc: Global, store: &mut S, sample: &Sample) -> Result<[u64; 4], PartErr>
+    requires count { sample.now.count ≤ 1000000 }
+    requires terms { 1 ≤ sample.now.terms }
+    requires documents { 1 ≤ sample.now.a_document }
+{
+    let runs = match take(alloc, store, sample) {
+        Ok(runs) => runs,
+        Err(refusal) => return Err(refused(refusal)),
+    };
+    let mut merge = match runs.merge(store) {
+        Ok(merge) => merge,
+        Err(refusal) => return Err(refusal),
+    };
+    let (count, sum) = sum_up(&mut merge, store)?;
+    let (runs, peak) = (merge.runs(), merge.peak());
+    Ok([u64::from(runs), peak, u64::from(count), u64::from(sum)])
+}
+
+/// 25,000 occurrences of one term in one document.
+static JOINED: Sample = Sample {
+    count: 25_000,
+    terms: 1,
+    a_document: 25_000,
+};
+
+/// The same, and whether these are the bytes of both working files, of which the second was never read.
+fn told_of_joined(alloc: Global, joined: &[u8]) -> Result<([u64; 4], bool), PartErr> {
+    let mut store = SureStore::new(alloc);
+    let told = told(alloc, &mut store, &JOINED)?;
+    let same = store.file("set.mergea") == Some(joined) && store.file("set.mergeb") == Some(b"");
+    let read = store.reads_of(Part::MergeA) > 0 && store.reads_of(Part::MergeB) == 0;
+    Ok((told, same && read))
+}
+
+#[test]
+fn runs_are_joined_in_rounds(rt: HostRuntime) -> Result<(), Fail> {
+    let joined: &[u8] = b"\x1f\xff\x95\x40\x1f\xfd\x1a\x00";
+    let told = told_of_joined(rt.alloc(), joined)?;
+    assert!(rt; told == ([74, 4096, 1, 25_031], true));
+    Ok(())
+}
+
+/// Some 40 occurrences of two terms in each of 563 documents.
+static SCATTERED: Sample = Sample {
+    count: 22_500,
+    terms: 2,
+    a_document: 40,
+};
+
+/// What a merge tells where so many reads are sound, and how often the runs were read.
+fn told_spoiled(alloc: Global, sound: u64) -> (Result<[u64; 4], PartErr>, u64) {
+    let held = SureStore::new(alloc);
+    let mut store = Spoiled { sound, held };
+    let told = told(alloc, &mut store, &SCATTERED);
+    (told, store.held.reads_of(Part::Run))
+}
+
 #[test]
 fn the_first_damage_is_told_of_its_part(rt: HostRuntime) -> Result<(), Fail> {
     let alloc = rt.alloc();
-    let sample = scattered(alloc, 22500, 2)?;
-    let (merged, of_run) = merged_spoiled(alloc, u64::MAX, &sample);
-    assert!(rt; merged == Ok(true));
+    let (told, of_run) = told_spoiled(alloc, u64::MAX);
+    assert!(rt; told == Ok([66, 4096, 1126, 2_811_981_349]));
     for (sound, part) in [(0, Part::Run), (of_run, Part::MergeA)] {
-        let (told, _) = merged_spoiled(alloc, sound, &sample);
+        let (told, _) = told_spoiled(alloc, sound);
         assert!(rt; told == Err(PartErr::Bad(first_code(part))));
     }
     Ok(())
