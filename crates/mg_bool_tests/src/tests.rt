@@ -1,5 +1,6 @@
-//! What no clause says: answers over real parts, and that calls succeed.
-ghost use Rattle.std.specs.Prelude.{◌≡◌, IfOk, IfSome, codes, length};
+//! What no clause says: answers over real parts, that calls succeed, how much is read, and that each failing call is told.
+ghost use Rattle.std.specs.Prelude.{◌≡◌, IfOk, codes, length};
+ghost use Rattle.std.specs.Bool.{OnTrue};
 ghost use Rattle.mg_defs.specs.QueryTerms.{query_terms};
 ghost use Rattle.mg_query.specs.QueryOf.{query_of};
 ghost use Rattle.mg_bool.specs.Matches.{MatchesFit};
@@ -8,14 +9,14 @@ use mg_bool::Matches;
 use mg_dev::{Part, PartErr, Store};
 use mg_layout::TermInfo;
 use mg_mem::MemStore;
-use mg_query::{Query, Terms, parse_boolean};
+use mg_query::{Query, parse_boolean};
 use std::alloc::{AllocError, Global};
 use std::test::Fail;
 
 // Post and Skip of 300 documents with words from `a` to `e`: `d` stands in document 290 alone,
 // and `e` in each document from 201 on.
 #[rattlefmt::skip]
-const POST: [u8; 191] = [
+static POST: [u8; 191] = [
     0x44, 0x3c, 0x54, 0xcd, 0x35, 0x11, 0x50, 0xe9, 0x3d, 0x14, 0x48, 0x0b, 0x58, 0x2a, 0x22, 0xfe,
     0xb1, 0x41, 0x04, 0x81, 0xaa, 0x01, 0x20, 0x28, 0xa2, 0xa9, 0x15, 0x15, 0x52, 0x25, 0x3a, 0xaa,
     0xf5, 0x5a, 0x05, 0x6b, 0xc5, 0xf5, 0x54, 0xac, 0xa7, 0xe9, 0x41, 0x57, 0x22, 0x21, 0x33, 0xd5,
@@ -30,192 +31,218 @@ const POST: [u8; 191] = [
     0x00, 0x00, 0x00, 0x00, 0x00, 0x00, 0x00, 0x00, 0x00, 0x00, 0x00, 0x00, 0x00, 0x00, 0x00,
 ];
 
-const SKIP: [u64; 18] = [
-    98, 0, 222, 230, 300, 500, 213, 0, 299, 255, 295, 0, 290, 0, 264, 0, 300, 292,
-];
+// 98 0, 222 230, 300 500; 213 0, 299 255; 295 0; 290 0; 264 0, 300 292.
+static SKIP: &[u8] =
+    b"\0\0\0\0\0\0\0\x62\0\0\0\0\0\0\0\0\0\0\0\0\0\0\0\xde\0\0\0\0\0\0\0\xe6\0\0\0\0\0\0\x01\x2c\0\0\0\0\0\0\x01\xf4\
+    \0\0\0\0\0\0\0\xd5\0\0\0\0\0\0\0\0\0\0\0\0\0\0\x01\x2b\0\0\0\0\0\0\0\xff\0\0\0\0\0\0\x01\x27\0\0\0\0\0\0\0\0\
+    \0\0\0\0\0\0\x01\x22\0\0\0\0\0\0\0\0\0\0\0\0\0\0\x01\x08\0\0\0\0\0\0\0\0\0\0\0\0\0\0\x01\x2c\0\0\0\0\0\0\x01\x24";
 
-const TERMS: [(&[u8], u32, u64, u32); 5] = [
-    (b"a", 176, 0, 0),
-    (b"b", 98, 86, 3),
-    (b"c", 6, 133, 5),
-    (b"d", 1, 139, 6),
-    (b"e", 100, 141, 7),
-];
+const A: Option<TermInfo> = Some(TermInfo {
+    number: 0,
+    docs: 176,
+    post_at: 0,
+    skip_at: 0,
+});
 
-// Puts the numbers of Skip, of 8 bytes each.
-fn put_skip(alloc: Global, store: &mut MemStore, skip: &[u64]) -> Result<(), AllocError> {
-    let mut bytes = Vec::new(alloc);
-    for number in skip {
-        bytes.extend_from_slice(&number.to_be_bytes())?;
-    }
-    store.put_file("set.skip", bytes.as_slice())
+const B: Option<TermInfo> = Some(TermInfo {
+    number: 1,
+    docs: 98,
+    post_at: 86,
+    skip_at: 3,
+});
+
+const C: Option<TermInfo> = Some(TermInfo {
+    number: 2,
+    docs: 6,
+    post_at: 133,
+    skip_at: 5,
+});
+
+const D: Option<TermInfo> = Some(TermInfo {
+    number: 3,
+    docs: 1,
+    post_at: 139,
+    skip_at: 6,
+});
+
+const E: Option<TermInfo> = Some(TermInfo {
+    number: 4,
+    docs: 100,
+    post_at: 141,
+    skip_at: 7,
+});
+
+// A line with what the lexicon tells of its words, how many documents there are, how many of them satisfy it, and the sum of
+// their numbers.
+struct Row {
+    line: &'static [u8],
+    infos: &'static [Option<TermInfo>],
+    all: u32,
+    found: (u32, u64),
 }
 
-// A store with these parts.
-fn store_of(alloc: Global, post: &[u8], skip: &[u64]) -> Result<MemStore, AllocError> {
-    let mut store = MemStore::new(alloc);
-    store.put_file("set.post", post)?;
-    put_skip(alloc, &mut store, skip)?;
-    Ok(store)
-}
-
-// What the lexicon tells, and how many documents there are.
-type Set<'a> = (&'a [(&'a [u8], u32, u64, u32)], u32);
-
-// What the lexicon tells of a word.
-fn info_of(terms: &[(&[u8], u32, u64, u32)], word: &[u8]) -> Option<TermInfo> {
-    if terms.len() > 16 {
-        return None;
-    }
-    for number in 0..terms.len() {
-        let (term, docs, post_at, skip_at) = terms[number];
-        if term == word {
-            return Some(TermInfo {
-                number: number as u32,
-                docs,
-                post_at,
-                skip_at,
-            });
-        }
-    }
-    None
-}
-
-// What it tells of each word.
-fn infos_of(
-    alloc: Global,
-    terms: &[(&[u8], u32, u64, u32)],
-    words: &Terms,
-) -> Result<Option<Vec<Option<TermInfo>>>, AllocError>
-    ensures { IfOk result (λ infos. IfSome infos (λ i. length i.items ≡ length words.now)) }
-{
-    let mut infos = Vec::new(alloc);
-    for word in words.as_slice() {
-        infos.push(info_of(terms, word.as_bytes()))?;
-    }
-    if infos.len() != words.len() {
-        return Ok(None);
-    }
-    Ok(Some(infos))
-}
-
-// Collects the documents that a walk has left.
-fn collect<S: Store>(
+// How many documents a walk has left, and the sum of their numbers.
+fn count_left<S: Store>(
     matches: &mut Matches<'_, S>,
     store: &mut S,
     all: u32,
-    found: &mut Vec<u32>,
-) -> Result<(), PartErr>
+) -> Result<(u32, u64), PartErr>
     requires { MatchesFit (codes "set") (S.files store.old) matches.old }
 {
+    let mut count = 0u32;
+    let mut sum = 0u64;
     for _call in 0..=all {
         match matches.next(store)? {
-            Some(doc) => found.push(doc)?,
+            Some(doc) => {
+                count = count.saturating_add(1);
+                sum = sum.saturating_add(u64::from(doc));
+            }
             None => break,
         }
     }
-    Ok(())
+    Ok((count, sum))
 }
 
-// Collects the documents that satisfy a query, of whose terms the lexicon tells this.
-fn collect_all<S: Store>(
+// The same of all documents that satisfy a query, of whose terms the lexicon tells this.
+fn count_all<S: Store>(
     alloc: Global,
     store: &mut S,
     query: &Query,
-    infos: &[Option<TermInfo>],
-    all: u32,
-    found: &mut Vec<u32>,
-) -> Result<(), PartErr>
-    requires { length infos.now ≡ length (query_terms (query_of query.now)) }
+    row: &Row,
+) -> Result<(u32, u64), PartErr>
+    requires { length row.now.infos.now ≡ length (query_terms (query_of query.now)) }
 {
-    let mut matches = Matches::start(alloc, "set", query, infos, all)?;
-    collect(&mut matches, store, all, found)
+    let mut matches = Matches::start(alloc, "set", query, row.infos, row.all)?;
+    count_left(&mut matches, store, row.all)
 }
 
-// Collects the documents that satisfy a line; whether it is a query.
-fn answer<S: Store>(
-    alloc: Global,
-    store: &mut S,
-    line: &[u8],
-    (terms, all): Set<'_>,
-    found: &mut Vec<u32>,
-) -> Result<bool, PartErr> {
-    if line.len() > 1024 {
-        return Ok(false);
-    }
-    let Ok(query) = parse_boolean(alloc, line) else {
-        return Ok(false);
-    };
+// Whether a query has so many terms.
+fn has_terms(alloc: Global, query: &Query, count: usize) -> Result<bool, AllocError>
+    ensures { IfOk result (λ has. OnTrue has (count ≡ length (query_terms (query_of query.now)))) }
+{
     let words = query.terms(alloc)?;
-    let Some(infos) = infos_of(alloc, terms, &words)? else {
-        return Ok(false);
-    };
-    collect_all(alloc, store, &query, &infos, all, found)?;
-    Ok(true)
+    Ok(count == words.len())
 }
 
-// Whether these documents are answered.
-fn gives<S: Store>(
+// The same of the query of a row's line; None where it has other words.
+fn counted_of<S: Store>(
     alloc: Global,
     store: &mut S,
-    line: &[u8],
-    set: Set<'_>,
-    wanted: &[u32],
-) -> Result<bool, PartErr> {
-    let mut found = Vec::new(alloc);
-    let is_query = answer(alloc, store, line, set, &mut found)?;
-    Ok(is_query && found.as_slice() == wanted)
-}
-
-#[test]
-fn documents_of_no_list_are_answered(rt: HostRuntime) -> Result<(), Fail> {
-    let alloc = rt.alloc();
-    let mut empty = MemStore::new(alloc);
-    assert!(rt; gives(alloc, &mut empty, b"!x", (&[], 2), &[1, 2])?);
-    Ok(())
-}
-
-// How many documents satisfy a line, and the sum of their numbers.
-fn counted(alloc: Global, store: &mut MemStore, line: &[u8]) -> Result<(usize, u64), PartErr> {
-    let mut found = Vec::new(alloc);
-    let _is_query = answer(alloc, store, line, (&TERMS, 300), &mut found)?;
-    let mut total = 0u64;
-    for doc in &found {
-        total = total.saturating_add(u64::from(*doc));
+    query: &Query,
+    row: &Row,
+) -> Result<Option<(u32, u64)>, PartErr> {
+    if !has_terms(alloc, query, row.infos.len())? {
+        return Ok(None);
     }
-    Ok((found.len(), total))
+    Ok(Some(count_all(alloc, store, query, row)?))
+}
+
+// The same of a row's line; None where it is no query either.
+fn counted<S: Store>(
+    alloc: Global,
+    store: &mut S,
+    row: &Row,
+) -> Result<Option<(u32, u64)>, PartErr> {
+    if row.line.len() > 1024 {
+        return Ok(None);
+    }
+    match parse_boolean(alloc, row.line) {
+        Ok(query) => counted_of(alloc, store, &query, row),
+        Err(_) => Ok(None),
+    }
+}
+
+// A store with these parts.
+fn store_of(alloc: Global, post: &[u8], skip: &[u8]) -> Result<MemStore, AllocError> {
+    let mut store = MemStore::new(alloc);
+    store.put_file("set.post", post)?;
+    store.put_file("set.skip", skip)?;
+    Ok(store)
+}
+
+// Lines over the 300 documents, and one of a word that none of two documents has.
+static ROWS: [Row; 9] = [
+    Row {
+        line: b"a & b",
+        infos: &[A, B],
+        all: 300,
+        found: (55, 8735),
+    },
+    Row {
+        line: b"c & b & !a",
+        infos: &[C, B, A],
+        all: 300,
+        found: (1, 289),
+    },
+    Row {
+        line: b"a & (b | c) & e",
+        infos: &[A, B, C, E],
+        all: 300,
+        found: (22, 5471),
+    },
+    Row {
+        line: b"d & a",
+        infos: &[D, A],
+        all: 300,
+        found: (1, 290),
+    },
+    Row {
+        line: b"c | z & a",
+        infos: &[C, None, A],
+        all: 300,
+        found: (6, 1269),
+    },
+    Row {
+        line: b"!(a | b | e)",
+        infos: &[A, B, E],
+        all: 300,
+        found: (60, 6657),
+    },
+    Row {
+        line: b"a | b | c",
+        infos: &[A, B, C],
+        all: 300,
+        found: (223, 34015),
+    },
+    Row {
+        line: b"a | !b",
+        infos: &[A, B],
+        all: 300,
+        found: (257, 38552),
+    },
+    Row {
+        line: b"!x",
+        infos: &[None],
+        all: 2,
+        found: (2, 3),
+    },
+];
+
+// Whether each line is answered so.
+fn are_counted(alloc: Global, rows: &[Row]) -> Result<bool, PartErr> {
+    let mut store = store_of(alloc, &POST, SKIP)?;
+    for row in rows {
+        if counted(alloc, &mut store, row)? != Some(row.found) {
+            return Ok(false);
+        }
+    }
+    Ok(true)
 }
 
 #[test]
 fn lists_of_several_blocks_are_joined(rt: HostRuntime) -> Result<(), Fail> {
-    let alloc = rt.alloc();
-    let mut store = store_of(alloc, &POST, &SKIP)?;
-    // How many documents, and the sum of their numbers.
-    let rows: [(&[u8], usize, u64); 8] = [
-        (b"a & b", 55, 8735),
-        (b"c & b & !a", 1, 289),
-        (b"a & (b | c) & e", 22, 5471),
-        (b"d & a", 1, 290),
-        (b"c | z & a", 6, 1269),
-        (b"!(a | b | e)", 60, 6657),
-        (b"a | b | c", 223, 34015),
-        (b"a | !b", 257, 38552),
-    ];
-    for (line, count, sum) in rows {
-        assert!(rt; counted(alloc, &mut store, line)? == (count, sum));
-    }
+    assert!(rt; are_counted(rt.alloc(), &ROWS)?);
     Ok(())
 }
 
 // Skip of `y x` and then 199,999 times `x`: every posting is of zeros, two bits each in the list of `x`.
-fn rare_skip(alloc: Global) -> Result<Vec<u64>, AllocError> {
+fn rare_skip(alloc: Global) -> Result<Vec<u8>, AllocError> {
     let mut skip = Vec::new(alloc);
     for block in 0..3_125u64 {
-        skip.push(64 * block + 64)?;
-        skip.push(128 * block)?;
+        skip.extend_from_slice(&(64 * block + 64).to_be_bytes())?;
+        skip.extend_from_slice(&(128 * block).to_be_bytes())?;
     }
-    skip.push(1)?;
-    skip.push(0)?;
+    skip.extend_from_slice(b"\0\0\0\0\0\0\0\x01\0\0\0\0\0\0\0\0")?;
     Ok(skip)
 }
 
@@ -226,31 +253,67 @@ fn rare_store(alloc: Global) -> Result<MemStore, AllocError> {
     store_of(alloc, post.as_slice(), skip.as_slice())
 }
 
-// Whether these of the 200,000 documents are answered, and how many pages of Post that reads.
-fn rare_gives(alloc: Global, line: &[u8], wanted: &[u32]) -> Result<(bool, u64), PartErr> {
+const X: Option<TermInfo> = Some(TermInfo {
+    number: 0,
+    docs: 200_000,
+    post_at: 0,
+    skip_at: 0,
+});
+
+const Y: Option<TermInfo> = Some(TermInfo {
+    number: 1,
+    docs: 1,
+    post_at: 50_000,
+    skip_at: 3_125,
+});
+
+static RARE: [Row; 2] = [
+    Row {
+        line: b"y & !x",
+        infos: &[Y, X],
+        all: 200_000,
+        found: (0, 0),
+    },
+    Row {
+        line: b"y & (x | z)",
+        infos: &[Y, X, None],
+        all: 200_000,
+        found: (1, 1),
+    },
+];
+
+// Whether this line is answered so of the 200,000 documents, and how many pages of Post that reads.
+fn rare_counted(alloc: Global, row: &Row) -> Result<(bool, u64), PartErr> {
     let mut store = rare_store(alloc)?;
-    let terms: [(&[u8], u32, u64, u32); 2] = [(b"x", 200_000, 0, 0), (b"y", 1, 50_000, 3_125)];
-    let given = gives(alloc, &mut store, line, (&terms, 200_000), wanted)?;
-    Ok((given, store.reads_of(Part::Post)))
+    let found = counted(alloc, &mut store, row)?;
+    Ok((found == Some(row.found), store.reads_of(Part::Post)))
 }
 
 #[test]
 fn a_rare_word_reads_two_pages(rt: HostRuntime) -> Result<(), Fail> {
-    let alloc = rt.alloc();
-    let rows: [(&[u8], &[u32]); 2] = [(b"y & !x", &[]), (b"y & (x | z)", &[1])];
-    for (line, wanted) in rows {
-        let (given, pages) = rare_gives(alloc, line, wanted)?;
+    for row in &RARE {
+        let (given, pages) = rare_counted(rt.alloc(), row)?;
         assert!(rt; given && pages <= 2);
     }
     Ok(())
 }
 
+static FOUR_PLACES: Row = Row {
+    line: b"(a | b) & !e | c",
+    infos: &[A, B, E, C],
+    all: 300,
+    found: (145, 0),
+};
+
 // How many documents satisfy a query of four places where a call fails, and how many calls of the store there were.
-fn despite(alloc: Global, call: u64) -> Result<(Result<usize, PartErr>, u64), AllocError> {
-    let mut store = store_of(alloc, &POST, &SKIP)?;
+fn despite(alloc: Global, call: u64) -> Result<(Result<u32, PartErr>, u64), AllocError> {
+    let mut store = store_of(alloc, &POST, SKIP)?;
     store.fail_at(call, 0)?;
-    let counted = counted(alloc, &mut store, b"(a | b) & !e | c");
-    Ok((counted.map(|(count, _)| count), store.calls()))
+    let told = match counted(alloc, &mut store, &FOUR_PLACES) {
+        Ok(found) => Ok(found.map_or(0, |(count, _)| count)),
+        Err(refusal) => Err(refusal),
+    };
+    Ok((told, store.calls()))
 }
 
 #[test]
