@@ -3,7 +3,9 @@
 //! `tests/query_lines.py` writes the input and what must be printed.
 #![tactic(auto)]
 
-use mg_query::{LINE_LIMIT, Query, QueryErr, parse_boolean, parse_ranked};
+ghost use Rattle.std.specs.Prelude.{◌≤◌, length};
+
+use mg_query::{LINE_LIMIT, Query, QueryErr, Terms, parse_boolean, parse_ranked};
 use std::alloc::{AllocError, Global};
 use std::io::{self, BufRead, BufReader, BufWriter, Write};
 
@@ -13,10 +15,14 @@ fn main(rt: HostRuntime) -> io::Result<()> {
     let mut out = BufWriter::new(alloc, io::writer(&rt))?;
     for line in input.lines(alloc) {
         let line = line?;
-        let shown = reading(alloc, line.as_bytes())?;
-        out.write_all(shown.as_slice())?;
+        print_reading(alloc, line.as_bytes(), &mut out)?;
     }
     out.flush()
+}
+
+fn print_reading<W: Write>(alloc: Global, line: &[u8], out: &mut W) -> io::Result<()> {
+    let shown = reading(alloc, line)?;
+    out.write_all(shown.as_slice())
 }
 
 /// What is printed of a line.
@@ -26,24 +32,42 @@ fn reading(alloc: Global, line: &[u8]) -> Result<Vec<u8>, AllocError> {
         out.extend_from_slice(b"? line too long\n")?;
         return Ok(out);
     }
-    match parse_boolean(alloc, line) {
-        Ok(query) => show(&query, &mut out)?,
-        Err(error) => show_refusal(alloc, &error, &mut out)?,
-    }
+    add_boolean(alloc, line, &mut out)?;
     out.push(b'\t')?;
-    match parse_ranked(alloc, line) {
-        Ok(terms) => {
-            for (i, term) in terms.as_slice().iter().enumerate() {
-                if i > 0 {
-                    out.push(b' ')?;
-                }
-                out.extend_from_slice(term.as_bytes())?;
-            }
-        }
-        Err(error) => show_refusal(alloc, &error, &mut out)?,
-    }
+    add_ranked(alloc, line, &mut out)?;
     out.push(b'\n')?;
     Ok(out)
+}
+
+fn add_boolean(alloc: Global, line: &[u8], out: &mut Vec<u8>) -> Result<(), AllocError>
+    requires { length line.now ≤ 1024 }
+{
+    match parse_boolean(alloc, line) {
+        Ok(query) => show(&query, out),
+        Err(error) => show_refusal(alloc, &error, out),
+    }
+}
+
+fn add_ranked(alloc: Global, line: &[u8], out: &mut Vec<u8>) -> Result<(), AllocError>
+    requires { length line.now ≤ 1024 }
+{
+    match parse_ranked(alloc, line) {
+        Ok(terms) => show_terms(&terms, out),
+        Err(error) => show_refusal(alloc, &error, out),
+    }
+}
+
+/// Terms with a blank between each two.
+fn show_terms(terms: &Terms, out: &mut Vec<u8>) -> Result<(), AllocError> {
+    let mut is_first = true;
+    for term in terms.as_slice() {
+        if !is_first {
+            out.push(b' ')?;
+        }
+        is_first = false;
+        out.extend_from_slice(term.as_bytes())?;
+    }
+    Ok(())
 }
 
 fn show_refusal(alloc: Global, error: &QueryErr, out: &mut Vec<u8>) -> Result<(), AllocError> {
@@ -55,16 +79,8 @@ fn show_refusal(alloc: Global, error: &QueryErr, out: &mut Vec<u8>) -> Result<()
 fn show(query: &Query, out: &mut Vec<u8>) -> Result<(), AllocError> {
     match query {
         Query::Term(term) => out.extend_from_slice(term.as_bytes()),
-        Query::And(left, right) => {
-            out.extend_from_slice(b"(& ")?;
-            show(left, out)?;
-            out.push(b' ')?;
-            show(right, out)?;
-            out.push(b')')?;
-            Ok(())
-        }
-        Query::Or(left, right) => {
-            out.extend_from_slice(b"(| ")?;
+        Query::And(left, right) | Query::Or(left, right) => {
+            out.extend_from_slice(sign_of(query))?;
             show(left, out)?;
             out.push(b' ')?;
             show(right, out)?;
@@ -72,10 +88,19 @@ fn show(query: &Query, out: &mut Vec<u8>) -> Result<(), AllocError> {
             Ok(())
         }
         Query::Not(inner) => {
-            out.extend_from_slice(b"(! ")?;
+            out.extend_from_slice(sign_of(query))?;
             show(inner, out)?;
             out.push(b')')?;
             Ok(())
         }
+    }
+}
+
+fn sign_of(query: &Query) -> &'static [u8] {
+    match query {
+        Query::Term(_) => b"",
+        Query::And(_, _) => b"(& ",
+        Query::Or(_, _) => b"(| ",
+        Query::Not(_) => b"(! ",
     }
 }
