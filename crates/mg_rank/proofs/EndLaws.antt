@@ -32,7 +32,7 @@ pub sums_next : (collection : List ℕ) (ts : List (List ℕ)) (k : ℕ) (sums :
     SumsFor collection (take k ts ++ get_or ts k [] ∷ []) sums → SumsFor collection (take (k + 1) ts) sums
 sums_next collection ts k sums lt s = subst (λ us. SumsFor collection us sums) (sym (take_more ts k [] lt)) s
 
-any_default : (infos : List TermInfo) (k : ℕ) (d e : TermInfo) → k < length infos → slice_index_or infos k d ≡ slice_index_or infos k e
+pub any_default : (infos : List TermInfo) (k : ℕ) (d e : TermInfo) → k < length infos → slice_index_or infos k d ≡ slice_index_or infos k e
 any_default [] k d e lt = absurd (omega (arith, lt))
 any_default (x ∷ infos) zero d e lt = refl
 any_default (x ∷ infos) (suc k) d e lt = any_default infos k d e (omega (arith, lt))

@@ -8,4 +8,5 @@ mod HitLaws
 mod KeptLaws
 mod RowLaws
 mod EndLaws
+mod AddedLaws
 mod SizeLaws

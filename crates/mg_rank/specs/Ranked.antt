@@ -11,7 +11,6 @@ use Rattle.mg_dev.specs.declared.part.Part.TheVariants as part
 use Rattle.mg_dev.specs.declared.part_err.PartErr.{PartErr}
 use Rattle.mg_dev.specs.declared.part_err.PartErr.TheVariants.{Device, Memory, Bad}
 use Rattle.mg_bits.specs.Pages.{Paging}
-use Rattle.mg_defs.specs.declared.Posting.{Posting}
 use Rattle.mg_defs.specs.Numbers.{four}
 use Rattle.mg_defs.specs.Split.{documents}
 use Rattle.mg_defs.specs.Terms.{document}
@@ -20,7 +19,6 @@ use Rattle.mg_layout.specs.Infos.{IsInfoOf}
 use Rattle.mg_layout.specs.declared.term_info.TermInfo.{TermInfo}
 use Rattle.mg_defs.specs.Stands.{weights_part}
 use Rattle.std.specs.Map.{lookup}
-use Rattle.mg_defs.specs.Lists.{postings}
 use Rattle.mg_post.specs.Cursor.{Cursoring}
 use Rattle.mg_post.specs.TermLists.{ListsStand, PostRises}
 pub use Rattle.mg_post.specs.WholeLists.{AnswersBehind, ForList, ListFor}

@@ -6,6 +6,7 @@ ghost use Rattle.mg_defs.specs.PageBounds.{list_pages};
 ghost use Rattle.mg_post.specs.TermLists.{ReadsLists};
 ghost use Rattle.mg_rank.specs.Sums.{AreApart, AreWithin, sum_of, with_more};
 ghost use Rattle.mg_rank.specs.Ranked.{PostWithin, ForTerm, AddsTerm};
+ghost use Rattle.mg_rank.specs.Added.{AddsWhole};
 
 use crate::sums::Sums;
 use mg_defs::Posting;
@@ -18,6 +19,7 @@ use std::alloc::{AllocError, Global};
 /// The weight of a term by how many documents have it.
 fn weight_of_list(docs: u32, all: u32) -> Result<u32, PartErr>
     ensures is { 1 ≤ docs → docs ≤ all → result ≡ Ok (weight_of_term docs all) }
+    ensures told { IfOk result (λ weight. weight ≡ weight_of_term docs all) }
     ensures high { IfOk result (λ weight. weight < 2 ^ 14) }
     ensures calm { result ≢ Err PartErr.Device }
 {
@@ -65,7 +67,8 @@ fn add_posting(sums: &mut Sums, weight: u32, posting: Posting) -> Result<(), All
     sums.add(posting.doc, more)
 }
 
-/// Goes over the list of a term, and adds to the sum of each of its documents.
+/// Goes over the list of a term, and adds to the sum of each of its documents. Whatever the parts have,
+/// it is the whole list: one that ends before its last posting is no answer.
 pub(crate) fn add_list<S: Store>(
     alloc: Global,
     store: &mut S,
@@ -79,6 +82,7 @@ pub(crate) fn add_list<S: Store>(
         sum_of d sums.new ≤ n + 2 ^ 29 }
     ensures within { AreWithin all sums.old → AreWithin all sums.new }
     ensures apart { AreApart sums.old → AreApart sums.new }
+    ensures whole { OnOk result (AddsWhole all info.now sums.old sums.new) }
     ensures answer { AddsTerm base.now (S.files store.old) info.now all sums.old sums.new result }
     ensures pages { ForTerm base.now (S.files store.old) info.now all
         (λ collection t. PostWithin S.reads store.old store.new (list_pages collection t)) }
@@ -101,7 +105,7 @@ pub(crate) fn add_list<S: Store>(
     };
     cursor_pages_are_within();
     let mut last = 0;
-    while last < all {
+    while last < u32::MAX {
         let posting = match cursor.next_behind(store, last) {
             Ok(Some(posting)) => posting,
             Ok(None) => return Ok(()),
@@ -113,5 +117,12 @@ pub(crate) fn add_list<S: Store>(
         }
         last = posting.doc;
     }
-    Ok(())
+    // No set has so many documents.
+    Err(PartErr::Bad(Bad {
+        part: Part::Post,
+        at: 0,
+        low: 0,
+        high: 4294967294,
+        found: u64::from(last),
+    }))
 }

@@ -9,6 +9,7 @@ ghost use Rattle.mg_defs.specs.Weights.{Hit};
 ghost use Rattle.mg_defs.specs.PageBounds.{ranked_bound};
 ghost use Rattle.mg_post.specs.TermLists.{ReadsLists};
 ghost use Rattle.mg_rank.specs.Ranked.{AnswersOr, AnswersTop, IsNumbered, ReadsRanked, SumsFor, PostWithin, ForTerms, ForRanked};
+ghost use Rattle.mg_rank.specs.Added.{AddedTo, CountsWhole};
 ghost use Rattle.mg_rank.specs.Sums.{AreApart, AreWithin, sum_of};
 
 use crate::best::Kept;
@@ -110,6 +111,7 @@ fn sum_lists<S: Store>(
     ensures small { IfOk result (λ sums. (d : ℕ) → sum_of d sums < 2 ^ 56) }
     ensures within { IfOk result (λ sums. AreWithin all sums) }
     ensures apart { IfOk result (λ sums. AreApart sums) }
+    ensures whole { IfOk result (AddedTo all terms.now (length terms.now)) }
     ensures pages { ForTerms base.now (S.files store.old) terms.now all
         (λ collection ts. PostWithin S.reads store.old store.new (ranked_bound collection ts)) }
     ensures reads { ReadsLists (S.reads store.old) (S.reads store.new) }
@@ -129,6 +131,7 @@ fn sum_lists<S: Store>(
 /// How many documents have sums.
 fn count(sums: &Sums) -> Result<u32, PartErr>
     ensures is { length sums.now < 2 ^ 32 → result ≡ Ok (length sums.now) }
+    ensures told { IfOk result (λ count. count ≡ length sums.now) }
     ensures calm { result ≢ Err PartErr.Device }
 {
     let count = sums.len();
@@ -157,6 +160,7 @@ fn rank_sized<S: Store>(
     ensures answer { ForRanked base.now (S.files store.old) terms.now all
         (λ collection ts. AnswersTop result collection ts most) }
     ensures range { IfOk result (λ r. All (IsNumbered all) r.rows) }
+    ensures whole { IfOk result (CountsWhole all terms.now) }
     ensures pages { ForTerms base.now (S.files store.old) terms.now all
         (λ collection ts. PostWithin S.reads store.old store.new (ranked_bound collection ts)) }
     ensures reads { ReadsRanked (S.reads store.old) (S.reads store.new) }
@@ -187,7 +191,8 @@ fn rank_sized<S: Store>(
 /// The terms are distinct and the lexicon has each; `all` is the number of documents. Each term's list
 /// is read once, and the weights of the documents that were met; where no row is wanted, no weight is
 /// read. Over any parts every call returns, and no sum passes its type: 64 terms add less than 2^35 to
-/// a document.
+/// a document. Whatever the parts have, an answer counts whole lists: each has as many postings as its
+/// `TermInfo` tells, of rising documents.
 ///
 /// # Errors
 ///
@@ -208,6 +213,7 @@ pub fn rank<S: Store>(
         OnOk result (length (bytes_at (S.files store.old) (full_name base.now part.Weights))
         ≡ 4 * all) }
     ensures range { IfOk result (λ r. All (IsNumbered all) r.rows) }
+    ensures whole { IfOk result (CountsWhole all terms.now) }
     ensures pages { ForTerms base.now (S.files store.old) terms.now all
         (λ collection ts. PostWithin S.reads store.old store.new (ranked_bound collection ts)) }
     ensures reads { ReadsRanked (S.reads store.old) (S.reads store.new) }

@@ -5,6 +5,8 @@ use Rattle.mg_defs.proofs.ListLaws.{list_rises}
 use Rattle.mg_defs.specs.PageBounds.{numbers_in}
 use Rattle.mg_post.specs.TermLists.{ListsStand}
 use Rattle.mg_rank.specs.Sums.{AreApart, AreWithin, sum_of}
+use Rattle.mg_post.specs.Cursor.{IsFrom}
+use Rattle.mg_rank.proofs.AddedLaws.{adding_end, adding_next, adding_start}
 use Rattle.mg_rank.proofs.Adding.{apart_more, within_more}
 use Rattle.mg_rank.proofs.SumLaws.{Bounded, Walking, bounded_start, bounded_next, head_sound, walk_start, walk_next, walk_end}
 use Rattle.mg_post.proofs.CallerLemmas.{cursor_later, none_at, pages_in_list}
@@ -24,6 +26,7 @@ loop-last-init g c = record {
   reads = record { later = λ p. omega arith; others = λ p a b. refl };
   faults = omega arith;
   bounded = λ n small. subst (Bounded n 0) (sym c.make_room.ensures) (bounded_start n c.args.sums.now small);
+  whole = adding_start c.args.all c.args.info.now c.args.sums.now _ _ c.make_room.ensures c.in-Ok-start.ensures.whole c.in-Ok-start.ensures.before;
   within = λ h. subst (AreWithin c.args.all) (sym c.make_room.ensures) h;
   apart = λ h. subst AreApart (sym c.make_room.ensures) h;
   walk = λ collection t done stand i all_is s. subst (Walking collection done t 0) (sym c.make_room.ensures) (walk_start collection done t c.args.sums.now s);
@@ -33,6 +36,12 @@ loop-last-init g c = record {
 
 pub returns-in-Ok-None-clause-small : goal.returns-in-Ok-None-clause-small
 returns-in-Ok-None-clause-small g c = λ n small d. (c.loop-last.invariant.bounded n small).each d
+
+pub returns-in-Ok-None-clause-whole : goal.returns-in-Ok-None-clause-whole
+returns-in-Ok-None-clause-whole g c =
+    let w = c.loop-last.invariant.whole in
+    let goes = (rw c.in-Ok-None.field-0-is at c.in-Ok-None.ensures.next) w.next in
+    adding_end c.args.all c.args.info.now c.loop-last.last c.args.sums.now c.loop-last.sums _ w goes.0
 
 pub returns-in-Ok-None-clause-answer : goal.returns-in-Ok-None-clause-answer
 returns-in-Ok-None-clause-answer g c = λ collection t done stand i all_is s.
@@ -112,6 +121,12 @@ loop-last-preserved g c =
       faults = omega (arith, c.loop-last.invariant.faults, c.next_behind.ensures.cause.later);
       bounded = λ n small. rw c.in-Ok-add_posting.ensures.added
           (bounded_next n c.loop-last.last c.in-Ok-Some.posting.doc _ c.loop-last.sums (c.loop-last.invariant.bounded n small) later c.add_posting.ensures.few);
+      whole =
+          let w = c.loop-last.invariant.whole in
+          let goes = (rw c.in-Ok-Some.field-0-is at c.in-Ok-Some.ensures.next) w.next in
+          let posting : IsFrom (c.loop-last.last + 1) c.args.all c.in-Ok-Some.posting = subst (λ n. IsFrom (c.loop-last.last + 1) n c.in-Ok-Some.posting) c.loop-last.invariant.all from in
+          adding_next c.args.all c.args.info.now c.loop-last.last c.in-Ok.weight c.args.sums.now c.loop-last.sums _ _ _ c.in-Ok-Some.posting w goes posting c.in-Ok.ensures.told
+          c.in-Ok-add_posting.ensures.added;
       within = λ h. rw c.in-Ok-add_posting.ensures.added (within_more c.args.all c.in-Ok-Some.posting.doc _ c.loop-last.sums (omega (arith, later)) within (c.loop-last.invariant.within h));
       apart = λ h. rw c.in-Ok-add_posting.ensures.added (apart_more c.in-Ok-Some.posting.doc _ c.loop-last.sums (c.loop-last.invariant.apart h));
       walk = λ collection t done stand i all_is s.
@@ -141,8 +156,7 @@ returns-clause-small g c = λ n small d. (c.loop-last.invariant.bounded n small)
 
 pub returns-clause-answer : goal.returns-clause-answer
 returns-clause-answer g c = λ collection t done stand i all_is s.
-    walk_end collection done t c.loop-last.last c.loop-last.sums (c.loop-last.invariant.walk collection t done stand i all_is s)
-    (λ d low le. absurd (omega (arith, c.loop-last-test.false, all_is, low, le)))
+    absurd (omega (arith, c.loop-last-test.false, c.loop-last.invariant.most, all_is, stand.few))
 
 pub returns-clause-pages : goal.returns-clause-pages
 returns-clause-pages g c = λ collection t stand i all_is.

@@ -6,6 +6,7 @@ use Rattle.mg_post.specs.TermLists.{ListsStand, ReadsLists}
 use Rattle.mg_layout.specs.Infos.{IsInfoOf}
 use Rattle.mg_rank.specs.Ranked.{ListFor, SumsFor}
 use Rattle.mg_rank.specs.Sums.{AreApart, AreWithin, sum_of}
+use Rattle.mg_rank.proofs.AddedLaws.{Adding}
 use Rattle.mg_rank.proofs.SumLaws.{Bounded, Walking}
 use Rattle.mg_rank.proofs.list.add_list.Given as goal
 
@@ -18,6 +19,7 @@ invariant-loop-last g l = record {
   reads : ReadsLists (g.S.Store.reads l.fn.store) (g.S.Store.reads l.store);
   faults : g.S.Store.faults l.fn.store ≤ g.S.Store.faults l.store;
   bounded : (n : ℕ) → ((d : ℕ) → sum_of d l.fn.sums ≤ n) → Bounded n l.last l.sums;
+  whole : Adding l.all l.info l.last l.fn.sums l.sums l.cursor;
   within : AreWithin l.all l.fn.sums → AreWithin l.all l.sums;
   apart : AreApart l.fn.sums → AreApart l.sums;
   walk : (collection t : List ℕ) (done : List (List ℕ)) → ListsStand l.base (g.S.Store.files l.fn.store) collection → IsInfoOf collection t l.info →

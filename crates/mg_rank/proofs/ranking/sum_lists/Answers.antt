@@ -1,5 +1,6 @@
 use Rattle.std.proofs.Common.{arith, ◌+◌, ◌*◌, ◌^◌, [], take, get_or, sym, ◌∙◌, subst}
 use Rattle.mg_post.specs.TermLists.{ListsStand}
+use Rattle.mg_rank.proofs.AddedLaws.{added_next}
 use Rattle.mg_rank.proofs.EndLaws.{info_at, lists_on, post_end, post_next, sums_next}
 use Rattle.mg_rank.proofs.WalkLaws.{or_or}
 use Rattle.mg_rank.proofs.ranking.sum_lists.Goals as goal
@@ -27,6 +28,7 @@ loop-info-preserved g c = record {
   small = λ d. omega (arith, c.add_list.ensures.small (c.loop-info.info-index * 2 ^ 29) c.loop-info.invariant.small d);
   within = c.add_list.ensures.within c.loop-info.invariant.within;
   apart = c.add_list.ensures.apart c.loop-info.invariant.apart;
+  added = added_next c.args.all c.args.terms.now c.loop-info.info-index _ _ _ (omega arith) c.loop-info.invariant.added c.in-Ok.ensures.whole;
   sums = λ collection ts stand told all_is.
       let stand2 = subst (λ fs. ListsStand c.args.base.now fs collection) (sym c.loop-info.invariant.files) stand in
       let i = info_at collection ts c.args.terms.now c.loop-info.info-index _ told (omega arith) in

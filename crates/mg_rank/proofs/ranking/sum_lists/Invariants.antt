@@ -4,6 +4,7 @@ use Rattle.mg_defs.specs.Split.{documents}
 use Rattle.mg_defs.specs.PageBounds.{list_pages}
 use Rattle.mg_post.specs.TermLists.{ListsStand, ReadsLists}
 use Rattle.mg_rank.specs.Ranked.{AreTold, SumsFor}
+use Rattle.mg_rank.specs.Added.{AddedTo}
 use Rattle.mg_rank.specs.Sums.{AreApart, AreWithin, sum_of}
 use Rattle.mg_rank.proofs.ranking.sum_lists.Given as goal
 
@@ -15,6 +16,7 @@ invariant-loop-info g l = record {
   small : (d : ℕ) → sum_of d l.sums ≤ l.info-index * 2 ^ 29;
   within : AreWithin l.all l.sums;
   apart : AreApart l.sums;
+  added : AddedTo l.all l.terms l.info-index l.sums;
   sums : (collection : List ℕ) (ts : List (List ℕ)) → ListsStand l.base (g.S.Store.files l.fn.store) collection → AreTold collection ts l.terms →
       l.all ≡ length (documents collection) → SumsFor collection (take l.info-index ts) l.sums;
   post : (collection : List ℕ) (ts : List (List ℕ)) → ListsStand l.base (g.S.Store.files l.fn.store) collection → AreTold collection ts l.terms →
