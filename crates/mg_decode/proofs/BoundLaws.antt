@@ -1,5 +1,5 @@
 -- No more is written than the head tells.
-use Rattle.std.proofs.Common.{arith, ◌≡◌, ◌+◌, ◌≤◌, ℕ, List, [], length, Option, refl, sym, ◌∙◌, ap, subst}
+use Rattle.std.proofs.Common.{arith, ◌≡◌, ℕ, List, [], Option, refl, sym, ◌∙◌, ap}
 use Rattle.mg_dev.specs.Files.{Files, bytes_at}
 use Rattle.mg_dev.specs.Moments.{SinkAt}
 use Rattle.mg_dev.specs.Names.{full_name}

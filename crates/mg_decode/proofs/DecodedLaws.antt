@@ -11,7 +11,7 @@ use Rattle.mg_dev.specs.declared.fault.Fault.TheVariants.{StoreFault, NotBuilt, 
 use Rattle.mg_dev.specs.declared.status.Status.{Status}
 use Rattle.mg_dev.specs.declared.status.Status.TheVariants.{Done, Stopped}
 use Rattle.mg_layout.specs.Stands.{Stands}
-use Rattle.mg_decode.specs.Outcomes.{DecodeStops}
+use Rattle.mg_decode.specs.Outcomes.{DecodeStops, LacksEarly}
 use Rattle.mg_dev.specs.Runs.{IfStopped, IsDone, OutputFailed, Run, Stops, StoreFailed, status_of}
 use Rattle.mg_decode.specs.Decoded.{Decoded, WithinHead}
 use Rattle.mg_dev.proofs.CallerLemmas.{err_by, only_lacks, put_grew, stopped_by, unless_by}
@@ -28,6 +28,7 @@ module _ (base : List ℕ) (run : Run) (r : Result (Unit {0}) Fault) (is : run.s
     (content : (collection : List ℕ) → Stands run.store.files base collection → AfterPut run.out.written run.out_now.written collection r)
     (silent : r ≡ Err NotBuilt → run.out_now.written ≡ run.out.written)
     (bounded : IsSome run.store.files → WithinHead run.store.files base run.out.written run.out_now.written)
+    (early : r ≡ Err Memory → LacksEarly run.store.reads run.store_now.reads run.out run.out_now)
     (cause : IfErr r (DecodeStops (StoreFailed run) (OutputFailed run) run.store.files base))
     (not_built : IsSome run.store.files → bytes_at run.store.files (full_name base part.Head) ≡ [] → (r ≡ Err NotBuilt) ⊎ (r ≡ Err StoreFault) ⊎ (r ≡ Err Memory))
     (complete : (collection : List ℕ) → Stands run.store.files base collection → ¬ StoreFailed run → ¬ OutputFailed run → IsDone r)
@@ -38,6 +39,7 @@ module _ (base : List ℕ) (run : Run) (r : Result (Unit {0}) Fault) (is : run.s
     prefix = λ c stands. put_grew r _ _ c (content c stands);
     silent = λ end. silent (err_by r _ (sym is ∙ end));
     bounded = bounded;
+    early = λ end. early (err_by r _ (sym is ∙ end));
     cause = subst (λ (s : Status). IfStopped s (DecodeStops (StoreFailed run) (OutputFailed run) run.store.files base)) (sym is) (stopped_by _ r cause);
     not_built = λ told none. unless_by run r _ is (not_built told none);
     complete = λ c stands no_store no_output. done_or run r is (complete c stands no_store no_output);

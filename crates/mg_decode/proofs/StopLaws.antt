@@ -1,10 +1,11 @@
 -- What a decoding answers, by what the calls that it makes answer.
-use Rattle.std.proofs.Common.{arith, ◌+◌, ◌-◌, ◌^◌, min, max, ◌≡◌, ◌≤◌, ◌==◌, ◌⊎◌, inl, inr, ℕ, false, cond, List, [], Option, Some, None, Ok, Err, IsSome, sym, ◌∙◌, ap, subst}
+use Rattle.std.proofs.Common.{arith, ◌+◌, ◌-◌, ◌^◌, min, max, ◌≡◌, ◌≤◌, ◌==◌, ◌⊎◌, inl, inr, ℕ, false, cond, List, [], Option, Some, None, Ok, Err, IsSome, refl, sym, ◌∙◌, ap, subst}
 use Rattle.std.proofs.lemmas.Bool.Decides.{nat_tests}
 use Rattle.std.specs.declared.result.Result.{Result}
 use Rattle.mg_dev.specs.Causes.{Rose}
 use Rattle.mg_dev.specs.Faults.{fault_of_part, fault_of_show}
 use Rattle.mg_dev.specs.Files.{Files, OneRead, Reads, SameReads, bytes_at, with_read}
+use Rattle.mg_dev.specs.Moments.{SinkAt}
 use Rattle.mg_dev.specs.Names.{full_name, number}
 use Rattle.mg_dev.specs.PartCauses.{HasPartCause}
 use Rattle.mg_dev.specs.declared.fault.Fault.{Fault}
@@ -26,7 +27,7 @@ use Rattle.mg_layout.proofs.CallerLemmas.{head_there, loaded_set, own_head}
 use Rattle.mg_text.specs.Decoding.{IsShowCaused}
 use Rattle.mg_text.specs.Reading.{ShowIsNotBad}
 use Rattle.mg_dev.specs.Runs.{IsDone}
-use Rattle.mg_decode.specs.Outcomes.{DecodeStops, ShowStops}
+use Rattle.mg_decode.specs.Outcomes.{DecodeStops, LacksEarly, ShowStops, TextUnread}
 
 -- ---- heads
 
@@ -54,21 +55,47 @@ load_bad Device h = tt
 load_bad Memory h = tt
 load_bad (Bad bad) h = h
 
-pub show_stops : (r : Result (Unit {0}) ShowErr) (before now : Option (List ℕ)) (s0 s1 t f g l m : ℕ) → s0 ≤ s1 → IsShowCaused r s1 t f g l m → ShowStops r before now s0 t f g l m
-show_stops (Ok done) before now s0 s1 t f g l m le cause = tt
-show_stops (Err (show.Part Device)) before now s0 s1 t f g l m le cause = omega (arith, le, cause)
-show_stops (Err (show.Part Memory)) before now s0 s1 t f g l m le cause = absurd cause
-show_stops (Err (show.Part (Bad bad))) before now s0 s1 t f g l m le cause = tt
-show_stops (Err show.Write) before now s0 s1 t f g l m le cause = cause
-show_stops (Err show.Memory) before now s0 s1 t f g l m le cause = cause
+-- a reader that was not loaded
+pub load_stops : {T : Type 0} (refusal : PartErr) (r r_now : Reads) (s t : ℕ) (out : SinkAt) → TextUnread r r_now → HasPartCause {T = T} s t (Err refusal) →
+    ShowStops (Err (show.Part refusal)) r r_now s t out out
+load_stops {T} Device r r_now s t out unread cause = cause.device
+load_stops {T} Memory r r_now s t out unread cause = (refl, unread)
+load_stops {T} (Bad bad) r r_now s t out unread cause = tt
 
-pub decode_stops : (refusal : ShowErr) (files : Option Files) (base : List ℕ) (before now : Option (List ℕ)) (s0 s1 t f g l m : ℕ) → s0 ≤ s1 → ShowStops (Err refusal) before now s1 t f g l m →
-    ((collection : List ℕ) → Stands files base collection → ShowIsNotBad (Err refusal)) → DecodeStops (Rose s0 t) (Rose f g) files base (fault_of_show refusal)
-decode_stops (show.Part Device) files base before now s0 s1 t f g l m le stops bad = omega (arith, le, stops)
-decode_stops (show.Part Memory) files base before now s0 s1 t f g l m le stops bad = tt
-decode_stops (show.Part (Bad b)) files base before now s0 s1 t f g l m le stops bad = bad
-decode_stops show.Write files base before now s0 s1 t f g l m le stops bad = stops
-decode_stops show.Memory files base before now s0 s1 t f g l m le stops bad = tt
+pub show_stops : (r : Result (Unit {0}) ShowErr) (reads reads_now : Reads) (s0 s1 t : ℕ) (out now : SinkAt) → s0 ≤ s1 →
+    IsShowCaused r s1 t out.faults now.faults out.lacks now.lacks → ShowStops r reads reads_now s0 t out now
+show_stops (Ok done) reads reads_now s0 s1 t out now le cause = tt
+show_stops (Err (show.Part Device)) reads reads_now s0 s1 t out now le cause = omega (arith, le, cause)
+show_stops (Err (show.Part Memory)) reads reads_now s0 s1 t out now le cause = absurd cause
+show_stops (Err (show.Part (Bad bad))) reads reads_now s0 s1 t out now le cause = tt
+show_stops (Err show.Write) reads reads_now s0 s1 t out now le cause = cause
+show_stops (Err show.Memory) reads reads_now s0 s1 t out now le cause = cause
+
+pub decode_stops : (refusal : ShowErr) (files : Option Files) (base : List ℕ) (r r_now : Reads) (s0 s1 t : ℕ) (out now : SinkAt) → s0 ≤ s1 → ShowStops (Err refusal) r r_now s1 t out now →
+    ((collection : List ℕ) → Stands files base collection → ShowIsNotBad (Err refusal)) → DecodeStops (Rose s0 t) (Rose out.faults now.faults) files base (fault_of_show refusal)
+decode_stops (show.Part Device) files base r r_now s0 s1 t out now le stops bad = omega (arith, le, stops)
+decode_stops (show.Part Memory) files base r r_now s0 s1 t out now le stops bad = tt
+decode_stops (show.Part (Bad b)) files base r r_now s0 s1 t out now le stops bad = bad
+decode_stops show.Write files base r r_now s0 s1 t out now le stops bad = stops
+decode_stops show.Memory files base r r_now s0 s1 t out now le stops bad = tt
+
+pub one_fault : (r : Result (Unit {0}) Fault) (a b : Fault) → r ≡ Err a → r ≡ Err b → a ≡ b
+one_fault r a b is other = cc
+
+-- want of memory came early
+pub lacks_early : (refusal : ShowErr) (r0 r1 r2 : Reads) (s t : ℕ) (out now : SinkAt) → TextUnread r0 r1 → ShowStops (Err refusal) r1 r2 s t out now →
+    fault_of_show refusal ≡ fault.Memory → LacksEarly r0 r2 out now
+lacks_early (show.Part Device) r0 r1 r2 s t out now unread stops is = cc
+lacks_early (show.Part Memory) r0 r1 r2 s t out now unread stops is = inl (stops.0, stops.1 ∙ unread)
+lacks_early (show.Part (Bad b)) r0 r1 r2 s t out now unread stops is = cc
+lacks_early show.Write r0 r1 r2 s t out now unread stops is = cc
+lacks_early show.Memory r0 r1 r2 s t out now unread stops is = inr stops
+
+-- the head was read, and no page of Text
+pub text_unread : (r s : Reads) → SameReads r s ⊎ OneRead r s part.Head → TextUnread r s
+unfolding with_read
+text_unread r s (inl same) = same part.Text
+text_unread r s (inr one) = one part.Text
 
 -- a set that stands is decoded where no device fails and memory does not lack
 pub done : (fault : Fault) (rose out : Type 0) (files : Option Files) (base collection : List ℕ) → Stands files base collection → (rose → ⊥) → (out → ⊥) →

@@ -13,7 +13,7 @@ use Rattle.mg_dev.specs.declared.fault.Fault.TheVariants.{NotBuilt, Memory}
 use Rattle.mg_dev.specs.declared.status.Status.TheVariants.{Done}
 use Rattle.mg_defs.specs.Heads.{Head, IsHead}
 use Rattle.mg_layout.specs.Stands.{HasNoHead, Stands}
-use Rattle.mg_decode.specs.Outcomes.{DecodeStops}
+use Rattle.mg_decode.specs.Outcomes.{DecodeStops, LacksEarly}
 use Rattle.mg_dev.specs.Runs.{IfStopped, Run, StoreFailed, OutputFailed, SaysNothing, KeepsFiles, Stops, StopsUnless, status_of}
 
 -- some bytes were written, so many at most
@@ -42,6 +42,8 @@ pub record Decoded (base : List ℕ) (run : Run) : Type 0 where
   -- the cause of every other status; 5 comes exactly where it has it, unless the store fails or memory is wanting
   pub cause : IfStopped run.status (DecodeStops (StoreFailed run) (OutputFailed run) run.store.files base)
   pub not_built : IsSome run.store.files → HasNoHead run.store.files base → StopsUnless run NotBuilt
+  -- want of memory of its own comes before a page of Text is read and anything is printed
+  pub early : Stops run Memory → LacksEarly run.store.reads run.store_now.reads run.out run.out_now
   -- where the files stand and no device fails, it is done, or memory is wanting
   pub complete : (collection : List ℕ) → Stands run.store.files base collection → ¬ StoreFailed run → ¬ OutputFailed run
       → (run.status ≡ Done) ⊎ Stops run Memory

@@ -1,11 +1,13 @@
 -- Why a call on a whole set stops.
-use Rattle.std.specs.Prelude.{◌≡◌, ℕ, List, Ok, Err}
+use Rattle.std.specs.Prelude.{◌≡◌, ◌⊎◌, ℕ, List, Ok, Err}
 use Rattle.std.specs.Option.{IsSome}
 use Rattle.std.specs.declared.option.Option.{Option}
 use Rattle.std.specs.declared.result.Result.{Result}
 use Rattle.mg_dev.specs.Causes.{Rose}
-use Rattle.mg_dev.specs.Files.{Files}
+use Rattle.mg_dev.specs.Files.{Files, Reads}
+use Rattle.mg_dev.specs.Moments.{NothingWritten, SinkAt, sink_at}
 use Rattle.mg_dev.specs.Runs.{IsDone}
+use Rattle.mg_dev.specs.declared.part.Part.TheVariants.{Text}
 use Rattle.mg_dev.specs.declared.fault.Fault.{Fault}
 use Rattle.mg_dev.specs.declared.fault.Fault.TheVariants.{Damaged, Memory, NotBuilt, StoreFault, WriteFault}
 use Rattle.mg_dev.specs.declared.part_err.PartErr.TheVariants as part
@@ -22,21 +24,30 @@ DecodeStops store_rose output_rose files base (Damaged bad) = StandsForNone file
 DecodeStops store_rose output_rose files base Memory = Unit {0}
 DecodeStops store_rose output_rose files base _ = ⊥
 
--- the cause of each refusal of showing a set: before memory of its own lacks nothing is written
-abbrev pub ShowStops : Result (Unit {0}) ShowErr → Option (List ℕ) → Option (List ℕ) → ℕ → ℕ → ℕ → ℕ → ℕ → ℕ → Type 0
-ShowStops (Ok done) before now s t f g l m = Unit {0}
-ShowStops (Err (show.Part part.Device)) before now s t f g l m = Rose s t
-ShowStops (Err (show.Part part.Memory)) before now s t f g l m = now ≡ before
-ShowStops (Err (show.Part (part.Bad bad))) before now s t f g l m = Unit {0}
-ShowStops (Err show.Write) before now s t f g l m = Rose f g
-ShowStops (Err show.Memory) before now s t f g l m = Rose l m
+-- no page of Text was read
+abbrev pub TextUnread : Reads → Reads → Type 0
+TextUnread reads reads_now = reads_now Text ≡ reads Text
+
+-- want of memory of its own comes before a page of Text is read and anything is written; else the sink lacked it
+abbrev pub LacksEarly : Reads → Reads → SinkAt → SinkAt → Type 0
+LacksEarly reads reads_now out out_now =
+    (NothingWritten out out_now × TextUnread reads reads_now) ⊎ Rose out.lacks out_now.lacks
+
+-- the cause of each refusal of showing a set
+abbrev pub ShowStops : Result (Unit {0}) ShowErr → Reads → Reads → ℕ → ℕ → SinkAt → SinkAt → Type 0
+ShowStops (Ok done) r r_now s t out out_now = Unit {0}
+ShowStops (Err (show.Part part.Device)) r r_now s t out out_now = Rose s t
+ShowStops (Err (show.Part part.Memory)) r r_now s t out out_now = NothingWritten out out_now × TextUnread r r_now
+ShowStops (Err (show.Part (part.Bad bad))) r r_now s t out out_now = Unit {0}
+ShowStops (Err show.Write) r r_now s t out out_now = Rose out.faults out_now.faults
+ShowStops (Err show.Memory) r r_now s t out out_now = Rose out.lacks out_now.lacks
 
 -- the same, by what the store and the sink tell before the call and after it
-abbrev pub ShowRefused : {X Y : Type 0} → (X → ℕ) → X → X → (Y → Option (List ℕ)) → (Y → ℕ) → (Y → ℕ) → Y → Y →
-    Result (Unit {0}) ShowErr → Type 0
-ShowRefused faults store store_now written failures lacks out out_now result =
-    ShowStops result (written out) (written out_now) (faults store) (faults store_now) (failures out) (failures out_now)
-    (lacks out) (lacks out_now)
+abbrev pub ShowRefused : {X Y : Type 0} → (X → Reads) → (X → ℕ) → X → X → (Y → Option (List ℕ)) → (Y → ℕ) → (Y → ℕ) →
+    Y → Y → Result (Unit {0}) ShowErr → Type 0
+ShowRefused reads faults store store_now written failures lacks out out_now result =
+    ShowStops result (reads store) (reads store_now) (faults store) (faults store_now)
+    (sink_at written failures lacks out) (sink_at written failures lacks out_now)
 
 -- it is done, or memory lacks, unless the store or the sink fails
 abbrev pub DoneUnlessFails : {X Y T : Type 0} → (X → ℕ) → X → X → (Y → ℕ) → Y → Y → Result T Fault → Type 0

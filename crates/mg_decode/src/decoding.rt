@@ -3,6 +3,7 @@ ghost use Rattle.std.specs.Prelude.{◌≡◌, ◌⊎◌, ◌≤◌, ◌^◌, �
 ghost use Rattle.mg_dev.specs.Causes.{Rose};
 ghost use Rattle.mg_dev.specs.Each.{ForEach};
 ghost use Rattle.mg_dev.specs.Files.{bytes_at};
+ghost use Rattle.mg_dev.specs.Moments.{sink_at};
 ghost use Rattle.mg_dev.specs.Names.{full_name, number};
 ghost use Rattle.mg_dev.specs.Runs.{RefusedFor};
 ghost use Rattle.mg_dev.specs.Streams.{AfterPut};
@@ -13,7 +14,7 @@ ghost use Rattle.mg_layout.specs.Stands.{ForSetBy, Stands};
 ghost use Rattle.mg_text.specs.Decoding.{Added, AddsOf};
 ghost use Rattle.mg_text.specs.Reading.{ShowIsNotBad};
 ghost use Rattle.mg_decode.specs.Decoded.{DecodesSet, WithinHead};
-ghost use Rattle.mg_decode.specs.Outcomes.{DecodeStops, DoneUnlessFails, ShowRefused};
+ghost use Rattle.mg_decode.specs.Outcomes.{DecodeStops, DoneUnlessFails, LacksEarly, ShowRefused};
 
 use crate::documents::show_documents;
 use mg_dev::{Fault, PartErr, ShowErr, Sink, Store};
@@ -39,9 +40,10 @@ pub fn decode<S: Store, O: Sink>(
     // Whatever the files hold, bytes are only added.
     ensures added { Added (O.written out.old) (O.written out.new) (O.faults out.old)
         (O.faults out.new) (O.lacks out.old) (O.lacks out.new) }
-    // At want of memory nothing was written, unless it was the sink that lacked it.
-    ensures memory { result ≡ Err fault.Memory → (O.written out.new ≡ O.written out.old)
-        ⊎ Rose (O.lacks out.old) (O.lacks out.new) }
+    // At want of memory nothing was written and no page of Text was read, unless it was the sink that
+    // lacked it.
+    ensures memory { result ≡ Err fault.Memory → LacksEarly (S.reads store.old) (S.reads store.new)
+        (sink_at O.written O.faults O.lacks out.old) (sink_at O.written O.faults O.lacks out.new) }
     ensures later { S.faults store.old ≤ S.faults store.new }
 {
     decode_files(alloc, store, base, out)
@@ -69,8 +71,8 @@ fn decode_files<S: Store, O: Sink>(
     ensures not_built { IsSome (S.files store.old) →
         bytes_at (S.files store.old) (full_name base.now part.Head) ≡ [] →
         RefusedFor result fault.NotBuilt }
-    ensures memory { result ≡ Err fault.Memory → (O.written out.new ≡ O.written out.old)
-        ⊎ Rose (O.lacks out.old) (O.lacks out.new) }
+    ensures memory { result ≡ Err fault.Memory → LacksEarly (S.reads store.old) (S.reads store.new)
+        (sink_at O.written O.faults O.lacks out.old) (sink_at O.written O.faults O.lacks out.new) }
     ensures complete { ForEach (Stands (S.files store.old) base.now)
         (λ _. DoneUnlessFails S.faults store.old store.new O.faults out.old out.new result) }
     // No file changes, and of the parts only the head, the models, the text and its places are read.
@@ -107,8 +109,8 @@ fn show_set<S: Store, O: Sink>(
     ensures never_bad { ForSetBy head.now (S.files store.old) base.now
         (λ _ _. ShowIsNotBad result) }
     ensures added { AddsOf O.written O.faults O.lacks out.old out.new head.now.collection 0 }
-    ensures cause { ShowRefused S.faults store.old store.new O.written O.faults O.lacks out.old
-        out.new result }
+    ensures cause { ShowRefused S.reads S.faults store.old store.new O.written O.faults O.lacks
+        out.old out.new result }
     ensures files { S.files store.new ≡ S.files store.old }
     ensures reads { (p : AnyPart) → 5 ≤ number p → S.reads store.new p ≡ S.reads store.old p }
     ensures later { S.faults store.old ≤ S.faults store.new }

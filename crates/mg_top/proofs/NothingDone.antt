@@ -138,6 +138,7 @@ module _ (run : Run) (stops : Stops run Memory) (store : run.store_now ≡ run.s
     done = λ c stands is. absurd (not_done is);
     prefix = λ c stands. prefix c;
     silent = λ is. silent;
+    early = λ is. inl (silent, same_reads part.Text);
     bounded = λ told. subst (WithinHead run.store.files n run.out.written) (sym silent) (nothing_within run.store.files n run.out.written);
     cause = caused (DecodeStops (StoreFailed run) (OutputFailed run) run.store.files n) tt;
     not_built = λ told none. inr (inr stops);

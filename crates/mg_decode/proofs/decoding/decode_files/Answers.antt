@@ -1,9 +1,9 @@
-use Rattle.std.proofs.Common.{◌∙◌}
+use Rattle.std.proofs.Common.{Err, inl, refl, sym, ◌∙◌}
 use Rattle.mg_dev.specs.Faults.{fault_of_part, fault_of_show}
 use Rattle.mg_dev.specs.StreamLaws.{grew_nothing}
 use Rattle.mg_text.proofs.CallerLemmas.{added_none, adds_some}
 use Rattle.mg_decode.proofs.BoundLaws.{head_within, nothing_within}
-use Rattle.mg_decode.proofs.StopLaws.{bad_head, decode_stops, done, no_head, read_same, some_head, stands_loaded}
+use Rattle.mg_decode.proofs.StopLaws.{bad_head, decode_stops, done, lacks_early, no_head, one_fault, read_same, some_head, stands_loaded, text_unread}
 use Rattle.mg_layout.proofs.CallerLemmas.{head_there, no_empty_head}
 use Rattle.mg_decode.proofs.decoding.decode_files.Goals as goal
 
@@ -24,6 +24,9 @@ returns-in-Err-clause-complete g c = λ collection stands calm well.
     rw c.from.ensures (done (fault_of_part c.in-Err.refusal) _ _ _ _ collection stands calm well
     (bad_head _ _ c.in-Err.refusal c.in-Err.ensures.back c.in-Err.ensures.within _ _ _ c.in-Err.ensures.cause))
 
+pub returns-in-Err-clause-memory : goal.returns-in-Err-clause-memory
+returns-in-Err-clause-memory g c = λ is. inl (refl, text_unread _ _ c.in-Err.ensures.reads)
+
 pub returns-in-Err-clause-reads : goal.returns-in-Err-clause-reads
 returns-in-Err-clause-reads g c = read_same _ _ c.in-Err.ensures.reads
 
@@ -41,6 +44,9 @@ returns-in-None-clause-cause g c = λ told. no_head _ c.in-Ok.loaded c.in-None.i
 
 pub returns-in-None-clause-complete : goal.returns-in-None-clause-complete
 returns-in-None-clause-complete g c = λ collection stands calm well. head_there _ _ collection stands (no_head _ c.in-Ok.loaded c.in-None.is (c.in-Ok.ensures.answer stands.told))
+
+pub returns-in-None-clause-memory : goal.returns-in-None-clause-memory
+returns-in-None-clause-memory g c = λ is. inl (refl, text_unread _ _ c.in-Ok.ensures.reads)
 
 pub returns-in-None-clause-reads : goal.returns-in-None-clause-reads
 returns-in-None-clause-reads g c = read_same _ _ c.in-Ok.ensures.reads
@@ -69,7 +75,7 @@ returns-in-Err-show_set-clause-content g c = λ collection stands.
     c.in-Err-show_set.ensures.content by.0 collection by.1
 
 pub returns-in-Err-show_set-clause-cause : goal.returns-in-Err-show_set-clause-cause
-returns-in-Err-show_set-clause-cause g c = rw c.from-in-Err-show_set.ensures (decode_stops c.in-Err-show_set.refusal _ _ _ _ _ _ _ _ _ _ _ c.in-Ok.ensures.cause.later c.in-Err-show_set.ensures.cause
+returns-in-Err-show_set-clause-cause g c = rw c.from-in-Err-show_set.ensures (decode_stops c.in-Err-show_set.refusal _ _ _ _ _ _ _ _ _ c.in-Ok.ensures.cause.later c.in-Err-show_set.ensures.cause
     (λ collection stands.
     let by = stands_loaded _ _ _ collection c.in-Ok.loaded c.in-Some.head c.in-Some.is c.in-Ok.ensures.files c.in-Ok.ensures.answer stands in
     c.in-Err-show_set.ensures.never_bad by.0 collection by.1))
@@ -81,13 +87,17 @@ returns-in-Err-show_set-clause-bounded g c = λ told.
 pub returns-in-Err-show_set-clause-added : goal.returns-in-Err-show_set-clause-added
 returns-in-Err-show_set-clause-added g c = adds_some c.in-Err-show_set.ensures.added
 
+pub returns-in-Err-show_set-clause-memory : goal.returns-in-Err-show_set-clause-memory
+returns-in-Err-show_set-clause-memory g c = λ is. lacks_early c.in-Err-show_set.refusal (g.S.Store.reads c.args.store.now) _ _ _ _ _ _ (text_unread _ _ c.in-Ok.ensures.reads) c.in-Err-show_set.ensures.cause
+    (sym c.from-in-Err-show_set.ensures ∙ one_fault (Err c.from-in-Err-show_set.result) _ _ refl is)
+
 pub returns-in-Err-show_set-clause-not_built : goal.returns-in-Err-show_set-clause-not_built
 returns-in-Err-show_set-clause-not_built g c = λ told empty. absurd (no_empty_head _ _ (some_head _ c.in-Ok.loaded c.in-Some.head c.in-Some.is (c.in-Ok.ensures.answer told)) empty)
 
 pub returns-in-Err-show_set-clause-complete : goal.returns-in-Err-show_set-clause-complete
 returns-in-Err-show_set-clause-complete g c = λ collection stands calm well.
     rw c.from-in-Err-show_set.ensures (done (fault_of_show c.in-Err-show_set.refusal) _ _ _ _ collection stands calm well
-    (decode_stops c.in-Err-show_set.refusal _ _ _ _ _ _ _ _ _ _ _ c.in-Ok.ensures.cause.later c.in-Err-show_set.ensures.cause
+    (decode_stops c.in-Err-show_set.refusal _ _ _ _ _ _ _ _ _ c.in-Ok.ensures.cause.later c.in-Err-show_set.ensures.cause
     (λ other is.
     let by = stands_loaded _ _ _ other c.in-Ok.loaded c.in-Some.head c.in-Some.is c.in-Ok.ensures.files c.in-Ok.ensures.answer is in
     c.in-Err-show_set.ensures.never_bad by.0 other by.1)))

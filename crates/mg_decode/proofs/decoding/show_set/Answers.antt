@@ -1,10 +1,11 @@
-use Rattle.std.proofs.Common.{arith, ◌≡◌, ◌∙◌, ap, length, sym}
+use Rattle.std.proofs.Common.{arith, ◌≡◌, ◌∙◌, ap, length, refl, sym}
 use Rattle.mg_dev.specs.StreamLaws.{grew_nothing}
+use Rattle.mg_dev.specs.declared.part.Part.TheVariants as part
 use Rattle.mg_defs.specs.Heads as defs
 use Rattle.mg_defs.specs.Split.{has_open_end}
 use Rattle.mg_text.specs.Decoding.{Gathering}
 use Rattle.mg_text.proofs.CallerLemmas.{adds_none, set_is_text}
-use Rattle.mg_decode.proofs.StopLaws.{load_bad, show_stops}
+use Rattle.mg_decode.proofs.StopLaws.{load_bad, load_stops, show_stops}
 use Rattle.mg_decode.proofs.decoding.show_set.Goals as goal
 
 pub returns-in-Err-clause-content : goal.returns-in-Err-clause-content
@@ -18,6 +19,9 @@ returns-in-Err-load-clause-content g c = λ code collection stands. grew_nothing
 
 pub returns-in-Err-load-clause-never_bad : goal.returns-in-Err-load-clause-never_bad
 returns-in-Err-load-clause-never_bad g c = λ code collection stands. load_bad c.in-Err-load.refusal (c.in-Err-load.ensures.never_bad code collection (set_is_text _ _ _ code collection stands))
+
+pub returns-in-Err-load-clause-cause : goal.returns-in-Err-load-clause-cause
+returns-in-Err-load-clause-cause g c = load_stops c.in-Err-load.refusal _ _ _ _ _ (c.in-Err-load.ensures.looked.others part.Text refl refl) c.in-Err-load.ensures.cause
 
 pub returns-in-Err-load-clause-added : goal.returns-in-Err-load-clause-added
 returns-in-Err-load-clause-added g c = adds_none (omega arith)
@@ -40,4 +44,4 @@ pub returns-clause-added : goal.returns-clause-added
 returns-clause-added g c = rw (ap (λ (b : Gathering). b.left) c.in-Ok.ensures) at c.show_documents.ensures.added
 
 pub returns-clause-cause : goal.returns-clause-cause
-returns-clause-cause g c = show_stops c.show_documents.result _ _ _ _ _ _ _ _ _ c.in-Ok-load.ensures.looked.faults c.show_documents.ensures.cause
+returns-clause-cause g c = show_stops c.show_documents.result _ _ _ _ _ _ _ c.in-Ok-load.ensures.looked.faults c.show_documents.ensures.cause

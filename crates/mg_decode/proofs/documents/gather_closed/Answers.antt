@@ -1,6 +1,5 @@
-use Rattle.std.proofs.Common.{arith, ◌++◌, ◌-◌, ◌≤◌, get_or, length, [], subst}
-use Rattle.mg_dev.specs.Streams.{GrewByPrefix}
-use Rattle.mg_defs.specs.Split.{close, documents}
+use Rattle.std.proofs.Common.{◌++◌, ◌-◌, get_or, [], subst}
+use Rattle.mg_defs.specs.Split.{documents}
 use Rattle.mg_text.specs.Decoding.{Gathers, Shown}
 use Rattle.mg_text.proofs.CallerLemmas.{adds_more}
 use Rattle.mg_decode.proofs.DocumentLaws.{byte_put, close_fits, doc_fits, doc_short, grew_close, with_close, without_close}
