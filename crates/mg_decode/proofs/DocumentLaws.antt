@@ -155,7 +155,8 @@ refused_next collection i number all most open_end closed w0 w1 w2 b0 count more
     subst (GrewByPrefix w0 w2) (next_whole collection first.bytes i all count more first.whole) (grew_first w0 w2 bytes (joined (drop (i + 1) (documents collection)) (has_open_end collection)) here)
 
 -- all documents were shown
-pub shown_whole : (collection : List ℕ) (i most : ℕ) (w0 w1 : Option (List ℕ)) (b : Gathering) → length (documents collection) ≤ i → ShownFirst i w0 w1 b collection most → Shown w0 w1 b collection most
+pub shown_whole : (collection : List ℕ) (i most : ℕ) (w0 w1 : Option (List ℕ)) (b : Gathering) → length (documents collection) ≤ i →
+    ShownFirst i w0 w1 b collection most → Shown w0 w1 b collection most
 shown_whole collection i most w0 w1 b all first =
     let none : drop i (documents collection) ≡ [] = dropped (documents collection) i all in
     subst (λ l. Shown w0 w1 b l most) (sym (append-nil first.bytes) ∙ ap (λ l. first.bytes ++ joined l (has_open_end collection)) (sym none) ∙ first.whole) first.shown

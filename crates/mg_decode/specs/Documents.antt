@@ -23,7 +23,8 @@ IfShown reader files written b holds =
     Shown before written b bytes most
     → holds collection before bytes most
 
--- behind these bytes a document of the collection is gathered, with the byte that closes it where it is closed; it is not bad, where all of it may come
+-- behind these bytes a document of the collection is gathered, with the byte that closes it where it is closed
+-- it is not bad, where all of it may come
 abbrev pub GathersClosed : ℕ → Bool → Option (List ℕ) → Gathering → Result (Unit {0}) ShowErr → List ℕ →
     Option (List ℕ) → List ℕ → ℕ → Type 0
 GathersClosed number closed written b result collection before bytes most =

@@ -232,7 +232,8 @@ pairs_stopped f0 f1 f2 d0 d1 d2 a p code ps i w0 w1 w2 b1 bytes {most} some next
     (subst (λ b. Stopped f0 f2 d0 d2 a (a + length b) w0 w2 (bytes ++ ((one ++ two) ++ text next.rest)))
     (append_assoc (coded_pairs code (take i ps)) (coded_pair code next.pair) (coded_pairs code next.rest) ∙ sym (bits_whole code ps i next)) wide)
 
-pub no_pairs : (f : Feeding) (d : Seen) (a : ℕ) (w0 w1 : Option (List ℕ)) (b : Gathering) (bytes : List ℕ) {most : ℕ} → Shown w0 w1 b bytes most → Decoded f f d d a (a + 0) a w0 w1 b (bytes ++ []) most
+pub no_pairs : (f : Feeding) (d : Seen) (a : ℕ) (w0 w1 : Option (List ℕ)) (b : Gathering) (bytes : List ℕ) {most : ℕ} → Shown w0 w1 b bytes most →
+    Decoded f f d d a (a + 0) a w0 w1 b (bytes ++ []) most
 no_pairs f d a w0 w1 b bytes {most} shown = record {
   at_end = omega arith;
   read = subst (λ n. Read f f d d a n) (omega arith) (read_none f d a);
@@ -266,8 +267,8 @@ doc_stopped f0 f1 f2 d0 d1 d2 a p code doc w0 w1 w2 b1 bytes {most} some at show
     (second_stopped f0 f1 f2 d0 d1 d2 a p (gamma (length (parse doc) + 1)) (coded_pairs code (parse doc)) w0 w1 w2 b1 [] bytes (text (parse doc)) some first pairs)
 
 -- its head was refused
-pub head_stopped : (f0 f1 : Feeding) (d0 d1 : Seen) (a : ℕ) (code : TextCode) (doc : List ℕ) (w0 w1 : Option (List ℕ)) (b : Gathering) (bytes : List ℕ) {most : ℕ} → 0 < f0.page → Shown w0 w1 b bytes most →
-    ReadsWithin f0 f1 d0 d1 a (a + length (gamma (length (parse doc) + 1))) → Stopped f0 f1 d0 d1 a (a + length (coded_doc code doc)) w0 w1 (bytes ++ doc)
+pub head_stopped : (f0 f1 : Feeding) (d0 d1 : Seen) (a : ℕ) (code : TextCode) (doc : List ℕ) (w0 w1 : Option (List ℕ)) (b : Gathering) (bytes : List ℕ) {most : ℕ} → 0 < f0.page →
+    Shown w0 w1 b bytes most → ReadsWithin f0 f1 d0 d1 a (a + length (gamma (length (parse doc) + 1))) → Stopped f0 f1 d0 d1 a (a + length (coded_doc code doc)) w0 w1 (bytes ++ doc)
 head_stopped f0 f1 d0 d1 a code doc w0 w1 b bytes {most} some shown pages =
     let first : Stopped f0 f1 d0 d1 a (a + length (gamma (length (parse doc) + 1))) w0 w1 bytes = record { pages = pages; grew = shown_prefix w0 w1 b bytes shown } in
     first_stopped f0 f1 d0 d1 a (gamma (length (parse doc) + 1)) (coded_pairs code (parse doc)) w0 w1 [] bytes doc some first

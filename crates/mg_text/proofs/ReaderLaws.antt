@@ -165,7 +165,8 @@ pub doc_told : (result : Result (Unit {0}) ShowErr) (r : TextReading) (files mid
     (f1 : Feeding) (d0 d1 : Seen) (before most : ℕ) (w0 w1 : Option (List ℕ)) →
     TextStands r files collection → 1 ≤ number → number ≤ r.documents → mid ≡ files → from ≡ place_after r.code collection (number - 1) → place ≡ 8 * from →
     feed ≡ r.text → r.text.part ≡ part.Text → d0.reads part.Text ≡ before → length (get_or (documents collection) (number - 1) []) ≤ most →
-    ((doc : List ℕ) → PairsIn r.code (parse doc) → length (parse doc) < 2 ^ 32 → length doc ≤ most → place + length (coded_doc r.code doc) ≤ 2 ^ 63 → Shows (told_at mid feed.name) place (coded_doc r.code doc) →
+    ((doc : List ℕ) → PairsIn r.code (parse doc) → length (parse doc) < 2 ^ 32 → length doc ≤ most →
+    place + length (coded_doc r.code doc) ≤ 2 ^ 63 → Shows (told_at mid feed.name) place (coded_doc r.code doc) →
     Ends result (WholeDoc (feeding_of 4096 feed) f1 d0 d1 place (place + length (coded_doc r.code doc)) w0 w1 doc)
     (Stopped (feeding_of 4096 feed) f1 d0 d1 place (place + length (coded_doc r.code doc)) w0 w1 doc)) →
     AnswersDoc result w0 w1 (get_or (documents collection) (number - 1) []) before (d1.reads part.Text) (pages (doc_range r.code collection number).from (doc_range r.code collection number).to)

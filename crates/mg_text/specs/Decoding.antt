@@ -90,7 +90,8 @@ AddsOf written faults lacks out out_now most most_now = AddedOf most most_now (s
 
 -- ---- steps
 
--- a range of bits was read and the reader stands at its end; the bytes that the bits code, so many at most, went to the sink or are held
+-- a range of bits was read and the reader stands at its end
+-- the bytes that the bits code, so many at most, went to the sink or are held
 pub record Decoded (f0 f1 : Feeding) (d0 d1 : Seen) (from to place : ℕ) (w0 w1 : Option (List ℕ)) (b : Gathering)
     (bytes : List ℕ) (most : ℕ) : Type 0 where
   pub at_end : place ≡ to
@@ -141,7 +142,8 @@ abbrev pub ReadsHeld : {Fed T : Type 0} → (Fed → Feeding) → (Option Files 
 ReadsHeld feeding fits r r_now bits value found = (d : Seen) → fits d.files →
     ReadsCode feeding (λ (seen : Seen). seen) r r_now d d bits value (Ok found)
 
--- where bits stand at a reader's place, bytes were shown or are held, and those of the bits may come too: then these are so too and the reader stands behind them, or it stopped within them
+-- where bits stand at a reader's place, bytes were shown or are held, and those of the bits may come too:
+-- then these are so too and the reader stands behind them, or it stopped within them
 abbrev pub Decodes : {Fed Dev : Type 0} → (Fed → Feeding) → (Dev → Seen) → Reading Fed → Reading Fed → Dev → Dev →
     Bits → Option (List ℕ) → Option (List ℕ) → Option (List ℕ) → Gathering → Gathering → List ℕ → List ℕ → ℕ →
     Result (Unit {0}) ShowErr → Type 0
@@ -174,8 +176,8 @@ ShowsPair feeding device written r r_now d d_now out out_now b b_now code result
     bytes (bytes ++ (p.word ++ p.other)) most result
 
 -- the same where the reader holds the bits: whatever device it agrees with and whatever sink there is, none is asked
-abbrev pub ShowsHeld : {Fed : Type 0} → (Fed → Feeding) → (Option Files → Type 0) → Reading Fed → Reading Fed → Gathering →
-    Gathering → TextCode → Type 0
+abbrev pub ShowsHeld : {Fed : Type 0} → (Fed → Feeding) → (Option Files → Type 0) → Reading Fed → Reading Fed →
+    Gathering → Gathering → TextCode → Type 0
 ShowsHeld feeding fits r r_now b b_now code = (d : Seen) (sink : Option (List ℕ)) → fits d.files →
     ShowsPair feeding (λ (seen : Seen). seen) (λ (told : Option (List ℕ)). told) r r_now d d sink sink b b_now
     code (Ok tt)
@@ -221,7 +223,8 @@ IsShowCaused (Err (show.Part (Bad bad))) s t f g l m = Unit {0}
 IsShowCaused (Err show.Write) s t f g l m = Rose f g
 IsShowCaused (Err show.Memory) s t f g l m = Rose l m
 
--- so many bytes that are put into a buffer which may take so many: more is bad, and the sink's failure and its want of memory each have a cause
+-- so many bytes are put into a buffer that may take so many: more is bad
+-- the sink's failure and its want of memory each have a cause
 abbrev pub IsPutCaused : Result (Unit {0}) ShowErr → ℕ → ℕ → ℕ → ℕ → ℕ → ℕ → Type 0
 IsPutCaused (Ok done) left size f g l m = Unit {0}
 IsPutCaused (Err (show.Part Device)) left size f g l m = ⊥

@@ -236,7 +236,8 @@ GathersWithin files reads written r store store_now out out_now b b_now number r
     AnswersGathered result before (written out_now) b_now (bytes ++ document collection number) most
     (reads store part.Text) (reads store_now part.Text) (document_pages r.code collection number)
 
--- where the parts stand and a document has at most so many bytes: it is written, or a prefix of it, and no more pages of the text are read than its bits lie on
+-- where the parts stand and a document has at most so many bytes: it is written, or a prefix of it
+-- no more pages of the text are read than its bits lie on
 abbrev pub ShowsWithin : {X Y : Type 0} → (X → Option Files) → (X → Reads) → (Y → Option (List ℕ)) → TextReading → X →
     X → Y → Y → ℕ → ℕ → Result (Unit {0}) ShowErr → Type 0
 ShowsWithin files reads written r store store_now out out_now number most result = WhereTextStands r (files store)

@@ -88,7 +88,8 @@ pub returns-in-Err-show_set-clause-added : goal.returns-in-Err-show_set-clause-a
 returns-in-Err-show_set-clause-added g c = adds_some c.in-Err-show_set.ensures.added
 
 pub returns-in-Err-show_set-clause-memory : goal.returns-in-Err-show_set-clause-memory
-returns-in-Err-show_set-clause-memory g c = λ is. lacks_early c.in-Err-show_set.refusal (g.S.Store.reads c.args.store.now) _ _ _ _ _ _ (text_unread _ _ c.in-Ok.ensures.reads) c.in-Err-show_set.ensures.cause
+returns-in-Err-show_set-clause-memory g c = λ is. lacks_early c.in-Err-show_set.refusal (g.S.Store.reads c.args.store.now) _ _ _ _ _ _ (text_unread _ _ c.in-Ok.ensures.reads)
+    c.in-Err-show_set.ensures.cause
     (sym c.from-in-Err-show_set.ensures ∙ one_fault (Err c.from-in-Err-show_set.result) _ _ refl is)
 
 pub returns-in-Err-show_set-clause-not_built : goal.returns-in-Err-show_set-clause-not_built

@@ -55,7 +55,8 @@ loop-index-preserved g c = record {
 pub returns-in-Ok-flush-clause-content : goal.returns-in-Ok-flush-clause-content
 returns-in-Ok-flush-clause-content g c = λ collection stands ends size.
     let count : c.args.documents ≡ length (documents collection) = sym c.requires.documents ∙ stands.documents in
-    c.in-Ok-flush.ensures.shown _ collection _ (shown_whole collection c.loop-index.index _ _ _ _ (omega (arith, count, c.loop-index-test.false)) (c.loop-index.invariant.told collection stands ends size))
+    c.in-Ok-flush.ensures.shown _ collection _
+    (shown_whole collection c.loop-index.index _ _ _ _ (omega (arith, count, c.loop-index-test.false)) (c.loop-index.invariant.told collection stands ends size))
 
 pub returns-in-Ok-flush-clause-added : goal.returns-in-Ok-flush-clause-added
 returns-in-Ok-flush-clause-added g c = adds_less (adds_more c.loop-index.invariant.added c.in-Ok-flush.ensures.added) (omega arith)
@@ -63,7 +64,8 @@ returns-in-Ok-flush-clause-added g c = adds_less (adds_more c.loop-index.invaria
 pub returns-in-Err-flush-clause-content : goal.returns-in-Err-flush-clause-content
 returns-in-Err-flush-clause-content g c = λ collection stands ends size.
     let count : c.args.documents ≡ length (documents collection) = sym c.requires.documents ∙ stands.documents in
-    c.in-Err-flush.ensures.shown _ collection _ (shown_whole collection c.loop-index.index _ _ _ _ (omega (arith, count, c.loop-index-test.false)) (c.loop-index.invariant.told collection stands ends size))
+    c.in-Err-flush.ensures.shown _ collection _
+    (shown_whole collection c.loop-index.index _ _ _ _ (omega (arith, count, c.loop-index-test.false)) (c.loop-index.invariant.told collection stands ends size))
 
 pub returns-in-Err-flush-clause-added : goal.returns-in-Err-flush-clause-added
 returns-in-Err-flush-clause-added g c = adds_less (adds_more c.loop-index.invariant.added c.in-Err-flush.ensures.added) (omega arith)

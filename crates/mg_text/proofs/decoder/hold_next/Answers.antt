@@ -22,6 +22,7 @@ returns-clause-told g c =
     let next = subst (λ f. Shows ((g.F.Feed.feeding f).source d.files) c.held_entry.new.r.place y) (sym c.in-Some.ensures.feed)
     (shows_right _ c.args.r.now.place c.held_entry.new.r.place x y first.1 shows) in
     let second = c.in-Some-held_entry.ensures.told p.other is.other d fits_next (omega (arith, small, length-append x y, first.1)) next in
-    held_decoded _ _ _ d c.args.r.now.place c.held_entry.new.r.place c.held_entry-2.new.r.place x y before sink c.args.buffer.now c.hold_pair.new.self bytes (short_piece there) (short_piece then) p.word p.other
+    held_decoded _ _ _ d c.args.r.now.place c.held_entry.new.r.place c.held_entry-2.new.r.place x y before sink c.args.buffer.now c.hold_pair.new.self
+    bytes (short_piece there) (short_piece then) p.word p.other
     (g.met.F.Feed.whole_pages c.args.r.now.feed).some first.1 first.2 second.1 second.2 first.0 second.0 kept shown in
     on_true c.hold_pair.result _ _ shows_held c.hold_pair.ensures.held

@@ -41,7 +41,8 @@ loop-i-preserved-then-show_held g c = record {
       let code = c.args.model.now in
       let first = c.loop-i.invariant.told before bytes most ps all count small shows shown fits in
       let next = next_pair code ps c.loop-i._i all (omega (arith, count, c.loop-i-test.true)) in
-      let second = c.if-show_held.ensures.told (g.F.Feed.device c.loop-i.dev) (g.O.Sink.written c.loop-i.out) c.loop-i.invariant.fits before (bytes ++ text (take c.loop-i._i ps)) most next.pair next.there
+      let second = c.if-show_held.ensures.told (g.F.Feed.device c.loop-i.dev) (g.O.Sink.written c.loop-i.out) c.loop-i.invariant.fits before
+      (bytes ++ text (take c.loop-i._i ps)) most next.pair next.there
       (pair_small c.args.r.now.place c.loop-i.r.place code ps c.loop-i._i next first.at_end small)
       (pair_shows _ _ _ _ c.args.r.now.place c.loop-i.r.place code ps c.loop-i._i next c.loop-i.invariant.calm first.at_end shows) first.shown (pair_fits code ps c.loop-i._i bytes most next fits) in
       pairs_more _ _ _ _ _ _ c.args.r.now.place c.loop-i.r.place c.show_held.new.r.place code ps c.loop-i._i before _ _ _ _ bytes (g.met.F.Feed.whole_pages c.args.r.now.feed).some next first second;

@@ -11,7 +11,8 @@ invariant-loop-i g l = record {
   calm : Calm (g.F.Feed.feeding l.fn.r.feed) (g.F.Feed.feeding l.r.feed) (g.F.Feed.device l.fn.dev) (g.F.Feed.device l.dev);
   added : AddsOf g.O.Sink.written g.O.Sink.faults g.O.Sink.lacks l.fn.out l.out (bytes_to_come l.fn.buffer) (bytes_to_come l.buffer);
   told : (before : Option (List ℕ)) (bytes : List ℕ) (most : ℕ) (ps : List Pair) → PairsIn l.model ps → l.count ≡ length ps → l.fn.r.place + length (coded_pairs l.model ps) ≤ 2 ^ 63 →
-      Shows ((g.F.Feed.feeding l.fn.r.feed).source (g.F.Feed.device l.fn.dev).files) l.fn.r.place (coded_pairs l.model ps) → Shown before (g.O.Sink.written l.fn.out) l.fn.buffer bytes most → length (bytes ++ text ps) ≤ most →
+      Shows ((g.F.Feed.feeding l.fn.r.feed).source (g.F.Feed.device l.fn.dev).files) l.fn.r.place (coded_pairs l.model ps) →
+      Shown before (g.O.Sink.written l.fn.out) l.fn.buffer bytes most → length (bytes ++ text ps) ≤ most →
       Decoded (g.F.Feed.feeding l.fn.r.feed) (g.F.Feed.feeding l.r.feed) (g.F.Feed.device l.fn.dev) (g.F.Feed.device l.dev) l.fn.r.place
       (l.fn.r.place + length (coded_pairs l.model (take l._i ps))) l.r.place
       before (g.O.Sink.written l.out) l.buffer (bytes ++ text (take l._i ps)) most;

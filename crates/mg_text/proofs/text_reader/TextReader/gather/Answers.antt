@@ -8,8 +8,10 @@ returns-clause-content g c = λ collection before bytes most stands shown fits. 
 
 pub returns-clause-never_bad : goal.returns-clause-never_bad
 returns-clause-never_bad g c = λ collection has. ends_good c.gather_behind.result _ _
-    (c.gather_behind.ensures.answer collection _ _ _ has.stands (shown_from (g.O.Sink.written c.args.out.now) c.args.buffer.now) (gather_fits c.args.buffer.now (document collection c.args.number) has.short))
+    (c.gather_behind.ensures.answer collection _ _ _ has.stands (shown_from (g.O.Sink.written c.args.out.now) c.args.buffer.now)
+    (gather_fits c.args.buffer.now (document collection c.args.number) has.short))
 
 pub returns-clause-pages : goal.returns-clause-pages
 returns-clause-pages g c = λ collection has. ends_second c.gather_behind.result _ _ _
-    (c.gather_behind.ensures.answer collection _ _ _ has.stands (shown_from (g.O.Sink.written c.args.out.now) c.args.buffer.now) (gather_fits c.args.buffer.now (document collection c.args.number) has.short))
+    (c.gather_behind.ensures.answer collection _ _ _ has.stands (shown_from (g.O.Sink.written c.args.out.now) c.args.buffer.now)
+    (gather_fits c.args.buffer.now (document collection c.args.number) has.short))

@@ -33,4 +33,5 @@ returns-clause-answer g c =
     gather_told c.gather_doc.result _ _ _ collection c.args.number c.in-Ok.from c.seek.new.self.place _ c.seek.new.self.feed _ _ _ _ before _ _ _ _ bytes stands
     c.requires.some within c.in-Ok.ensures.looked.files
     (c.in-Ok.ensures.told stands.told (place_after c.self.inside.model collection (c.args.number - 1)) wanted.0 wanted.1 wanted.2)
-    c.seek.ensures.place c.seek.ensures.feed c.self.invariant.0 (c.in-Ok.ensures.looked.others part.Text (ap (same_part part.Text) c.self.invariant.1)) (subst (λ (b : Gathering). Shown before (g.O.Sink.written c.args.out.now) b bytes most) (sym c.begin.ensures) shown) fits c.gather_doc.ensures.told)
+    c.seek.ensures.place c.seek.ensures.feed c.self.invariant.0 (c.in-Ok.ensures.looked.others part.Text (ap (same_part part.Text) c.self.invariant.1))
+    (subst (λ (b : Gathering). Shown before (g.O.Sink.written c.args.out.now) b bytes most) (sym c.begin.ensures) shown) fits c.gather_doc.ensures.told)
