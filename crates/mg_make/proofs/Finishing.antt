@@ -26,10 +26,10 @@ use Rattle.mg_make.specs.Indexes.{Indexing, OfRuns}
 use Rattle.mg_make.specs.Plans.{IsPlanOf, Plan}
 use Rattle.mg_make.specs.Second.{FinishStops, HasWritten, Inversion, IsWhole, coded_by, occurring_by}
 use Rattle.mg_make.specs.Written.{SecondStops, WroteParts}
+use Rattle.mg_make.proofs.CallerLemmas.{rose_behind}
 use Rattle.mg_make.proofs.Frames.{OthersStay, RunsStay, index_kept, places_file_kept, text_file_kept}
 use Rattle.mg_make.proofs.MarkFronts.{all_documents}
 use Rattle.mg_make.proofs.SecondSteps.{none_open}
-use Rattle.mg_make.proofs.Stopping.{rose_before}
 use Rattle.mg_make.specs.declared.inverter.Inverted.{Inverted}
 
 -- ---- content
@@ -128,6 +128,6 @@ finish_stops rose same told fault stops = absurd stops
 -- and so does what stops the merge of the runs
 pub finish_by_part : {T : Type 0} {l m n : ℕ} (same : Type 0) (f g : Option Files) (refusal : PartErr) (fault : Fault) → fault ≡ fault_of_part refusal → l ≤ m →
     HasPartCause {T = T} m n (Err refusal) → is_some g ≡ is_some f → (IsSome g → NoDamage {T = T} (Err refusal)) → FinishStops (Rose l n) same (IsSome f) fault
-finish_by_part {l = l} {m = m} {n = n} same f g part_err.Device fault is less cause told sound = rw is (rose_before l m n less cause.device)
+finish_by_part {l = l} {m = m} {n = n} same f g part_err.Device fault is less cause told sound = rw is (rose_behind l m n less cause.device)
 finish_by_part same f g part_err.Memory fault is less cause told sound = rw is tt
 finish_by_part same f g (part_err.Bad bad) fault is less cause told sound = rw is (λ t. sound (told ∙ t))

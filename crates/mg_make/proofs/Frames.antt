@@ -49,10 +49,7 @@ runs_wrote base own f g same wrote = record {
   others = λ name away. wrote.others name (λ p of e. away p (runs_are_of_second p of) (e ∙ ap (λ b. full_name b p) same));
 }
 
--- from calls that write to Run alone, or to the parts of the runs
-pub run_alone : (base : List ℕ) (f g : Option Files) → is_some g ≡ is_some f → ((n : List ℕ) → n ≢ full_name base Run → file_at g n ≡ file_at f n) → WroteParts OfRuns base f g
-run_alone base f g told others = record { told = told; others = λ name away. others name (away Run tt) }
-
+-- from calls that write to the parts of the runs alone
 pub runs_alone : (base : List ℕ) (f g : Option Files) → is_some g ≡ is_some f →
     ((n : List ℕ) → n ≢ full_name base Run → n ≢ full_name base MergeA → n ≢ full_name base MergeB → file_at g n ≡ file_at f n) → WroteParts OfRuns base f g
 runs_alone base f g told others = record { told = told; others = λ name away. others name (away Run tt) (away MergeA tt) (away MergeB tt) }

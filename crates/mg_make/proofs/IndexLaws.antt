@@ -31,9 +31,6 @@ use Rattle.mg_laws.proofs.TermLaws.{lists_long}
 
 -- ---- what was written
 
-pub wrote_within : (P Q : AnyPart → Type 0) (base : List ℕ) (f g : Option Files) → ((p : AnyPart) → P p → Q p) → WroteParts P base f g → WroteParts Q base f g
-wrote_within P Q base f g wider wrote = record { told = wrote.told; others = λ name apart. wrote.others name (λ p of_p. apart p (wider p of_p)) }
-
 pub of_index : (p : AnyPart) → OfLists p → OfIndex p
 of_index Head h = absurd h
 of_index Words h = absurd h
@@ -91,9 +88,6 @@ index_stands base collection f g lists wrote weights first second = record {
 pub zeros : (sums : List ℕ) (n : ℕ) → sums ≡ replicate n 0 → length sums ≡ n
 zeros sums n is = ap (λ (xs : List ℕ). length xs) is ∙ length-replicate n 0
 
-pub zeros_own : (sums : List ℕ) (n : ℕ) → sums ≡ replicate n 0 → sums ≡ replicate (length sums) 0
-zeros_own sums n is = is ∙ ap (λ m. replicate m 0) (sym (zeros sums n is))
-
 pub lists_of_inverted :
     ((collection : List ℕ) → term_postings (occurrences collection) ≡ by_terms 0 (inverted collection)) →
     ((collection : List ℕ) (term : ℕ) → docs_with term (occurrences collection) ≡ length (get_or (inverted collection) term [])) →
@@ -136,10 +130,3 @@ weights_stay base f g others =
 
     not_second : Weights ≢ MergeB
     not_second e = cc
-
-pub wrote_weights : (base : List ℕ) (f g : Option Files) (reads reads_now : Reads) → WroteTo (full_name base Weights) f g reads reads_now → WroteParts OfWeights base f g
-wrote_weights base f g reads reads_now wrote = record { told = wrote.told; others = λ name apart. wrote.others name (apart Weights tt) }
-
-pub wrote_merge_parts : (base : List ℕ) (f g : Option Files) → is_some g ≡ is_some f →
-    ((n : List ℕ) → n ≢ full_name base MergeA → n ≢ full_name base MergeB → file_at g n ≡ file_at f n) → WroteParts OfWeights base f g
-wrote_merge_parts base f g told others = record { told = told; others = λ name apart. others name (apart MergeA tt) (apart MergeB tt) }

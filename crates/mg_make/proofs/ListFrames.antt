@@ -136,12 +136,6 @@ same_more a b c first second = record { base = second.base ∙ first.base; runs 
 
 -- ---- why it stops
 
-pub rose_later : (a b c : ℕ) → a ≤ b → Rose b c → Rose a c
-rose_later a b c le rose = omega (arith, le, rose)
-
-pub rose_before : (a b c : ℕ) → Rose a b → b ≤ c → Rose a c
-rose_before a b c rose le = omega (arith, le, rose)
-
 pub stops_for : {rose rose' same same' : Type 0} (f : Fault) → (rose → rose') → (same' → same) → ListStops rose same f → ListStops rose' same' f
 stops_for fault.Usage up down h = h
 stops_for fault.StoreFault up down h = up h
@@ -159,34 +153,6 @@ stops_for (fault.NameClash part) up down h = h
 stops_for fault.InputTooLong up down h = h
 stops_for fault.SameName up down h = h
 stops_for (fault.TooManyRotations count) up down h = h
-
-pub stops_by_store : {T : Type 0} (f g : ℕ) (same : Type 0) (refusal : PutErr) → HasPutCause {T = T} f g (Err refusal) → ListStops (Rose f g) same (fault_of_store refusal)
-stops_by_store f g same put.Failed cause = cause.failed refl
-stops_by_store f g same put.Memory cause = tt
-
-pub stops_by_part : {T : Type 0} (f g : ℕ) (same : Type 0) (refusal : PartErr) → HasPartCause {T = T} f g (Err refusal) →
-    (same → NoDamage {T = T} (Err refusal)) → ListStops (Rose f g) same (fault_of_part refusal)
-stops_by_part f g same part_err.Device cause sound = cause.device
-stops_by_part f g same part_err.Memory cause sound = tt
-stops_by_part f g same (part_err.Bad bad) cause sound = λ is. sound is
-
-pub stops_by_damage : (rose same : Type 0) (f : Fault) → IsDamagedPart f → ¬ same → ListStops rose same f
-stops_by_damage rose same fault.Usage h not_so = absurd h
-stops_by_damage rose same fault.StoreFault h not_so = absurd h
-stops_by_damage rose same fault.ReadFault h not_so = absurd h
-stops_by_damage rose same fault.WriteFault h not_so = absurd h
-stops_by_damage rose same fault.NotBuilt h not_so = absurd h
-stops_by_damage rose same (fault.Damaged bad) h not_so = not_so
-stops_by_damage rose same fault.NoCollection h not_so = absurd h
-stops_by_damage rose same (fault.TooLarge size most) h not_so = absurd h
-stops_by_damage rose same fault.TooManyDocuments h not_so = absurd h
-stops_by_damage rose same (fault.TooManyPieces stream) h not_so = absurd h
-stops_by_damage rose same (fault.Changed what first second) h not_so = absurd h
-stops_by_damage rose same fault.Memory h not_so = absurd h
-stops_by_damage rose same (fault.NameClash part) h not_so = absurd h
-stops_by_damage rose same fault.InputTooLong h not_so = absurd h
-stops_by_damage rose same fault.SameName h not_so = absurd h
-stops_by_damage rose same (fault.TooManyRotations count) h not_so = absurd h
 
 -- a refusal that is passed on
 pub passed_on : {T : Type 0} {rose rose' same same' : Type 0} (r : Result T Fault) (e : Fault) → (y : Fault) × (r ≡ Err y) × (y ≡ e) → (rose → rose') →

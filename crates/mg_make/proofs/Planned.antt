@@ -1,6 +1,6 @@
 -- The plan of a collection from its counts.
-use Rattle.std.proofs.Common.{◌≡◌, ◌≤◌, ◌<◌, ◌^◌, ℕ, List, length, ap, subst, ◌∙◌, arith}
-use Rattle.std.specs.Prelude.{sum}
+use Rattle.std.proofs.Common.{◌≡◌, ◌≤◌, ◌<◌, ◌^◌, ℕ, Bool, true, false, List, length, ap, subst, sym, ◌∙◌, arith, Ok, Err}
+use Rattle.std.specs.Prelude.{IfOk, Result, sum}
 use Rattle.std.proofs.lemmas.List.{length-map}
 use Rattle.mg_defs.specs.declared.Stream.{Stream}
 use Rattle.mg_defs.specs.declared.Stream.TheVariants.{Words, Others}
@@ -16,7 +16,8 @@ use Rattle.mg_defs.specs.Vocabulary.{all_pieces, counts_of, sorted_of, sorted_pi
 use Rattle.mg_defs.proofs.VocabularyLaws.{collection-symbols}
 use Rattle.mg_model.specs.Terms.{TermNumbers, terms_and_numbers}
 use Rattle.mg_make.specs.Counting.{Counting, IsCountOf}
-use Rattle.mg_make.specs.Plans.{IsPlan, IsPlanOf, Plan}
+use Rattle.mg_make.specs.Pairs.{paired}
+use Rattle.mg_make.specs.Plans.{IsPlan, IsPlanOf, IsRoomFor, Plan, Rooming}
 
 -- the laws of lower crates that a plan stands on
 pub record PlanLaws : Type 0 where
@@ -63,3 +64,32 @@ plan-is laws p collection few h table =
       pairs = omega (arith, ap length h.pairs, length-map (documents collection) (λ (doc : List ℕ). length (parse doc)), h.limits.documents);
       small = omega (arith, ap sum h.pairs, laws.few_pairs collection, few);
     }
+
+-- ---- a plan with its room
+
+abbrev value_of : {T E : Type 0} → Result T E → T → T
+value_of (Ok value) other = value
+value_of (Err refusal) other = other
+
+abbrev is_done : {T E : Type 0} → Result T E → Bool
+is_done (Ok value) = true
+is_done (Err refusal) = false
+
+-- the two values that stand beside each other
+pub pair_parts : {A B E : Type 0} (first : A) (second : Result B E) (both : A × B) → Ok both ≡ paired first second → (both.0 ≡ first) × (second ≡ Ok both.1)
+pair_parts {A} {B} first (Ok behind) both is =
+    let same : both ≡ (first, behind) = ap (λ r. value_of r both) is in
+    (ap (λ (x : A × B). x.0) same, ap (λ (x : A × B). Ok x.1) (sym same))
+pair_parts first (Err refusal) both is =
+    let no : true ≡ false = ap is_done is in
+    absurd cc
+
+-- what is so of a value is so of it beside another
+pub still_planned : {A B E : Type 0} {first : A} (P : A → Type 0) (r : Result B E) → P first → IfOk (paired first r) (λ both. P both.0)
+still_planned P (Ok second) is = is
+still_planned P (Err refusal) is = tt
+
+pub room_paired : {E : Type 0} (plan : Plan) (budget : ℕ) (r : Result Rooming E) → IfOk r (λ room. IsRoomFor room plan budget) →
+    IfOk (paired plan r) (λ both. IsRoomFor both.1 both.0 budget)
+room_paired plan budget (Ok room) is = is
+room_paired plan budget (Err refusal) is = tt

@@ -1,10 +1,11 @@
 -- A set that is being written, from step to step.
-use Rattle.std.proofs.Common.{append-nil, arith, ◌≡◌, ◌<◌, ◌^◌, ◌+◌, ◌-◌, ◌∙◌, inr, ℕ, List, [], ◌∷◌, ◌++◌, length, replicate, refl, sym, ap, subst, IsSome, is_some, Some}
+use Rattle.std.proofs.Common.{append-nil, arith, ◌≡◌, ◌<◌, ◌^◌, ◌+◌, ◌-◌, ◌∙◌, inr, ℕ, List, [], ◌∷◌, ◌++◌, length, replicate, refl, sym, ap, subst, IsSome, is_some, Some, Ok, Err}
 use Rattle.std.proofs.lemmas.List.{append_assoc, length_push}
 use Rattle.std.specs.declared.option.Option.{Option}
+use Rattle.mg_dev.specs.Causes.{Rose}
 use Rattle.mg_dev.specs.declared.fault.Fault.{Fault}
 use Rattle.mg_dev.specs.declared.part.Part.TheVariants.{Head, Plain}
-use Rattle.mg_dev.specs.Files.{Files, file_at}
+use Rattle.mg_dev.specs.Files.{Files, Reads, file_at}
 use Rattle.mg_dev.specs.Names.{full_name}
 use Rattle.mg_defs.specs.Marks.{Mark, marks}
 use Rattle.mg_model.specs.Models.{PartsHold}
@@ -14,6 +15,8 @@ use Rattle.mg_make.specs.Plans.{IsPlanOf, Plan}
 use Rattle.mg_make.specs.Putting.{HasPut, IsUnbuilt, OfPass, OthersSame, Putting}
 use Rattle.mg_make.specs.Scanning.{HasMet, Scanning}
 use Rattle.mg_make.specs.Second.{HasWritten, Inversion, IsNext, SamePass, StopsBefore, WroteMarks}
+use Rattle.mg_make.specs.SetSteps.{ByteStep}
+use Rattle.mg_make.specs.Steps.{PassStep}
 use Rattle.mg_make.specs.Written.{SecondStops, WroteParts, WroteSecond}
 use Rattle.mg_make.proofs.Scans.{marks-go_on}
 use Rattle.mg_make.proofs.SetFrames.{head_of_second, kept, models_of_second, others_kept, others_of_second, pass_from}
@@ -70,10 +73,10 @@ front_more s fed more met scanned few = front (marks-go_on s fed met scanned mor
     front : (rest : List Mark) × (marks (fed ++ more) ≡ met ++ rest) → IsFrontOf met (fed ++ more)
     front go = record { after = go.0; whole = go.1; few = few }
 
-module _ (base : List ℕ) (plan : Plan) (limit : ℕ) (sums : List ℕ) (size : ℕ) (scanning scanned : Scanning) (old new : Inversion) (f g : Option Files) (byte : ℕ) (next : List Mark)
-    (takes : (fed : List ℕ) (met : List Mark) → HasMet scanning fed met → HasMet scanned (fed ++ byte ∷ []) (met ++ next)) where
+module _ (w : Putting) (scanned : Scanning) (new : Inversion) (f g : Option Files) (byte : ℕ) (next : List Mark)
+    (takes : (fed : List ℕ) (met : List Mark) → HasMet w.scanning fed met → HasMet scanned (fed ++ byte ∷ []) (met ++ next)) where
   -- the marks that one byte more gives come next
-  pub next_marks : (fed : List ℕ) → HasPut (writing base plan limit sums size scanning old) f fed → length fed < 2 ^ 32 - 1 → IsNext old f next
+  pub next_marks : (fed : List ℕ) → HasPut w f fed → length fed < 2 ^ 32 - 1 → IsNext w.pass f next
   next_marks fed put few = record {
     met = put.met;
     collection = fed ++ byte ∷ [];
@@ -81,10 +84,10 @@ module _ (base : List ℕ) (plan : Plan) (limit : ℕ) (sums : List ℕ) (size :
     front = front_met scanned (fed ++ byte ∷ []) (put.met ++ next) (takes fed put.met put.scanned) (subst (λ n. n < 2 ^ 32) (sym (length_push fed byte)) (omega (arith, few)));
   }
 
-  pub put_more : (fed : List ℕ) → WroteMarks old new f g next → SamePass old new → WroteSecond old.base f g →
-      HasPut (writing base plan limit sums size scanning old) f fed → HasPut (writing base plan limit sums (size + 1) scanned new) g (fed ++ byte ∷ [])
+  put_more : (fed : List ℕ) → WroteMarks w.pass new f g next → SamePass w.pass new → WroteSecond w.pass.base f g →
+      HasPut w f fed → HasPut (writing w.base w.plan w.limit w.sums (w.size + 1) scanned new) g (fed ++ byte ∷ [])
   put_more fed wrote same only put =
-      let second : WroteSecond base f g = subst (λ b. WroteSecond b f g) put.base_is only in
+      let second : WroteSecond w.base f g = subst (λ b. WroteSecond b f g) put.base_is only in
       record {
         met = put.met ++ next;
         scanned = takes fed put.met put.scanned;
@@ -92,23 +95,23 @@ module _ (base : List ℕ) (plan : Plan) (limit : ℕ) (sums : List ℕ) (size :
         base_is = same.base ∙ put.base_is;
         plan_is = same.plan ∙ put.plan_is;
         limit_is = same.limit ∙ put.limit_is;
-        head = λ is. head_of_second base f g second ∙ put.head (sym second.told ∙ is);
-        models = λ is. models_of_second base f g plan.code second (put.models (sym second.told ∙ is));
+        head = λ is. head_of_second w.base f g second ∙ put.head (sym second.told ∙ is);
+        models = λ is. models_of_second w.base f g w.plan.code second (put.models (sym second.told ∙ is));
         sums_are = put.sums_are;
         size_is = ap (λ n. n + 1) put.size_is ∙ sym (length_push fed byte);
       }
 
   -- the head stays empty, and other files stay
-  pub put_head : (fed : List ℕ) → WroteSecond old.base f g → HasPut (writing base plan limit sums size scanning old) f fed → IsSome f → file_at g (full_name base Head) ≡ Some []
-  put_head fed only put told = head_of_second base f g (subst (λ b. WroteSecond b f g) put.base_is only) ∙ put.head told
+  put_head : (fed : List ℕ) → WroteSecond w.pass.base f g → HasPut w f fed → IsSome f → file_at g (full_name w.base Head) ≡ Some []
+  put_head fed only put told = head_of_second w.base f g (subst (λ b. WroteSecond b f g) put.base_is only) ∙ put.head told
 
-  pub put_others : (fed : List ℕ) → WroteSecond old.base f g → HasPut (writing base plan limit sums size scanning old) f fed → OthersSame base f g
-  put_others fed only put = others_of_second base f g (subst (λ b. WroteSecond b f g) put.base_is only)
+  put_others : (fed : List ℕ) → WroteSecond w.pass.base f g → HasPut w f fed → OthersSame w.base f g
+  put_others fed only put = others_of_second w.base f g (subst (λ b. WroteSecond b f g) put.base_is only)
 
   -- why it is not written
-  pub put_stops : (rose : Type 0) (fault : Fault) (fed more : List ℕ) → StopsBefore old f next rose fault →
-      HasPut (writing base plan limit sums size scanning old) f fed → length (fed ++ byte ∷ more) < 2 ^ 32 →
-      SecondStops rose (IsPlanOf plan (fed ++ byte ∷ more)) fault
+  put_stops : (rose : Type 0) (fault : Fault) (fed more : List ℕ) → StopsBefore w.pass f next rose fault →
+      HasPut w f fed → length (fed ++ byte ∷ more) < 2 ^ 32 →
+      SecondStops rose (IsPlanOf w.plan (fed ++ byte ∷ more)) fault
   put_stops rose fault fed more stops put few =
       let all : (fed ++ byte ∷ []) ++ more ≡ fed ++ byte ∷ more = append_assoc fed (byte ∷ []) more in
       subst (λ p. SecondStops rose (IsPlanOf p (fed ++ byte ∷ more)) fault) put.plan_is
@@ -116,3 +119,35 @@ module _ (base : List ℕ) (plan : Plan) (limit : ℕ) (sums : List ℕ) (size :
       (subst (λ bytes. IsFrontOf (put.met ++ next) bytes) all
       (front_more scanned (fed ++ byte ∷ []) more (put.met ++ next) (takes fed put.met put.scanned)
       (subst (λ bytes. length bytes < 2 ^ 32) (sym all) few))))
+
+-- ---- a byte, to each of its two ends
+
+pub byte_done : {w : Putting} {scanned : Scanning} {pass : Inversion} {byte : ℕ} {next : List Mark} {x : Unit {0}} {f g : Option Files} {q r : Reads} {m n : ℕ} →
+    ((fed : List ℕ) (met : List Mark) → HasMet w.scanning fed met → HasMet scanned (fed ++ byte ∷ []) (met ++ next)) → (fed : List ℕ) → HasPut w f fed →
+    PassStep w.pass pass next (Ok x) f g q r m n → ByteStep w (writing w.base w.plan w.limit w.sums (w.size + 1) scanned pass) byte (Ok x) f g q r m n
+byte_done {w} {scanned} {pass} {byte} {next} {f = f} {g = g} takes fed put step = record {
+  put = λ fed put. put_more w scanned pass f g byte next takes fed step.written step.same step.wrote put;
+  base = refl;
+  plan = refl;
+  limit = refl;
+  head = put_head w scanned pass f g byte next takes fed step.wrote put;
+  others = put_others w scanned pass f g byte next takes fed step.wrote put;
+  reads = step.reads;
+  later = step.faults;
+  refused = tt;
+}
+
+pub byte_refused : {w : Putting} {scanned : Scanning} {pass : Inversion} {byte : ℕ} {next : List Mark} {fault : Fault} {f g : Option Files} {q r : Reads} {m n : ℕ} →
+    ((fed : List ℕ) (met : List Mark) → HasMet w.scanning fed met → HasMet scanned (fed ++ byte ∷ []) (met ++ next)) → (fed : List ℕ) → HasPut w f fed →
+    PassStep w.pass pass next (Err fault) f g q r m n → ByteStep w (writing w.base w.plan w.limit w.sums w.size scanned pass) byte (Err fault) f g q r m n
+byte_refused {w} {scanned} {pass} {byte} {next} {fault} {f} {g} {m = m} {n = n} takes fed put step = record {
+  put = tt;
+  base = refl;
+  plan = refl;
+  limit = refl;
+  head = put_head w scanned pass f g byte next takes fed step.wrote put;
+  others = put_others w scanned pass f g byte next takes fed step.wrote put;
+  reads = step.reads;
+  later = step.faults;
+  refused = λ fed more put few. put_stops w scanned pass f g byte next takes (Rose m n) fault fed more step.refused put few;
+}

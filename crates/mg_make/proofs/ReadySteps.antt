@@ -6,7 +6,8 @@ use Rattle.mg_dev.specs.declared.part.Part.{Part}
 use Rattle.mg_dev.specs.declared.fault.Fault.{Fault}
 use Rattle.mg_dev.specs.declared.fault.Fault.TheVariants as cause
 use Rattle.mg_dev.specs.declared.part.Part.TheVariants.{Head, Nonwords, Places, Run, Text, Words}
-use Rattle.mg_dev.specs.Files.{Files, bytes_at, file_at}
+use Rattle.mg_dev.specs.Causes.{Rose}
+use Rattle.mg_dev.specs.Files.{Files, Reads, bytes_at, file_at}
 use Rattle.mg_dev.specs.Names.{full_name, number}
 use Rattle.mg_defs.specs.Bits.{Bits, as_bytes}
 use Rattle.mg_defs.specs.CodedText.{TextCode, text_part}
@@ -14,20 +15,24 @@ use Rattle.mg_defs.specs.Marks.{marks}
 use Rattle.mg_defs.specs.Occurrences.{occurrences}
 use Rattle.mg_defs.specs.RunBits.{run_part_bits}
 use Rattle.mg_defs.specs.Summaries.{run_cap}
+use Rattle.mg_layout.specs.declared.head.Head as layout
 use Rattle.mg_text_writer.specs.Documents.{TextHolds, coded_docs}
 use Rattle.mg_text_writer.specs.Writing.{DocumentsStand, text_bytes}
 use Rattle.mg_make.specs.Finishing.{budget_of}
 use Rattle.mg_make.specs.Index.{IndexStands, OfIndex}
 use Rattle.mg_make.specs.Listing.{ListStops}
 use Rattle.mg_make.specs.Plans.{IsPlanOf, Plan}
-use Rattle.mg_make.specs.Putting.{HasPut, IsHanded, IsReady, OthersSame, Putting}
+use Rattle.mg_make.specs.Putting.{ForScanned, HandsFor, HasPut, IsHanded, IsReady, OthersSame, PlanStops, Putting}
 use Rattle.mg_make.specs.Second.{coded_by, occurring_by}
-use Rattle.mg_make.specs.Written.{WroteParts, WroteSecond}
+use Rattle.mg_make.specs.SetSteps.{PartsStep, RestStep}
+use Rattle.mg_make.specs.Steps.{SortStep}
+use Rattle.mg_make.specs.Written.{OfSecond, WroteParts, WroteSecond}
 use Rattle.mg_make.specs.declared.inverter.Inverted.{Inverted}
 use Rattle.mg_make.proofs.Finishing.{planned_occurrences, planned_text}
-use Rattle.mg_make.proofs.SetFrames.{bytes_kept, index_from, kept, models_of_second, others_kept}
+use Rattle.mg_make.proofs.CallerLemmas.{others_more, rose_behind}
+use Rattle.mg_make.proofs.SetFrames.{bytes_kept, head_of_second, index_from, kept, models_of_second, others_kept, others_of_second}
 
--- the laws of text that a caller takes from mg_text
+-- the laws of text that a caller takes from mg_text_writer
 pub record TextLaws : Type 0 where
   pub text : (code : TextCode) (collection : List ℕ) → text_bytes (coded_docs code collection) ≡ text_part code collection
   pub holds : (base : List ℕ) (files : Option Files) (code : TextCode) (collection : List ℕ) → DocumentsStand base files (coded_docs code collection) → TextHolds base files code collection
@@ -74,11 +79,6 @@ put_few w f fed some put other few = omega (arith, put.size_is, other.size_is, f
 pub handed_for : (p q : Plan) (l m : ℕ) (a b fed : List ℕ) (f g : Option Files) (r : Inverted) → p ≡ q → l ≡ m → a ≡ b → IsHanded p l a fed f g r → IsHanded q m b fed f g r
 handed_for p q l m a b fed f g r one two three handed = subst (λ x. IsHanded x m b fed f g r) one (subst (λ x. IsHanded p x b fed f g r) two (subst (λ x. IsHanded p l x fed f g r) three handed))
 
-pub handed_by_all : (result : Result Inverted Fault) (p q : Plan) (l m : ℕ) (a b fed : List ℕ) (f g : Option Files) → p ≡ q → l ≡ m → a ≡ b →
-    IfOk result (λ r. IsHanded p l a fed f g r) → IfOk result (λ r. IsHanded q m b fed f g r)
-handed_by_all (Ok r) p q l m a b fed f g one two three handed = handed_for p q l m a b fed f g r one two three handed
-handed_by_all (Err fault) p q l m a b fed f g one two three handed = tt
-
 pub index_others : (base : List ℕ) (f g : Option Files) → WroteParts OfIndex base f g → OthersSame base f g
 index_others base f g wrote = others_kept OfIndex base f g (λ q of. (index_from q of).1) wrote
 
@@ -117,3 +117,50 @@ pub ready_all : {T : Type 0} (result : Result T Fault) (w : Putting) (fed : List
     (IndexStands h w.base fed → IsReady (run_cap w.limit) h w.base w.plan.code fed) → OnOk result (IsReady (run_cap w.limit) h w.base w.plan.code fed)
 ready_all (Ok value) w fed h stands by = by stands
 ready_all (Err fault) w fed h stands by = tt
+
+-- ---- all parts but the head, to each of the two ends
+
+-- what the pass handed on for the bytes that were put
+pub handed_put : {w : Putting} {inverted : Inverted} {f g : Option Files} (some : List ℕ) → HasPut w f some → length some < 2 ^ 32 →
+    ForScanned w.scanning w.pass f (HandsFor {E = Fault} w.pass f g (Ok inverted)) → (fed : List ℕ) → HasPut w f fed → IsHanded w.plan w.limit w.base fed f g inverted
+handed_put {w} {inverted} {f} {g} some first few hands fed put = handed_for w.pass.plan w.plan (budget_of w.pass) w.limit w.pass.base w.base fed f g inverted put.plan_is put.limit_is put.base_is
+    (hands fed put.met put.scanned put.written (put_few w f fed some put first few))
+
+-- the pass is not ended
+pub parts_refused : {w : Putting} {fault : Fault} {f g : Option Files} {q r : Reads} {m n : ℕ} (some : List ℕ) → HasPut w f some → length some < 2 ^ 32 →
+    SortStep OfSecond w.pass.base f g q r m n → ForScanned w.scanning w.pass f (PlanStops (Rose m n) w.pass.plan f fault) → PartsStep w (Err fault) f g q r m n
+parts_refused {w} {fault} {f} {g} {m = m} {n = n} some first few step stops =
+    let second : WroteSecond w.base f g = subst (λ b. WroteSecond b f g) first.base_is step.wrote in
+    record {
+      ready = λ fed told put plan_of. tt;
+      within = tt;
+      head = λ fed told put plan_of. tt;
+      peak = λ fed put plan_of. tt;
+      gone = λ told. head_of_second w.base f g second ∙ first.head told;
+      others = others_of_second w.base f g second;
+      reads = step.reads;
+      later = step.later;
+      refused = λ fed put. subst (λ p. ListStops (Rose m n) (IsSome f × IsPlanOf p fed) fault) put.plan_is
+          (stops fed put.met put.scanned put.written (put_few w f fed some put first few));
+    }
+
+-- it is, and what follows it is written or not
+pub parts_behind : {w : Putting} {inverted : Inverted} {result : Result (layout.Head × ℕ) Fault} {f g h : Option Files} {q r v : Reads} {l m n : ℕ} → TextLaws →
+    (some : List ℕ) → HasPut w f some → length some < 2 ^ 32 → SortStep OfSecond w.pass.base f g q r l m →
+    ForScanned w.scanning w.pass f (HandsFor {E = Fault} w.pass f g (Ok inverted)) → RestStep w.plan w.limit w.size w.base inverted result g h r v m n →
+    PartsStep w result f h q v l n
+parts_behind {w} {inverted} {result} {f} {g} {h} {l = l} {m = m} {n = n} laws some first few step hands rest =
+    let second : WroteSecond w.base f g = subst (λ b. WroteSecond b f g) first.base_is step.wrote in
+    let handed = handed_put {w = w} {inverted = inverted} {f = f} {g = g} some first few hands in
+    record {
+      ready = λ fed told put plan_of. ready_all result w fed h (rest.stand fed f (handed fed put) (second.told ∙ told) plan_of)
+          (ready_by laws w fed f g h inverted put told plan_of second (handed fed put) rest.step.wrote);
+      within = rest.within;
+      head = λ fed told put plan_of. rest.head fed f (handed fed put) put.size_is (second.told ∙ told) plan_of;
+      peak = λ fed put plan_of. rest.peak fed f (handed fed put) plan_of;
+      gone = λ told. head_of_index w.base g h rest.step.wrote ∙ head_of_second w.base f g second ∙ first.head told;
+      others = others_more w.base f g h (others_of_second w.base f g second) (index_others w.base g h rest.step.wrote);
+      reads = λ p run first second. rest.step.reads p run first second ∙ step.reads p run first second;
+      later = omega (arith, step.later, rest.step.later);
+      refused = rest_refused result w f g inverted (Rose m n) (Rose l n) (λ rose. rose_behind l m n step.later rose) (λ told. second.told ∙ told) handed rest.refused;
+    }

@@ -28,10 +28,6 @@ kind-append : (kind : Stream) (xs ys : List (List ℕ)) → kind_after kind (xs 
 kind-append kind [] ys = refl
 kind-append kind (x ∷ xs) ys = kind-append (other_kind kind) xs ys
 
-other-twice : (kind : Stream) → other_kind (other_kind kind) ≡ kind
-other-twice Words = refl
-other-twice Others = refl
-
 marks-of_pairs : (ps : List Pair) → marks_of_pairs ps ≡ marks_of_pieces Words (flat_map (λ (p : Pair). p.word ∷ p.other ∷ []) ps)
 marks-of_pairs [] = refl
 marks-of_pairs (p ∷ ps) = ap (λ r. piece Words p.word ∷ piece Others p.other ∷ r) (marks-of_pairs ps)
@@ -116,33 +112,7 @@ met-two m0 m1 m2 m3 begins kind bytes old now is one two k p same =
     ∙ ap (λ (x : Stream). joined_marks begins x (bytes ∷ [] ∷ [])) k ∙ ap (λ (x : List ℕ). joined_marks begins now.kind (x ∷ [] ∷ [])) p
     ∙ ap (λ (r : OpenPiece). joined_marks begins r.kind (r.piece ∷ [] ∷ [])) same
 
-pub met-end : (m0 m1 : Meeting) → m0.ends ≡ false → m1 ≡ with_end m0 → marks_of m1 ≡ marks_of m0 ++ stop ∷ []
-met-end m0 m1 none is =
-    let a : List Mark = only_if m0.begins start in
-    let b : List Mark = only_if m0.has_piece (piece m0.kind m0.bytes) in
-    let c : List Mark = only_if m0.has_other (piece (other_kind m0.kind) []) in
-    let before : marks_of m0 ≡ a ++ (b ++ (c ++ [])) = ap (λ e. a ++ (b ++ (c ++ only_if e stop))) none in
-    ap (λ (m : Meeting). marks_of m) is ∙ sym (ap (λ (x : List Mark). x ++ stop ∷ []) before ∙ joins a b c (stop ∷ []))
-  where
-    joins : (a b c d : List Mark) → (a ++ (b ++ (c ++ []))) ++ d ≡ a ++ (b ++ (c ++ d))
-    joins a b c d = simp (append_assoc, append-nil)
-
 -- ---- the pieces that are left at a document's end
-
-pub left-none : (kind : Stream) (bytes : List ℕ) → length (left_at_end kind bytes) ≡ 0 → left_at_end kind bytes ≡ []
-left-none Words [] h = refl
-left-none Words (b ∷ bytes) h = absurd (omega (arith, h))
-left-none Others bytes h = absurd (omega (arith, h))
-
-pub left-one : (kind : Stream) (bytes : List ℕ) → length (left_at_end kind bytes) ≡ 1 → left_at_end kind bytes ≡ bytes ∷ []
-left-one Words [] h = absurd (omega (arith, h))
-left-one Words (b ∷ bytes) h = absurd (omega (arith, h))
-left-one Others bytes h = refl
-
-pub left-two : (kind : Stream) (bytes : List ℕ) → 2 ≤ length (left_at_end kind bytes) → left_at_end kind bytes ≡ bytes ∷ [] ∷ []
-left-two Words [] h = absurd (omega (arith, h))
-left-two Words (b ∷ bytes) h = refl
-left-two Others bytes h = absurd (omega (arith, h))
 
 -- ---- a byte more
 
@@ -235,18 +205,6 @@ met-closed s seen reading m fed met byte is empty stands closes h =
     let two = met-close s seen m fed met (subst (λ b. StandsFor seen (fed ++ b ∷ [])) is stands) closes h in
     subst (λ (r : OpenPiece). HasMet (record { seen = seen; reading = r; is_open = false; met = m }) (fed ++ byte ∷ []) (met ++ marks_of m)) (sym empty)
     (subst (λ b. HasMet (record { seen = seen; reading = record { kind = Words; piece = [] }; is_open = false; met = m }) (fed ++ b ∷ []) (met ++ marks_of m)) (sym is) two)
-
--- nothing was taken
-pub met-nothing : (s : Scanning) → StandsFor s.seen [] → s.reading ≡ record { kind = Words; piece = [] } → s.is_open ≡ false → HasMet s [] []
-met-nothing s stands reading closed = record {
-  seen = stands;
-  same = closed;
-  told = [];
-  none = λ e. refl;
-  kind = ap (λ (r : OpenPiece). r.kind) reading;
-  reads = subst (λ (r : OpenPiece). Reads r [] [] []) (sym reading) reads_new;
-  marks_are = sym (ap (λ b. marks_of_open b []) closed);
-}
 
 -- ---- the end
 

@@ -82,15 +82,6 @@ second_is_pass Plain of = of
 
 -- ---- files
 
-pub parts_none : (parts : Part → Type 0) (base : List ℕ) (f : Option Files) → WroteParts parts base f f
-parts_none parts base f = record { told = refl; others = λ name away. refl }
-
-pub parts_both : (parts : Part → Type 0) (base : List ℕ) (f g h : Option Files) → WroteParts parts base f g → WroteParts parts base g h → WroteParts parts base f h
-parts_both parts base f g h one two = record { told = two.told ∙ one.told; others = λ name away. two.others name away ∙ one.others name away }
-
-pub parts_wider : (less more : Part → Type 0) (base : List ℕ) (f g : Option Files) → ((q : Part) → less q → more q) → WroteParts less base f g → WroteParts more base f g
-parts_wider less more base f g wider wrote = record { told = wrote.told; others = λ name away. wrote.others name (λ q of. away q (wider q of)) }
-
 -- a part that is none of these is as before
 pub kept : (parts : Part → Type 0) (base : List ℕ) (f g : Option Files) (p : Part) → ((q : Part) → parts q → number q ≢ number p) → WroteParts parts base f g →
     file_at g (full_name base p) ≡ file_at f (full_name base p)
@@ -105,9 +96,6 @@ others_kept parts base f g of_set wrote = record {
   where
     plain : (q : Part) → number q ≤ 12 → q ≢ Plain
     plain q few is = omega (arith, few, ap number is)
-
-pub others_both : (base : List ℕ) (f g h : Option Files) → OthersSame base f g → OthersSame base g h → OthersSame base f h
-others_both base f g h one two = record { told = two.told ∙ one.told; others = λ name apart. two.others name apart ∙ one.others name apart }
 
 pub bytes_kept : (f g : Option Files) (name : List ℕ) → file_at g name ≡ file_at f name → bytes_at g name ≡ bytes_at f name
 bytes_kept f g name same = ap (λ (file : Option (List ℕ)). unwrap_or file []) same
@@ -135,9 +123,6 @@ models_of_second base f g code wrote hold = models_kept f g base code
 
 pub others_of_second : (base : List ℕ) (f g : Option Files) → WroteSecond base f g → OthersSame base f g
 others_of_second base f g wrote = others_kept OfSecond base f g (λ q of. (second_from q of).1) wrote
-
-pub still_told : (f g : Option Files) → is_some g ≡ is_some f → IsSome f → IsSome g
-still_told f g same told = same ∙ told
 
 -- the same, whatever the pass answered
 pub models_of_pass : {T E : Type 0} (r : Result T E) (f g : Option Files) (base : List ℕ) (code : TextCode) → WroteSecond base f g → PartsHold f base code → OnOk r (PartsHold g base code)

@@ -16,19 +16,10 @@ use Rattle.mg_make.specs.Listing.{OfPostings}
 use Rattle.mg_make.specs.Second.{Inversion}
 use Rattle.mg_make.specs.Steps.{MergeLook, MergeStep, PassStep, PutStep, SortStep}
 use Rattle.mg_make.specs.Written.{OfLists, OfSecond, WroteParts}
-use Rattle.mg_make.proofs.ListFrames.{rose_later, same_more, same_none, wrote_lex, wrote_lists, wrote_more, wrote_none, wrote_wider}
+use Rattle.mg_make.proofs.CallerLemmas.{rose_behind}
+use Rattle.mg_make.proofs.ListFrames.{same_more, same_none, wrote_lex, wrote_lists, wrote_more, wrote_none, wrote_wider}
 
 -- ---- what is a step
-
--- nothing was done
-pub step_none : {parts : AnyPart → Type 0} {base : List ℕ} {merge : Merging} {f g : Option Files} {q r : Reads} {m n : ℕ} →
-    g ≡ f → SameReads q r → m ≤ n → MergeStep parts base merge merge f g q r m n
-step_none {parts} {base} {merge} {f} {g} same reads later = record {
-  same = same_none merge;
-  wrote = wrote_none parts base f g same;
-  reads = λ p run first second. reads p;
-  later = later;
-}
 
 -- a posting was taken, and nothing was written
 pub step_look : {parts : AnyPart → Type 0} {base : List ℕ} {a b : Merging} {f g : Option Files} {q r : Reads} {m n : ℕ} →
@@ -123,7 +114,7 @@ put_cause {e = e} cause = record { later = cause.later; failed = λ is. let same
 pub cause_then : {T U : Type 0} {e : PutErr} {l m n : ℕ} → l ≤ m → HasPutCause {T = T} m n (Err e) → HasPutCause {T = U} l n (Err e)
 cause_then {e = e} {l = l} {m = m} {n = n} less cause = record {
   later = omega (arith, less, cause.later);
-  failed = λ is. let same : e ≡ put.Failed = cc in rose_later l m n less (cause.failed (ap Err same));
+  failed = λ is. let same : e ≡ put.Failed = cc in rose_behind l m n less (cause.failed (ap Err same));
 }
 
 -- and where nothing is refused
@@ -147,7 +138,7 @@ put_more {parts = parts} {base = base} {f = f} {g = g} {h = h} {l = l} {m = m} {
   reads = λ p. two.reads p ∙ one.reads p;
   cause = record {
     later = omega (arith, one.cause.later, two.cause.later);
-    failed = λ is. rose_later l m n one.cause.later (two.cause.failed is);
+    failed = λ is. rose_behind l m n one.cause.later (two.cause.failed is);
   };
 }
 
@@ -179,13 +170,6 @@ put_lex {base = base} {f = f} {g = g} told others reads cause = record {
 }
 
 -- ---- steps that read what was sorted
-
-pub sort_none : {parts : AnyPart → Type 0} {base : List ℕ} {f : Option Files} {q : Reads} {n : ℕ} → SortStep parts base f f q q n n
-sort_none {parts} {base} {f} = record {
-  wrote = wrote_none parts base f f refl;
-  reads = λ p run first second. refl;
-  later = omega arith;
-}
 
 pub sort_more : {parts : AnyPart → Type 0} {base : List ℕ} {f g h : Option Files} {q r s : Reads} {l m n : ℕ} →
     SortStep parts base f g q r l m → SortStep parts base g h r s m n → SortStep parts base f h q s l n

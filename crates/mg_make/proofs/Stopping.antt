@@ -20,9 +20,6 @@ use Rattle.mg_make.specs.Second.{HasWritten, Inversion, IsChange}
 use Rattle.mg_make.specs.Written.{SecondStops}
 use Rattle.mg_make.proofs.MarkFronts.{has_symbol, more_documents, more_pieces, no_more_pieces}
 
-pub rose_before : (a b c : ℕ) → a ≤ b → Rose b c → Rose a c
-rose_before a b c less rose = omega (arith, less, rose)
-
 pub stops_store : {T : Type 0} (rose same : Type 0) (e : PutErr) (fault : Fault) → fault ≡ fault_of_store e → (IsErrOf {T = T} (Err e) put.Failed → rose) → SecondStops rose same fault
 stops_store rose same put.Failed fault is cause = rw is (cause refl)
 stops_store rose same put.Memory fault is cause = rw is tt

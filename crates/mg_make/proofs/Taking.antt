@@ -14,7 +14,7 @@ use Rattle.mg_make.specs.Meeting.{Meeting, only_if}
 use Rattle.mg_make.specs.Plans.{IsPlanOf, Plan}
 use Rattle.mg_make.specs.Second.{HasWritten, Inversion, IsNext, SamePass, StopsBefore, WroteMarks}
 use Rattle.mg_make.specs.Written.{SecondStops}
-use Rattle.mg_make.proofs.Stopping.{rose_before}
+use Rattle.mg_make.proofs.CallerLemmas.{rose_behind}
 
 front_first : (met a b : List Mark) (collection : List ℕ) → IsFrontOf (met ++ (a ++ b)) collection → IsFrontOf (met ++ a) collection
 front_first met a b collection f = record {
@@ -58,7 +58,7 @@ pub stops_then : (s t : Inversion) (f g : Option Files) (a b : List Mark) (x y z
 stops_then s t f g a b x y z fault less same wrote stops = record {
   cause = λ met collection is front.
       subst (λ (p : Plan). SecondStops (Rose x z) (IsPlanOf p collection) fault) same.plan
-      (stops_more (Rose y z) (Rose x z) (IsPlanOf t.plan collection) fault (rose_before x y z less)
+      (stops_more (Rose y z) (Rose x z) (IsPlanOf t.plan collection) fault (rose_behind x y z less)
       (stops.cause (met ++ a) collection (wrote.behind met is) (front_then met a b collection front)));
 }
 

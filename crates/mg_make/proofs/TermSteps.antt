@@ -90,6 +90,3 @@ info_is terms docs collection n count post_at skip_at all t of lt t_is count_is 
 
 pub sizes_more : (docs : List ℕ) (n : ℕ) → n < length docs → sum (take (n + 1) docs) ≡ sum (take n docs) + slice_index docs n
 sizes_more docs n lt = sum_by_more (λ x. x) docs n 0 lt
-
-pub sizes_below : (docs : List ℕ) (n : ℕ) → n < length docs → sum (take n docs) + slice_index docs n ≤ sum docs
-sizes_below docs n lt = sum_by_more_le (λ x. x) docs n 0 lt

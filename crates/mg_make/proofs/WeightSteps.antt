@@ -15,14 +15,6 @@ use Rattle.mg_defs.specs.Weights.{weight}
 abbrev pub root_bytes : ℕ → List ℕ
 root_bytes sum = four (isqrt sum)
 
-pub roots_more : (sums : List ℕ) (n : ℕ) → n < length sums → flat_map root_bytes (take n sums) ++ root_bytes (get_or sums n 0) ≡ flat_map root_bytes (take (n + 1) sums)
-roots_more sums n lt =
-    ap (λ bytes. flat_map root_bytes (take n sums) ++ bytes) (sym (append-nil (root_bytes (get_or sums n 0)))) ∙ sym (flat_map-append root_bytes (take n sums) (get_or sums n 0 ∷ []))
-    ∙ ap (λ xs. flat_map root_bytes xs) (sym (take_more sums n 0 lt))
-
-pub roots_all : (sums : List ℕ) (n : ℕ) → length sums ≡ n → flat_map root_bytes (take n sums) ≡ flat_map root_bytes sums
-roots_all sums n long = ap (λ xs. flat_map root_bytes xs) (take_all n sums (omega (arith, long)))
-
 roots_map : (sums : List ℕ) → flat_map root_bytes sums ≡ flat_map four (map isqrt sums)
 roots_map [] = refl
 roots_map (sum ∷ sums) = ap (λ bytes. root_bytes sum ++ bytes) (roots_map sums)

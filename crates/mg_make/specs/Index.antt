@@ -18,6 +18,7 @@ use Rattle.mg_defs.specs.Stands.{post_part, skip_count, weights_part}
 use Rattle.mg_runs.specs.Left.{IsMerging, Merging}
 use Rattle.mg_make.specs.DocCounting.{AreDocCounts, DocCounting}
 use Rattle.mg_make.specs.Plans.{IsPlanOf, Plan}
+use Rattle.mg_make.specs.declared.inverter.Inverted.{Inverted}
 use Rattle.mg_make.specs.declared.lists.Sizes.{Sizes}
 
 -- The store tells its files, plan and counts are those of a collection, and the merge has the postings of all its occurrences left.
@@ -58,9 +59,9 @@ OfIndex p = OfWeights p
 abbrev pub WeightsAreRoots : Option Files → List ℕ → List ℕ → Type 0
 WeightsAreRoots files base sums = bytes_at files (full_name base Weights) ≡ flat_map (λ sum. four (isqrt sum)) sums
 
--- what was inverted is of a collection
-abbrev pub InvertedOf : Plan → DocCounting → Merging → Option Files → List ℕ → Type 0
-InvertedOf p counts merge files collection = IsInverted p counts collection merge files
+-- what was inverted by a plan is of a collection
+abbrev pub InvertedBy : Plan → Inverted → Option Files → List ℕ → Type 0
+InvertedBy p inverted files collection = IsInverted p inverted.counts collection inverted.merge files
 
 -- lists, lexicon and weights are those of a collection
 abbrev pub WroteIndex : {T E : Type 0} → Option Files → List ℕ → Result T E → List ℕ → Type 0

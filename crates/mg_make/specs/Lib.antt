@@ -2,6 +2,8 @@ pub mod Meeting
 pub mod DocCounting
 pub mod Outcomes
 pub mod Plans
+pub mod Pairs
+pub mod Entries
 pub mod Written
 pub mod Listing
 pub mod Each
@@ -16,3 +18,4 @@ pub mod Scanning
 pub mod Counting
 pub mod Summaries
 pub mod Putting
+pub mod SetSteps

@@ -148,13 +148,6 @@ ScannedRefused scanning pass files faults before now result =
     IfErr result (λ fault. ForScanned scanning pass (files before)
     (PlanStops (Rose (faults before) (faults now)) pass.plan (files before) fault))
 
--- what follows the pass is refused for such a reason
-abbrev pub HandedRefused : {X T : Type 0} → Plan → ℕ → List ℕ → Inverted → (X → Option Files) → (X → ℕ) → X → X →
-    Result T Fault → Type 0
-HandedRefused plan limit base inverted files faults before now result =
-    IfErr result (λ fault. ForHanded plan limit base (files before) inverted
-    (PlanStops (Rose (faults before) (faults now)) plan (files before) fault))
-
 -- what follows the last byte that was put is refused for such a reason
 abbrev pub PutRefused : {X T : Type 0} → Putting → (X → Option Files) → (X → ℕ) → X → X → Result T Fault → Type 0
 PutRefused w files faults before now result =
@@ -184,11 +177,6 @@ HasPeakOf limit result fed = IfOk result (λ made. made.1 ≡ pool_peak (length 
 abbrev pub MakesHead : {E : Type 0} → ℕ → Plan → ℕ → Option Files → Result (Head × ℕ) E → List ℕ → Type 0
 MakesHead size plan limit files result fed = size ≡ length fed → IsSome files → IsPlanOf plan fed →
     HasHeadOf plan limit result fed
-
--- where the store tells its files, lists, lexicon and weights are those of the bytes if the plan is theirs
-abbrev pub MakesIndex : {X T E : Type 0} → Plan → List ℕ → (X → Option Files) → X → X → Result T E → List ℕ → Type 0
-MakesIndex plan base files before now result fed = IsSome (files before) → IsPlanOf plan fed →
-    WroteIndex (files now) base result fed
 
 -- all parts but the head are those of the bytes
 abbrev pub MakesReady : {T E : Type 0} → Putting → Option Files → Result T E → List ℕ → Type 0

@@ -70,24 +70,8 @@ impl Counts {
         }
     }
 
-    /// Counts what is met with one byte, which mostly is nothing.
-    #[inline]
-    pub(crate) fn take(&mut self, met: &Met) -> Result<(), Fault>
-        requires few { (before : List Mark) × IsCounted self.old before
-            × AreFew (before ++ marks_of met.now) }
-        ensures counted { OnOk result ((before : List Mark) → IsCounted self.old before →
-            IsCounted self.new (before ++ marks_of met.now)) }
-        ensures refused { IfErr result (λ fault. (before : List Mark) → IsCounted self.old before →
-            StopsAt before (marks_of met.now) fault) }
-    {
-        if met.is_nothing() {
-            return Ok(());
-        }
-        self.take_marks(met)
-    }
-
     /// Counts each of the four that is met.
-    fn take_marks(&mut self, met: &Met) -> Result<(), Fault>
+    pub(crate) fn take(&mut self, met: &Met) -> Result<(), Fault>
         requires few { (before : List Mark) × IsCounted self.old before
             × AreFew (before ++ marks_of met.now) }
         ensures counted { OnOk result ((before : List Mark) → IsCounted self.old before →

@@ -8,19 +8,28 @@ ghost use Rattle.mg_dev.specs.Moments.{Between};
 ghost use Rattle.mg_defs.specs.declared.TermPosting.{TermPosting};
 ghost use Rattle.mg_runs.specs.Left.{IsMerging};
 ghost use Rattle.mg_make.specs.Each.{RefusedIfNone};
-ghost use Rattle.mg_make.specs.Index.{HasPostPart, HasSkipPart, InvertedOf, OfIndex, OfWeights, WeightsAreRoots, WroteIndex};
+ghost use Rattle.mg_make.specs.Index.{HasPostPart, HasSkipPart, InvertedBy, OfIndex, OfWeights, WeightsAreRoots, WroteIndex};
 ghost use Rattle.mg_make.specs.Listing.{AreListSizes};
 ghost use Rattle.mg_make.specs.Steps.{PutStep, MergeStep};
 
 use crate::Plan;
-use crate::doc_counts::DocCounts;
+use crate::inverter::Inverted;
 use crate::lists::{Sizes, Terms, write_lists};
 use crate::merge_parts::reset_merge_parts;
 use crate::weights::write_weights;
 use mg_dev::{Fault, PutErr, Store};
 use mg_laws::{documents_are_counted, lists_are_whole, postings_are_lists, squares_weigh};
-use mg_runs::Merge;
 use std::alloc::Global;
+
+/// What a set is made from, beside what was inverted: the plan, the sums of the squared weights of each
+/// document, the number of bytes, and the size of the pool.
+#[derive(Drop)]
+pub(crate) struct Rest<'p> {
+    pub(crate) plan: &'p Plan,
+    pub(crate) sums: Vec<u64>,
+    pub(crate) size: u64,
+    pub(crate) limit: u64,
+}
 
 /// Writes the weights, and empties the working parts.
 fn write_weights_part<S: Store>(
@@ -52,38 +61,45 @@ pub(crate) fn write_all<S: Store>(
     alloc: Global,
     store: &mut S,
     base: &str,
-    merge: &mut Merge<'_>,
-    plan: &Plan,
-    counts: &DocCounts,
-    sums: &mut Vec<u64>,
+    inverted: &mut Inverted<'_>,
+    rest: &mut Rest<'_>,
 ) -> Result<Sizes, Fault>
-    requires base { merge.old.base ≡ base.now }
-    requires sizes { AreListSizes counts.now.docs (length plan.now.terms.terms)
-        (length plan.now.pairs) }
-    requires left { (left : List TermPosting) × IsMerging merge.old (S.files store.old) left }
-    requires zero { sums.old.items ≡ replicate (length plan.now.pairs) 0 }
-    ensures stand { ForEach (InvertedOf plan.now counts.now merge.old (S.files store.old))
+    requires base { inverted.old.merge.base ≡ base.now }
+    requires sizes { AreListSizes inverted.old.counts.docs (length rest.old.plan.now.terms.terms)
+        (length rest.old.plan.now.pairs) }
+    requires left { (left : List TermPosting) ×
+        IsMerging inverted.old.merge (S.files store.old) left }
+    requires zero { rest.old.sums.items ≡ replicate (length rest.old.plan.now.pairs) 0 }
+    ensures stand { ForEach (InvertedBy rest.old.plan.now inverted.old (S.files store.old))
         (WroteIndex (S.files store.new) base.now result) }
-    ensures post_bytes { ForEach (InvertedOf plan.now counts.now merge.old (S.files store.old))
+    ensures post_bytes { ForEach (InvertedBy rest.old.plan.now inverted.old (S.files store.old))
         (HasPostPart result) }
-    ensures skip_count { ForEach (InvertedOf plan.now counts.now merge.old (S.files store.old))
+    ensures skip_count { ForEach (InvertedBy rest.old.plan.now inverted.old (S.files store.old))
         (HasSkipPart result) }
-    ensures few { IfOk result (λ sizes. sizes.skip_count ≤ sum counts.now.docs) }
+    ensures few { IfOk result (λ sizes. sizes.skip_count ≤ sum inverted.old.counts.docs) }
     ensures refused { RefusedIfNone S.faults store.old store.new
-        (InvertedOf plan.now counts.now merge.old (S.files store.old)) result }
+        (InvertedBy rest.old.plan.now inverted.old (S.files store.old)) result }
     ensures step { Between S.files S.reads S.faults store.old store.new
-        (MergeStep OfIndex base.now merge.old merge.new) }
+        (MergeStep OfIndex base.now inverted.old.merge inverted.new.merge) }
 {
     postings_are_lists();
     documents_are_counted();
+    let plan = rest.plan;
     let terms = Terms {
         table: &plan.table,
-        counts,
+        counts: &inverted.counts,
     };
-    let sizes = write_lists(alloc, store, base, merge, &terms, sums)?;
+    let sizes = write_lists(
+        alloc,
+        store,
+        base,
+        &mut inverted.merge,
+        &terms,
+        &mut rest.sums,
+    )?;
     squares_weigh();
     lists_are_whole();
-    match write_weights_part(alloc, store, base, sums) {
+    match write_weights_part(alloc, store, base, &rest.sums) {
         Ok(()) => Ok(sizes),
         Err(refusal) => Err(Fault::of_store(refusal)),
     }

@@ -3,7 +3,7 @@
 //! A byte may begin a document, end the piece before it and the document too. So at most four things
 //! are met with it, always in the same order, and the second of two pieces is empty: the other of a
 //! pair that the document's end leaves without one. One block of bytes serves for every piece.
-ghost use Rattle.std.specs.Prelude.{◌≡◌, ◌≢◌, ◌≤◌, [], true, false, length, take};
+ghost use Rattle.std.specs.Prelude.{◌≡◌, ◌≤◌, [], length, take};
 ghost use Rattle.mg_defs.specs.Pieces.{other_kind};
 ghost use Rattle.mg_make.specs.Meeting.{marks_of, restarted, with_end, with_other, with_piece};
 
@@ -99,14 +99,6 @@ impl Met {
         ensures { self.new ≡ with_end self.old }
     {
         self.ends = true;
-    }
-
-    /// Whether nothing is met, as with most bytes.
-    pub(crate) fn is_nothing(&self) -> bool
-        ensures nothing { result ≡ true → marks_of self.now ≡ [] }
-        ensures some { result ≡ false → marks_of self.now ≢ [] }
-    {
-        !(self.begins || self.has_piece || self.has_other || self.ends)
     }
 
     /// Whether a document begins.

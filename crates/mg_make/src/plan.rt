@@ -4,12 +4,14 @@
 //! as they were.
 ghost use Rattle.std.specs.Prelude.{◌≡◌, ◌≤◌, ◌<◌, ◌^◌, ℕ, List, length, replicate, IfOk};
 ghost use Rattle.mg_make.specs.Counting.{IsCountOf};
+ghost use Rattle.mg_make.specs.Entries.{AreEntries};
 ghost use Rattle.mg_make.specs.Plans.{IsPlan, IsPlanOf, IsRoomFor, plan_by};
 
 use crate::counts::Counts;
 use crate::doc_counts::DocCounts;
+use crate::pairs::pair;
 use mg_laws::{few_of_each, limits_of_marks, marks_have_all};
-use mg_model::{TermTable, TextModel, collections_have_models, terms_are_the_dictionary};
+use mg_model::{Stream, TermTable, TextModel, collections_have_models, terms_are_the_dictionary};
 use mg_runs::Pool;
 use std::alloc::{AllocError, Global};
 use std::marker::Model;
@@ -24,6 +26,15 @@ pub struct Plan {
     pub(crate) open_end: bool,
 }
 
+/// How many documents, words, others and terms a plan has.
+#[derive(Drop)]
+pub(crate) struct Entries {
+    pub(crate) documents: u32,
+    pub(crate) words: u32,
+    pub(crate) others: u32,
+    pub(crate) terms: u32,
+}
+
 impl Model for Plan {
     ghost use Rattle.mg_make.specs.Plans.{Plan as Planned};
 
@@ -33,12 +44,17 @@ impl Model for Plan {
 }
 
 impl Plan {
-    /// The number of documents.
-    pub(crate) fn documents(&self) -> u32
-        requires { length self.now.pairs ≤ 2 ^ 24 }
-        ensures { result ≡ length self.now.pairs }
+    /// How many documents, words, others and terms there are.
+    pub(crate) fn entries(&self) -> Entries
+        requires plan { IsPlan self.now }
+        ensures { AreEntries result self.now }
     {
-        self.pairs.len() as u32
+        Entries {
+            documents: self.pairs.len() as u32,
+            words: self.model.canon(Stream::Words).count(),
+            others: self.model.canon(Stream::Others).count(),
+            terms: self.table.count(),
+        }
     }
 
     /// The plan of a collection of which these are the counts.
@@ -70,15 +86,14 @@ impl Plan {
     ) -> Result<Self, AllocError>
         ensures { IfOk result (λ plan. plan ≡ plan_by model pairs.items open_end) }
     {
-        match TermTable::of(alloc, &model) {
-            Ok(table) => Ok(Plan {
-                model,
-                table,
-                pairs,
-                open_end,
-            }),
-            Err(refusal) => Err(refusal),
-        }
+        let table = TermTable::of(alloc, &model);
+        let (model, table) = pair(model, table)?;
+        Ok(Plan {
+            model,
+            table,
+            pairs,
+            open_end,
+        })
     }
 }
 
@@ -113,9 +128,9 @@ impl Room {
         requires most { budget ≤ 2 ^ 30 }
         ensures { IfOk result (λ room. IsRoomFor room plan.now budget) }
     {
-        let pool = Pool::new(alloc, budget)?;
-        let counts = DocCounts::new(alloc, plan.table.count())?;
         let sums = no_sums(alloc, plan.pairs.len())?;
+        let counts = DocCounts::new(alloc, plan.table.count())?;
+        let pool = Pool::new(alloc, budget)?;
         Ok(Room { pool, counts, sums })
     }
 }
@@ -139,8 +154,6 @@ pub(crate) fn plan_of(
         Ok(plan) => plan,
         Err(refusal) => return Err(refusal),
     };
-    match Room::new(alloc, &plan, budget) {
-        Ok(room) => Ok((plan, room)),
-        Err(refusal) => Err(refusal),
-    }
+    let room = Room::new(alloc, &plan, budget);
+    pair(plan, room)
 }

@@ -6,18 +6,16 @@
 //! what it can't take.
 ghost use Rattle.std.specs.Prelude.{◌≡◌, ◌≤◌, ◌<◌, ◌*◌, ◌-◌, ◌∷◌, ℕ, List, [], length, get_or, IfOk, Some, slice_get};
 ghost use Rattle.mg_dev.specs.Moments.{Between};
-ghost use Rattle.mg_defs.specs.Marks.{code_of, start as start_mark, piece as piece_mark, stop as stop_mark};
+ghost use Rattle.mg_defs.specs.Marks.{code_of, piece as piece_mark};
 ghost use Rattle.mg_make.specs.DocCounting.{AreDocCounts};
-ghost use Rattle.mg_make.specs.Finishing.{HandsOn, TextEnd};
-ghost use Rattle.mg_make.specs.Meeting.{piece_if, marks_of, only_if};
 ghost use Rattle.mg_make.specs.Plans.{IsPlan};
-ghost use Rattle.mg_make.specs.Second.{EndRefused, HasWritten, IsChange, IsNext, IsWhole, term_at};
-ghost use Rattle.mg_make.specs.Steps.{PassStep, PutStep, SortStep};
+ghost use Rattle.mg_make.specs.Second.{HasWritten, IsChange, IsNext, term_at};
+ghost use Rattle.mg_make.specs.Steps.{PassStep, PutStep};
 ghost use Rattle.mg_make.specs.Written.{OfSecond};
 
 use crate::doc_counts::DocCounts;
-use crate::inverter::{Inverted, Inverter};
-use crate::met::Met;
+use crate::inverter::Inverter;
+use crate::mark_writer::MarkWriter;
 use crate::plan::Plan;
 use mg_dev::{Fault, PutErr, Store, What};
 use mg_model::{symbol_and_piece, terms_are_the_dictionary, words_have_terms};
@@ -84,42 +82,16 @@ impl<'a> SecondPass<'a> {
         })
     }
 
-    /// Begins a document. Refused where the plan has no more documents.
-    pub(crate) fn begin<S: Store>(&mut self, store: &mut S) -> Result<(), Fault>
-        requires next { IsNext self.old (S.files store.old) (start_mark ∷ []) }
-        ensures { Between S.files S.reads S.faults store.old store.new
-            (PassStep self.old self.new (start_mark ∷ []) result) }
-    {
-        // A law: what the runs took stays while the text is written.
-        runs_stay();
-        let plan = self.plan;
-        let at = self.doc as usize;
-        if at >= plan.pairs.len() {
-            return Err(Fault::Changed {
-                what: What::Documents,
-                first: plan.pairs.len() as u64,
-                second: u64::from(self.doc) + 1,
-            });
-        }
-        let pairs = plan.pairs[at];
-        match self.text.begin_doc(store, pairs) {
-            Ok(()) => {}
-            Err(refusal) => return Err(Fault::of_store(refusal)),
-        }
-        self.doc += 1;
-        self.left = 2 * u64::from(pairs);
-        Ok(())
-    }
-
-    /// Writes a piece of the open document, and the occurrence of its term where it is a word that is
-    /// not empty. Refused where the document has no more pairs by the plan, or the stream no such piece.
-    pub(crate) fn piece<S: Store>(
+    // Writes a piece of the open document, which has more pieces by the plan, and the occurrence of its term where it
+    // is a word that is not empty. Refused where the stream has no such piece.
+    fn put_piece<S: Store>(
         &mut self,
         store: &mut S,
         stream: Stream,
         piece: &[u8],
     ) -> Result<(), Fault>
         requires next { IsNext self.old (S.files store.old) (piece_mark stream piece.now ∷ []) }
+        requires more { 0 < self.old.left }
         ensures { Between S.files S.reads S.faults store.old store.new
             (PassStep self.old self.new (piece_mark stream piece.now ∷ []) result) }
     {
@@ -127,9 +99,6 @@ impl<'a> SecondPass<'a> {
         pieces_make_documents();
         runs_stay();
         symbol_and_piece();
-        if self.left == 0 {
-            return Err(self.other_pairs());
-        }
         let plan = self.plan;
         let symbol = match plan.model.symbol(stream, piece) {
             Some(symbol) => symbol,
@@ -146,136 +115,6 @@ impl<'a> SecondPass<'a> {
         };
         match self.index.add(store, term, self.doc) {
             Ok(()) => Ok(()),
-            Err(refusal) => Err(Fault::of_store(refusal)),
-        }
-    }
-
-    /// Ends the open document. Refused where the document has more pairs by the plan.
-    pub(crate) fn end<S: Store>(&mut self, store: &mut S) -> Result<(), Fault>
-        requires next { IsNext self.old (S.files store.old) (stop_mark ∷ []) }
-        ensures { Between S.files S.reads S.faults store.old store.new
-            (PassStep self.old self.new (stop_mark ∷ []) result) }
-    {
-        // A law: what the runs took stays while the text is written.
-        runs_stay();
-        if self.left > 0 {
-            return Err(self.other_pairs());
-        }
-        match self.text.end_doc(store) {
-            Ok(()) => Ok(()),
-            Err(refusal) => Err(Fault::of_store(refusal)),
-        }
-    }
-
-    // Begins a document where one begins.
-    fn begin_if<S: Store>(&mut self, store: &mut S, begins: bool) -> Result<(), Fault>
-        requires next { IsNext self.old (S.files store.old) (only_if begins start_mark) }
-        ensures { Between S.files S.reads S.faults store.old store.new
-            (PassStep self.old self.new (only_if begins start_mark) result) }
-    {
-        if begins { self.begin(store) } else { Ok(()) }
-    }
-
-    // Writes a piece where there is one.
-    fn piece_if<S: Store>(
-        &mut self,
-        store: &mut S,
-        ends: bool,
-        stream: Stream,
-        piece: &[u8],
-    ) -> Result<(), Fault>
-        requires next { IsNext self.old (S.files store.old) (piece_if ends stream piece.now) }
-        ensures { Between S.files S.reads S.faults store.old store.new
-            (PassStep self.old self.new (piece_if ends stream piece.now) result) }
-    {
-        if ends {
-            self.piece(store, stream, piece)
-        } else {
-            Ok(())
-        }
-    }
-
-    // Ends the open document where it ends.
-    fn end_if<S: Store>(&mut self, store: &mut S, ends: bool) -> Result<(), Fault>
-        requires next { IsNext self.old (S.files store.old) (only_if ends stop_mark) }
-        ensures { Between S.files S.reads S.faults store.old store.new
-            (PassStep self.old self.new (only_if ends stop_mark) result) }
-    {
-        if ends { self.end(store) } else { Ok(()) }
-    }
-
-    /// Writes what is met with one byte, which mostly is nothing.
-    #[inline]
-    pub(crate) fn take<S: Store>(&mut self, store: &mut S, met: &Met) -> Result<(), Fault>
-        requires next { IsNext self.old (S.files store.old) (marks_of met.now) }
-        ensures { Between S.files S.reads S.faults store.old store.new
-            (PassStep self.old self.new (marks_of met.now) result) }
-    {
-        if met.is_nothing() {
-            return Ok(());
-        }
-        self.take_marks(store, met)
-    }
-
-    // Writes each of the four that is met.
-    fn take_marks<S: Store>(&mut self, store: &mut S, met: &Met) -> Result<(), Fault>
-        requires next { IsNext self.old (S.files store.old) (marks_of met.now) }
-        ensures { Between S.files S.reads S.faults store.old store.new
-            (PassStep self.old self.new (marks_of met.now) result) }
-    {
-        self.begin_if(store, met.begins())?;
-        self.piece_if(store, met.has_piece(), met.kind(), met.piece())?;
-        self.piece_if(store, met.has_other(), met.other_kind(), &[])?;
-        self.end_if(store, met.ends())
-    }
-
-    /// Ends the text and the runs, behind the marks of a whole collection. Refused where the plan has
-    /// more documents. It reads the parts of the runs alone, and what it reads is damaged only where
-    /// the store does not tell its files.
-    pub(crate) fn finish<S: Store>(self, store: &mut S) -> Result<Inverted<'a>, Fault>
-        requires whole { IsWhole self (S.files store.old) }
-        ensures ends { HandsOn self.entry (S.files store.old) (S.files store.new) result }
-        ensures step { Between S.files S.reads S.faults store.old store.new
-            (SortStep OfSecond self.entry.base) }
-        ensures refused { EndRefused self.entry S.files S.faults store.old store.new result }
-    {
-        // A law: what the runs took stays while the text is written.
-        runs_stay();
-        let mut pass = self;
-        let text_bytes = match pass.end_text(store) {
-            Ok(size) => size,
-            Err(refusal) => return Err(refusal),
-        };
-        match pass.into_index().merge(store, text_bytes) {
-            Ok(inverted) => Ok(inverted),
-            Err(refusal) => Err(Fault::from(refusal)),
-        }
-    }
-
-    // The occurrences, without the text.
-    fn into_index(self) -> Inverter<'a>
-        ensures { result ≡ self.entry.index }
-    {
-        let SecondPass { index, .. } = self;
-        index
-    }
-
-    // Ends the text, and answers its size. Refused where the plan has more documents.
-    fn end_text<S: Store>(&mut self, store: &mut S) -> Result<u64, Fault>
-        requires whole { IsWhole self.old (S.files store.old) }
-        ensures { Between S.files S.reads S.faults store.old store.new
-            (TextEnd self.old self.new result) }
-    {
-        let plan = self.plan;
-        if (self.doc as usize) < plan.pairs.len() {
-            return Err(Fault::Changed {
-                what: What::Documents,
-                first: plan.pairs.len() as u64,
-                second: u64::from(self.doc),
-            });
-        }
-        match self.text.finish(store) {
-            Ok(size) => Ok(size),
             Err(refusal) => Err(Fault::of_store(refusal)),
         }
     }
@@ -301,6 +140,86 @@ impl<'a> SecondPass<'a> {
             first,
             second,
         }
+    }
+}
+
+impl<'a, S: Store> MarkWriter<'a, S> for SecondPass<'a> {
+    ghost pass = { λ p. p };
+
+    fn begin_if(&mut self, store: &mut S, begins: bool) -> Result<(), Fault> {
+        if !begins {
+            return Ok(());
+        }
+        // A law: what the runs took stays while the text is written.
+        runs_stay();
+        let plan = self.plan;
+        let at = self.doc as usize;
+        if at >= plan.pairs.len() {
+            return Err(Fault::Changed {
+                what: What::Documents,
+                first: plan.pairs.len() as u64,
+                second: u64::from(self.doc) + 1,
+            });
+        }
+        let pairs = plan.pairs[at];
+        match self.text.begin_doc(store, pairs) {
+            Ok(()) => {}
+            Err(refusal) => return Err(Fault::of_store(refusal)),
+        }
+        self.doc += 1;
+        self.left = 2 * u64::from(pairs);
+        Ok(())
+    }
+
+    fn piece_if(
+        &mut self,
+        store: &mut S,
+        is_met: bool,
+        stream: Stream,
+        piece: &[u8],
+    ) -> Result<(), Fault> {
+        if !is_met {
+            return Ok(());
+        }
+        if self.left == 0 {
+            return Err(self.other_pairs());
+        }
+        self.put_piece(store, stream, piece)
+    }
+
+    fn end_if(&mut self, store: &mut S, ends: bool) -> Result<(), Fault> {
+        if !ends {
+            return Ok(());
+        }
+        // A law: what the runs took stays while the text is written.
+        runs_stay();
+        if self.left > 0 {
+            return Err(self.other_pairs());
+        }
+        match self.text.end_doc(store) {
+            Ok(()) => Ok(()),
+            Err(refusal) => Err(Fault::of_store(refusal)),
+        }
+    }
+
+    fn end_text(&mut self, store: &mut S) -> Result<u64, Fault> {
+        let plan = self.plan;
+        if (self.doc as usize) < plan.pairs.len() {
+            return Err(Fault::Changed {
+                what: What::Documents,
+                first: plan.pairs.len() as u64,
+                second: u64::from(self.doc),
+            });
+        }
+        match self.text.finish(store) {
+            Ok(size) => Ok(size),
+            Err(refusal) => Err(Fault::of_store(refusal)),
+        }
+    }
+
+    fn into_index(self) -> Inverter<'a> {
+        let SecondPass { index, .. } = self;
+        index
     }
 }
 

@@ -11,30 +11,27 @@ ghost use Rattle.mg_dev.specs.Files.{Files, SameReads, file_at};
 ghost use Rattle.mg_dev.specs.Names.{full_name};
 ghost use Rattle.mg_dev.specs.declared.part.Part.TheVariants as part;
 ghost use Rattle.mg_dev.specs.Moments.{Between};
-ghost use Rattle.mg_defs.specs.Heads.{IsWithin};
 ghost use Rattle.mg_defs.specs.Marks.{Mark};
-ghost use Rattle.mg_defs.specs.Occurrences.{occurrences};
-ghost use Rattle.mg_layout.specs.HeadAnswers.{fields_of};
 ghost use Rattle.mg_model.specs.Models.{PartsHold};
 ghost use Rattle.mg_make.specs.DocCounting.{AreDocCounts};
 ghost use Rattle.mg_make.specs.Finishing.{budget_of};
-ghost use Rattle.mg_make.specs.Plans.{IsPlan, IsPlanOf};
-ghost use Rattle.mg_make.specs.Putting.{ForHanded, ForScanned, HandedRefused, HandsFor, HasPeakOf, IsHanded, IsUnbuilt, MakesHead, MakesIndex, OfPass, ScannedRefused};
+ghost use Rattle.mg_make.specs.Plans.{IsPlan};
+ghost use Rattle.mg_make.specs.Putting.{ForScanned, HandsFor, IsHanded, IsUnbuilt, OfPass, ScannedRefused};
 ghost use Rattle.mg_make.specs.Scanning.{HasMet};
 ghost use Rattle.mg_make.specs.Second.{HasWritten};
-ghost use Rattle.mg_make.specs.Index.{OfIndex};
+ghost use Rattle.mg_make.specs.SetSteps.{RestStep};
 ghost use Rattle.mg_make.specs.Steps.{PutStep, SortStep};
 ghost use Rattle.mg_make.specs.Written.{OfSecond, WroteParts};
 
 use crate::doc_counts::DocCounts;
-use crate::index::write_all;
+use crate::index::{Rest, write_all};
 use crate::inverter::Inverted;
+use crate::mark_writer::{MarkWriter, end_marks, put_marks};
 use crate::plan::Plan;
 use crate::scanner::Scanner;
 use crate::second::SecondPass;
 use mg_dev::{Fault, FileRef, Part, PutErr, Store};
 use mg_layout::{BUILT, Head};
-use mg_model::Stream;
 use mg_runs::Pool;
 use mg_text_writer::text_has_its_documents;
 use std::alloc::Global;
@@ -83,27 +80,27 @@ pub(crate) fn open_parts<'a, S: Store>(
 }
 
 /// Ends what was put: what is met at the end is written, and then text and runs are ended.
-pub(crate) fn end_pass<'a, S: Store>(
+pub(crate) fn end_pass<'a, S: Store, W: MarkWriter<'a, S> + Drop>(
     store: &mut S,
     scanner: &mut Scanner,
-    pass: SecondPass<'a>,
+    writer: W,
 ) -> Result<Inverted<'a>, Fault>
     requires put { (fed : List ℕ) × (met : List Mark) × HasMet scanner.old fed met
-        × HasWritten pass (S.files store.old) met × (length fed < 2 ^ 32) }
-    ensures handed { ForScanned scanner.old pass.entry (S.files store.old)
-        (HandsFor pass.entry (S.files store.old) (S.files store.new) result) }
+        × HasWritten (W.pass writer) (S.files store.old) met × (length fed < 2 ^ 32) }
+    ensures handed { ForScanned scanner.old (W.pass writer) (S.files store.old)
+        (HandsFor (W.pass writer) (S.files store.old) (S.files store.new) result) }
     ensures step { Between S.files S.reads S.faults store.old store.new
-        (SortStep OfSecond pass.entry.base) }
-    ensures refused { ScannedRefused scanner.old pass.entry S.files S.faults store.old store.new
-        result }
+        (SortStep OfSecond (W.pass writer).base) }
+    ensures refused { ScannedRefused scanner.old (W.pass writer) S.files S.faults store.old
+        store.new result }
 {
-    let mut pass = pass;
+    let mut writer = writer;
     scanner.finish();
-    match pass.take(store, scanner.met()) {
+    match put_marks(&mut writer, store, scanner.met()) {
         Ok(()) => {}
         Err(refusal) => return Err(refusal),
     }
-    pass.finish(store)
+    end_marks(store, writer)
 }
 
 /// Writes lists, lexicon and weights, and makes the head that belongs to the set, with the greatest use of
@@ -112,55 +109,43 @@ pub(crate) fn write_rest<S: Store>(
     alloc: Global,
     store: &mut S,
     base: &str,
-    plan: &Plan,
-    inverted: Inverted<'_>,
-    sums: &mut Vec<u64>,
-    size: u64,
-    limit: u64,
+    inverted: &mut Inverted<'_>,
+    rest: &mut Rest<'_>,
 ) -> Result<(Head, u64), Fault>
     requires handed { (fed : List ℕ) × (before : Option Files) ×
-        IsHanded plan.now limit base.now fed before (S.files store.old) inverted
-        × (size ≡ length fed) }
-    requires plan { IsPlan plan.now }
-    requires zero { sums.old.items ≡ replicate (length plan.now.pairs) 0 }
-    ensures within { IfOk result (λ made. IsWithin (fields_of made.0)) }
-    ensures head { ForHanded plan.now limit base.now (S.files store.old) inverted.entry
-        (MakesHead size plan.now limit (S.files store.old) result) }
-    ensures peak { ForHanded plan.now limit base.now (S.files store.old) inverted.entry
-        (λ fed. IsPlanOf plan.now fed → HasPeakOf limit result fed) }
-    ensures stand { ForHanded plan.now limit base.now (S.files store.old) inverted.entry
-        (MakesIndex plan.now base.now S.files store.old store.new result) }
-    ensures step { Between S.files S.reads S.faults store.old store.new
-        (SortStep OfIndex base.now) }
-    ensures refused { HandedRefused plan.now limit base.now inverted.entry S.files S.faults
-        store.old store.new result }
+        IsHanded rest.old.plan.now rest.old.limit base.now fed before (S.files store.old)
+        inverted.old × (rest.old.size ≡ length fed) }
+    requires plan { IsPlan rest.old.plan.now }
+    requires zero { rest.old.sums.items ≡ replicate (length rest.old.plan.now.pairs) 0 }
+    ensures { Between S.files S.reads S.faults store.old store.new
+        (RestStep rest.old.plan.now rest.old.limit rest.old.size base.now inverted.old result) }
 {
-    let Inverted {
-        text_bytes,
-        mut merge,
-        counts,
-        occurrences,
-    } = inverted;
     // By this law a text has as many bytes as its documents' codes make.
     text_has_its_documents();
-    let sizes = match write_all(alloc, store, base, &mut merge, plan, &counts, sums) {
+    let text_bytes = inverted.text_bytes;
+    let occurrences = inverted.occurrences;
+    let plan = rest.plan;
+    let cap = (rest.limit / 12) as u32;
+    let collection = rest.size;
+    let sizes = match write_all(alloc, store, base, inverted, rest) {
         Ok(sizes) => sizes,
         Err(refusal) => return Err(refusal),
     };
+    let entries = plan.entries();
     let head = Head {
         version: BUILT,
-        documents: plan.documents(),
-        words: plan.model.canon(Stream::Words).count(),
-        others: plan.model.canon(Stream::Others).count(),
-        terms: plan.table.count(),
-        cap: (limit / 12) as u32,
+        documents: entries.documents,
+        words: entries.words,
+        others: entries.others,
+        terms: entries.terms,
+        cap,
         open_end: plan.open_end,
-        collection: size,
+        collection,
         occurrences,
-        runs: merge.runs(),
+        runs: inverted.merge.runs(),
         text_bytes,
         post_bytes: sizes.post_bytes,
         skip_count: sizes.skip_count,
     };
-    Ok((head, merge.peak()))
+    Ok((head, inverted.merge.peak()))
 }

@@ -6,18 +6,19 @@
 ghost use Rattle.std.specs.Prelude.{◌≡◌, ◌<◌, ◌≤◌, ◌-◌, ◌^◌, ◌++◌, ◌∷◌, ℕ, List, [], length, IfOk, OnOk, Option, Some};
 ghost use Rattle.std.specs.Option.{IsSome};
 ghost use Rattle.mg_dev.specs.Causes.{HasPutCause};
-ghost use Rattle.mg_dev.specs.Files.{Files, SameReads, file_at};
+ghost use Rattle.mg_dev.specs.Files.{Files, file_at};
+ghost use Rattle.mg_dev.specs.Moments.{Between};
 ghost use Rattle.mg_dev.specs.Names.{full_name};
 ghost use Rattle.mg_dev.specs.declared.part.Part.TheVariants as part;
-ghost use Rattle.mg_defs.specs.Heads.{IsWithin};
-ghost use Rattle.mg_layout.specs.HeadAnswers.{fields_of};
 ghost use Rattle.mg_layout.specs.Stands.{StandsForNone, StandsIn};
-ghost use Rattle.mg_make.specs.Finishing.{ReadRuns};
-ghost use Rattle.mg_make.specs.Plans.{IsPlan, IsPlanOf, IsRoomFor};
-ghost use Rattle.mg_make.specs.Putting.{ForPut, GrewByHead, HasHeadOf, HasPeakOf, HasPut, IsEmptied, IsUnbuilt, MakesReady, NextRefused, OthersSame, PutRefused};
+ghost use Rattle.mg_make.specs.Plans.{IsPlan, IsRoomFor};
+ghost use Rattle.mg_make.specs.Putting.{ForPut, GrewByHead, HasPut, IsEmptied, IsUnbuilt, NextRefused, OthersSame, PutRefused};
 ghost use Rattle.mg_make.specs.Putting.{StandsForNoOther, WhereHeadLacks, with_head};
 ghost use Rattle.mg_make.specs.Outcomes.{HasSummaryOf, MakesSet};
+ghost use Rattle.mg_make.specs.SetSteps.{ByteStep, PartsStep};
 
+use crate::index::Rest;
+use crate::mark_writer::put_marks;
 use crate::plan::{Plan, Room};
 use crate::scanner::Scanner;
 use crate::second::SecondPass;
@@ -110,25 +111,15 @@ impl<'a> SetWriter<'a> {
         self.take_other(store, byte)
     }
 
-    /// Writes what a byte makes that may end a piece, or begin or end a document.
+    // Writes what a byte makes that may end a piece, or begin or end a document.
     fn take_other<S: Store>(&mut self, store: &mut S, byte: u8) -> Result<(), Fault>
         requires put { (fed : List ℕ) × HasPut self.old (S.files store.old) fed
             × (length fed < 2 ^ 32 - 1) }
-        ensures put { OnOk result ((fed : List ℕ) → HasPut self.old (S.files store.old) fed →
-            HasPut self.new (S.files store.new) (fed ++ byte ∷ [])) }
-        ensures base { self.new.base ≡ self.old.base }
-        ensures plan { self.new.plan ≡ self.old.plan }
-        ensures limit { self.new.limit ≡ self.old.limit }
-        ensures head { IsSome (S.files store.old) →
-            file_at (S.files store.new) (full_name self.old.base part.Head) ≡ Some [] }
-        ensures others { OthersSame self.old.base (S.files store.old) (S.files store.new) }
-        ensures reads { SameReads (S.reads store.old) (S.reads store.new) }
-        ensures later { S.faults store.old ≤ S.faults store.new }
-        ensures refused { NextRefused self.old (λ more. byte ∷ more) S.files S.faults store.old
-            store.new result }
+        ensures { Between S.files S.reads S.faults store.old store.new
+            (ByteStep self.old self.new byte result) }
     {
         self.scanner.take(byte);
-        match self.pass.take(store, self.scanner.met()) {
+        match put_marks(&mut self.pass, store, self.scanner.met()) {
             Ok(()) => {}
             Err(refusal) => return Err(refusal),
         }
@@ -141,19 +132,8 @@ impl<'a> SetWriter<'a> {
     fn write_parts<S: Store>(self, alloc: Global, store: &mut S) -> Result<(Head, u64), Fault>
         requires put { (fed : List ℕ) × HasPut self (S.files store.old) fed
             × (length fed < 2 ^ 32) }
-        ensures ready { ForPut self.entry (S.files store.old)
-            (MakesReady self.entry (S.files store.new) result) }
-        ensures within { IfOk result (λ made. IsWithin (fields_of made.0)) }
-        ensures head { ForPut self.entry (S.files store.old)
-            (HasHeadOf self.entry.plan self.entry.limit result) }
-        ensures peak { (fed : List ℕ) → HasPut self.entry (S.files store.old) fed →
-            IsPlanOf self.entry.plan fed → HasPeakOf self.entry.limit result fed }
-        ensures gone { IsSome (S.files store.old) →
-            file_at (S.files store.new) (full_name self.entry.base part.Head) ≡ Some [] }
-        ensures others { OthersSame self.entry.base (S.files store.old) (S.files store.new) }
-        ensures reads { ReadRuns (S.reads store.old) (S.reads store.new) }
-        ensures later { S.faults store.old ≤ S.faults store.new }
-        ensures refused { PutRefused self.entry S.files S.faults store.old store.new result }
+        ensures { Between S.files S.reads S.faults store.old store.new
+            (PartsStep self.entry result) }
     {
         let SetWriter {
             base,
@@ -161,16 +141,22 @@ impl<'a> SetWriter<'a> {
             limit,
             mut scanner,
             pass,
-            mut sums,
+            sums,
             size,
         } = self;
         // By this law Text and Places hold the documents that were written.
         text_has_its_documents();
-        let inverted = match end_pass(store, &mut scanner, pass) {
+        let mut inverted = match end_pass(store, &mut scanner, pass) {
             Ok(inverted) => inverted,
             Err(refusal) => return Err(refusal),
         };
-        write_rest(alloc, store, base, plan, inverted, &mut sums, size, limit)
+        let mut rest = Rest {
+            plan,
+            sums,
+            size,
+            limit,
+        };
+        write_rest(alloc, store, base, &mut inverted, &mut rest)
     }
 
     /// Ends the bytes, merges the runs, writes lists, lexicon and weights, and last appends the head.

@@ -7,8 +7,9 @@ use Rattle.mg_lex.specs.Terms.{terms_of}
 use Rattle.mg_lex.specs.Writing.{TookTerms}
 use Rattle.mg_post.specs.Writing.{Took}
 use Rattle.mg_make.specs.Listing.{ListsStand}
+use Rattle.mg_make.proofs.CallerLemmas.{rose_behind}
 use Rattle.mg_make.proofs.IndexEnds.{ended}
-use Rattle.mg_make.proofs.ListFrames.{passed_on_all, rose_later}
+use Rattle.mg_make.proofs.ListFrames.{passed_on_all}
 use Rattle.mg_make.proofs.ListSteps.{took_between}
 use Rattle.mg_make.proofs.StepLaws.{step_for, step_look, step_more, step_put}
 use Rattle.mg_make.proofs.lists.write_index.Goals as goal
@@ -16,7 +17,7 @@ use Rattle.mg_make.proofs.lists.write_index.Goals as goal
 pub returns-in_err-expect_end-clause-refused : goal.returns-in_err-expect_end-clause-refused
 returns-in_err-expect_end-clause-refused g c =
     passed_on_all _ c.from_residual-in_err-expect_end.result c.in_err-expect_end.field-0.0 (err_from_is_err_and c.from_residual-in_err-expect_end.result c.from_residual-in_err-expect_end.ensures.1)
-    (rose_later _ _ _ c.write_terms.ensures.step.later)
+    (rose_behind _ _ _ c.write_terms.ensures.step.later)
     (λ collection has.
     let e = ended c.args.terms.now.table.now.terms c.args.terms.now.counts.now.docs collection _ _ _ _ _ _ refl (c.in_ok-write_terms.ensures.indexed collection has) in
     (e.told, e.merging))

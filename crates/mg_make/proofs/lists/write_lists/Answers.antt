@@ -1,8 +1,9 @@
 use Rattle.std.proofs.Common.{arith, ◌≡◌, length, subst}
 use Rattle.std.specs.Prelude.{OnOk}
 use Rattle.mg_make.specs.Listing.{ListsStand}
+use Rattle.mg_make.proofs.CallerLemmas.{rose_behind}
 use Rattle.mg_make.proofs.IndexEnds.{can_index_begun, indexed_begun}
-use Rattle.mg_make.proofs.ListFrames.{rose_later, stops_within}
+use Rattle.mg_make.proofs.ListFrames.{stops_within}
 use Rattle.mg_make.proofs.StepLaws.{step_for, step_more, step_put}
 use Rattle.mg_make.proofs.lists.write_lists.Goals as goal
 
@@ -50,7 +51,7 @@ pub returns-clause-refused : goal.returns-clause-refused
 returns-clause-refused g c =
     let start = c.in-Ok.ensures in
     let all : c.in-Ok.writer.lists.all ≡ length c.args.sums.now.items = omega (arith, start.all, c.len-all.ensures, c.args.sums.now.ok.0) in
-    stops_within _ _ c.write_index.result (rose_later _ _ _ c.start_writers.ensures.step.cause.later)
+    stops_within _ _ c.write_index.result (rose_behind _ _ _ c.start_writers.ensures.step.cause.later)
     (λ collection has.
     indexed_begun c.runs_stay.ensures.left c.squares_fit.ensures.most c.args.terms.now.table.now.terms c.args.terms.now.counts.now.docs collection _ _ _ _ _ _
     c.args.base.now _ all c.requires.base c.start_writers.ensures.step.wrote start.lists start.lex c.requires.zero has)

@@ -1,7 +1,8 @@
 use Rattle.std.proofs.Common.{◌∙◌, length, sym, subst}
 use Rattle.std.proofs.lemmas.Result.{err_from_is_err_and}
 use Rattle.mg_make.specs.Listing.{AreListSizes, HasIndexed}
-use Rattle.mg_make.proofs.ListFrames.{passed_on_each, rose_later}
+use Rattle.mg_make.proofs.CallerLemmas.{rose_behind}
+use Rattle.mg_make.proofs.ListFrames.{passed_on_each}
 use Rattle.mg_make.proofs.StepLaws.{step_then}
 use Rattle.mg_make.proofs.lists.write_terms.Goals as goal
 
@@ -17,7 +18,7 @@ returns-in_err-write_term-clause-refused g c =
     (λ collection. HasIndexed c.args.terms.now.table.now.terms c.args.terms.now.counts.now.docs collection 0 c.args.merge.now c.args.writer.now.lists
     c.args.writer.now.lex c.args.sums.now.items (g.S.Store.files c.args.store.now))
     c.from_residual.result c.in_err-write_term.field-0.0 (err_from_is_err_and c.from_residual.result c.from_residual.ensures.1)
-    (rose_later _ _ _ inv.step.later) inv.indexed c.in_err-write_term.ensures.refused
+    (rose_behind _ _ _ inv.step.later) inv.indexed c.in_err-write_term.ensures.refused
 
 pub returns-in_err-write_term-clause-step : goal.returns-in_err-write_term-clause-step
 returns-in_err-write_term-clause-step g c = step_then c.loop-number.invariant.step c.write_term.ensures.step

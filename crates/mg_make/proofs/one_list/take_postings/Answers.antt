@@ -1,7 +1,8 @@
 use Rattle.std.proofs.Common.{arith, ◌∙◌, ◌≡◌, ◌++◌, take, drop, subst}
 use Rattle.std.proofs.lemmas.Result.{err_from_is_err_and}
 use Rattle.mg_make.specs.Listing.{IsInList}
-use Rattle.mg_make.proofs.ListFrames.{passed_on, rose_later}
+use Rattle.mg_make.proofs.CallerLemmas.{rose_behind}
+use Rattle.mg_make.proofs.ListFrames.{passed_on}
 use Rattle.mg_make.proofs.ListSteps.{names_more, one_more_taken, pushed_more, rest_after}
 use Rattle.mg_make.proofs.StepLaws.{step_then}
 use Rattle.mg_make.proofs.one_list.take_postings.Goals as goal
@@ -9,7 +10,7 @@ use Rattle.mg_make.proofs.one_list.take_postings.Goals as goal
 pub returns-in_err-last-clause-refused : goal.returns-in_err-last-clause-refused
 returns-in_err-last-clause-refused g c =
     let inv = c.loop.invariant in
-    passed_on c.from_residual.result c.in_err-last.field-0.0 (err_from_is_err_and c.from_residual.result c.from_residual.ensures.1) (rose_later _ _ _ inv.step.later)
+    passed_on c.from_residual.result c.in_err-last.field-0.0 (err_from_is_err_and c.from_residual.result c.from_residual.ensures.1) (rose_behind _ _ _ inv.step.later)
     (rest_after c.args.number c.args.docs c.loop.counter _ _ _ _ _ _ _ _ (omega arith) inv.step.wrote.told inv.told)
     c.in_err-last.ensures.refused
 

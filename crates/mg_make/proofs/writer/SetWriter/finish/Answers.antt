@@ -15,7 +15,7 @@ use Rattle.mg_make.specs.Putting.{IsReady, OthersSame, Putting}
 use Rattle.mg_make.specs.Summaries.{summary_by}
 use Rattle.mg_make.proofs.HeadLaws.{empty_stands_for_none}
 use Rattle.mg_make.proofs.HeadSteps.{append_others, append_stops, grown_whole, left_here, merge_a_here, merge_b_here, stands_here, stands_of}
-use Rattle.mg_make.proofs.SetFrames.{others_both}
+use Rattle.mg_make.proofs.CallerLemmas.{others_more}
 use Rattle.mg_make.proofs.writer.SetWriter.finish.Goals as goal
 
 pub returns-in-Err-clause-left : goal.returns-in-Err-clause-left
@@ -102,7 +102,7 @@ returns-in-Ok-write-clause-summary g c = λ fed told put plan_of.
     ∙ ap (λ n. summary_by (head_of 2 (run_cap c.args.self.limit) c.args.self.plan.code fed) n c.args.self.limit) (c.in-Ok.ensures.peak fed put plan_of)
 
 pub returns-in-Ok-write-clause-others : goal.returns-in-Ok-write-clause-others
-returns-in-Ok-write-clause-others g c = others_both c.args.self.base (g.S.Store.files c.args.store.now) (g.S.Store.files c.write_parts.new.store)
+returns-in-Ok-write-clause-others g c = others_more c.args.self.base (g.S.Store.files c.args.store.now) (g.S.Store.files c.write_parts.new.store)
     (g.S.Store.files c.write.new.store) c.in-Ok.ensures.others
     (subst (λ b. OthersSame b (g.S.Store.files c.write_parts.new.store) (g.S.Store.files c.write.new.store)) (ap (λ (v : Putting). v.base) c.self.view_is)
     (append_others c.self.inside.base.now _ (g.S.Store.files c.write_parts.new.store) (g.S.Store.files c.write.new.store) c.write.result
@@ -123,7 +123,7 @@ returns-in-Err-write-clause-left g c = λ fed told put plan_of.
     (heads.head_bytes (fields_of c.in-Ok.made.0))) (ap (λ (v : Putting). v.base) c.self.view_is) c.in-Err-write.ensures.content))
 
 pub returns-in-Err-write-clause-others : goal.returns-in-Err-write-clause-others
-returns-in-Err-write-clause-others g c = others_both c.args.self.base (g.S.Store.files c.args.store.now) (g.S.Store.files c.write_parts.new.store)
+returns-in-Err-write-clause-others g c = others_more c.args.self.base (g.S.Store.files c.args.store.now) (g.S.Store.files c.write_parts.new.store)
     (g.S.Store.files c.write.new.store) c.in-Ok.ensures.others
     (subst (λ b. OthersSame b (g.S.Store.files c.write_parts.new.store) (g.S.Store.files c.write.new.store)) (ap (λ (v : Putting). v.base) c.self.view_is)
     (append_others c.self.inside.base.now _ (g.S.Store.files c.write_parts.new.store) (g.S.Store.files c.write.new.store) c.write.result

@@ -1,7 +1,7 @@
 use Rattle.std.proofs.Common.{arith, ◌∙◌, ap, sym}
 use Rattle.std.proofs.lemmas.Result.{err_from_is_err_and}
 use Rattle.mg_make.proofs.PutSteps.{head_others, pass_others, put_nothing, unbuilt_behind}
-use Rattle.mg_make.proofs.SetFrames.{others_both}
+use Rattle.mg_make.proofs.CallerLemmas.{others_more}
 use Rattle.mg_make.specs.Plans.{Rooming}
 use Rattle.mg_dev.specs.declared.part.Part.TheVariants.{Plain}
 use Rattle.mg_make.proofs.StepLaws.{cause_done, cause_then, put_cause}
@@ -11,7 +11,7 @@ pub returns-in_err-pass-clause-unbuilt : goal.returns-in_err-pass-clause-unbuilt
 returns-in_err-pass-clause-unbuilt g c = unbuilt_behind c.args.base.now _ _ _ c.in_ok-reset_head.ensures.empty c.in_err-pass.ensures.step.wrote
 
 pub returns-in_err-pass-clause-others : goal.returns-in_err-pass-clause-others
-returns-in_err-pass-clause-others g c = others_both c.args.base.now _ _ _ (head_others c.args.base.now _ _ c.in_ok-reset_head.ensures.wrote)
+returns-in_err-pass-clause-others g c = others_more c.args.base.now _ _ _ (head_others c.args.base.now _ _ c.in_ok-reset_head.ensures.wrote)
     (pass_others c.args.base.now _ _ c.in_err-pass.ensures.step.wrote)
 
 pub returns-clause-put : goal.returns-clause-put
@@ -24,7 +24,7 @@ pub returns-clause-unbuilt : goal.returns-clause-unbuilt
 returns-clause-unbuilt g c = unbuilt_behind c.args.base.now _ _ _ c.in_ok-reset_head.ensures.empty c.in_ok-pass.ensures.step.wrote
 
 pub returns-clause-others : goal.returns-clause-others
-returns-clause-others g c = others_both c.args.base.now _ _ _ (head_others c.args.base.now _ _ c.in_ok-reset_head.ensures.wrote) (pass_others c.args.base.now _ _ c.in_ok-pass.ensures.step.wrote)
+returns-clause-others g c = others_more c.args.base.now _ _ _ (head_others c.args.base.now _ _ c.in_ok-reset_head.ensures.wrote) (pass_others c.args.base.now _ _ c.in_ok-pass.ensures.step.wrote)
 
 pub returns-in_err-reset_head-clause-plain : goal.returns-in_err-reset_head-clause-plain
 returns-in_err-reset_head-clause-plain g c = omega (arith, c.reset_head.ensures.reads Plain)

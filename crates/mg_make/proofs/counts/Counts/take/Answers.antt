@@ -5,7 +5,7 @@ use Rattle.mg_defs.specs.Marks.{Mark, start, stop}
 use Rattle.mg_make.specs.Counting.{AreFew, Counting, IsCounted, StopsAt}
 use Rattle.mg_make.specs.Meeting.{Meeting, marks_of, only_if}
 use Rattle.mg_make.proofs.Counted.{AddUp, begin_of, few-other, few-piece, in-all, other-is, other_of, passed-on, piece-is, piece_of, stops-begin, stops-other, stops-piece}
-use Rattle.mg_make.proofs.counts.Counts.take_marks.Goals as goal
+use Rattle.mg_make.proofs.counts.Counts.take.Goals as goal
 
 abbrev Refused : Counting → Meeting → Fault → Type 0
 Refused old m fault = (before : List Mark) → IsCounted old before → StopsAt before (marks_of m) fault

@@ -3,8 +3,8 @@ use Rattle.mg_make.specs.Plans.{Plan}
 use Rattle.mg_make.proofs.Finishing.{fewer_documents, whole_is_closed}
 use Rattle.mg_make.proofs.SecondSteps.{none_open}
 use Rattle.mg_make.proofs.Stopping.{stops_store}
-use Rattle.mg_make.proofs.second.SecondPass.end_text.Goals as goal
-use Rattle.mg_make.proofs.second.SecondPass.end_text.Goals.{in-Ok, in-Err}
+use Rattle.mg_make.proofs.second.SecondPassMarkWriter.end_text.Goals as goal
+use Rattle.mg_make.proofs.second.SecondPassMarkWriter.end_text.Goals.{in-Ok, in-Err}
 
 pub returns-then-self-len : goal.returns-then-self-len
 returns-then-self-len g c =

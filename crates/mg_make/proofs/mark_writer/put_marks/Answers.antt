@@ -1,34 +1,36 @@
-use Rattle.std.proofs.Common.{◌++◌}
+use Rattle.std.proofs.Common.{◌++◌, refl}
 use Rattle.std.proofs.lemmas.Result.{err_from_is_err_and}
 use Rattle.mg_make.proofs.PassLaws.{pass_first, pass_then}
 use Rattle.mg_make.proofs.Taking.{begin_part, end_part, next_first, next_then, other_part, piece_part}
-use Rattle.mg_make.proofs.second.SecondPass.take_marks.Goals as goal
+use Rattle.mg_make.proofs.mark_writer.put_marks.Goals as goal
 
 pub begin_if-requires : goal.begin_if-requires
 begin_if-requires g c =
     let m = c.args.met.now in
-    record { next = rw c.begins.ensures (next_first _ _ (begin_part m) (piece_part m ++ (other_part m ++ (end_part m))) c.requires.next) }
+    λ k. ((refl, tt), rw c.begins.ensures (next_first _ _ (begin_part m) (piece_part m ++ (other_part m ++ (end_part m))) c.requires.next))
 
 pub piece_if-requires : goal.piece_if-requires
 piece_if-requires g c =
     let m = c.args.met.now in
     let wrote_1 = rw c.begins.ensures at c.in_ok-begin_if.ensures.written in
-    record {
-      next = rw (c.has_piece.ensures, c.kind.ensures, c.piece.ensures.bytes)
+    λ k. (
+      (refl, tt),
+      rw (c.has_piece.ensures, c.kind.ensures, c.piece.ensures.bytes)
           (next_first _ _ (piece_part m) (other_part m ++ (end_part m))
-          (next_then _ _ _ _ (begin_part m) (piece_part m ++ (other_part m ++ (end_part m))) c.requires.next wrote_1));
-    }
+          (next_then _ _ _ _ (begin_part m) (piece_part m ++ (other_part m ++ (end_part m))) c.requires.next wrote_1)),
+    )
 
 pub piece_if-requires-2 : goal.piece_if-requires-2
 piece_if-requires-2 g c =
     let m = c.args.met.now in
     let wrote_1 = rw c.begins.ensures at c.in_ok-begin_if.ensures.written in
     let wrote_2 = rw (c.has_piece.ensures, c.kind.ensures, c.piece.ensures.bytes) at c.in_ok-piece_if.ensures.written in
-    record {
-      next = rw (c.has_other.ensures, c.other_kind.ensures)
+    λ k. (
+      (refl, tt),
+      rw (c.has_other.ensures, c.other_kind.ensures)
           (next_first _ _ (other_part m) (end_part m) (next_then _ _ _ _ (piece_part m) (other_part m ++ (end_part m))
-          (next_then _ _ _ _ (begin_part m) (piece_part m ++ (other_part m ++ (end_part m))) c.requires.next wrote_1) wrote_2));
-    }
+          (next_then _ _ _ _ (begin_part m) (piece_part m ++ (other_part m ++ (end_part m))) c.requires.next wrote_1) wrote_2)),
+    )
 
 pub end_if-requires : goal.end_if-requires
 end_if-requires g c =
@@ -36,12 +38,12 @@ end_if-requires g c =
     let wrote_1 = rw c.begins.ensures at c.in_ok-begin_if.ensures.written in
     let wrote_2 = rw (c.has_piece.ensures, c.kind.ensures, c.piece.ensures.bytes) at c.in_ok-piece_if.ensures.written in
     let wrote_3 = rw (c.has_other.ensures, c.other_kind.ensures) at c.in_ok-piece_if-2.ensures.written in
-    record {
-      next =
-          rw c.ends.ensures (next_then _ _ _ _ (other_part m) (end_part m)
+    λ k. (
+      (refl, tt),
+      rw c.ends.ensures (next_then _ _ _ _ (other_part m) (end_part m)
           (next_then _ _ _ _ (piece_part m) (other_part m ++ (end_part m))
-          (next_then _ _ _ _ (begin_part m) (piece_part m ++ (other_part m ++ (end_part m))) c.requires.next wrote_1) wrote_2) wrote_3);
-    }
+          (next_then _ _ _ _ (begin_part m) (piece_part m ++ (other_part m ++ (end_part m))) c.requires.next wrote_1) wrote_2) wrote_3),
+    )
 
 -- ---- one of the four stops
 

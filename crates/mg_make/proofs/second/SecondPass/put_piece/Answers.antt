@@ -5,29 +5,14 @@ use Rattle.mg_defs.specs.Marks.{code_of, with_doc}
 use Rattle.mg_make.specs.Indexes.{HasTaken}
 use Rattle.mg_make.specs.Plans.{Plan}
 use Rattle.mg_make.specs.Second.{occurring_by}
+use Rattle.mg_make.proofs.CallerLemmas.{rose_behind}
 use Rattle.mg_make.proofs.Frames.{index_kept, runs_wrote, text_kept, text_wrote, wrote_both}
 use Rattle.mg_make.proofs.MarkFronts.{open_at_piece, some_begun, turn_at_piece}
 use Rattle.mg_make.proofs.PassLaws.{pass_refused, text_done, text_refused}
 use Rattle.mg_make.proofs.SecondSteps.{few_taken, may_follow, put_bits, turn_now, wrote_piece}
-use Rattle.mg_make.proofs.Stopping.{other_piece, other_pieces, rose_before, stops_change, stops_store}
-use Rattle.mg_make.proofs.second.SecondPass.piece.Goals as goal
-use Rattle.mg_make.proofs.second.SecondPass.piece.Goals.{in-Ok-add, in-Err-add}
-
-pub other_pairs-requires-clause-begun : goal.other_pairs-requires-clause-begun
-other_pairs-requires-clause-begun g c =
-    let n = c.requires.next in
-    let some = some_begun n.met _ n.collection n.front (open_at_piece n.met c.args.stream c.args.piece.now n.collection n.front) in
-    omega (arith, some, n.written.doc)
-
-pub returns-then-self-eq0 : goal.returns-then-self-eq0
-returns-then-self-eq0 g c =
-    let n = rw (← c.self.view_is) at c.requires.next in
-    let is_open = n.written.is_open ∙ open_at_piece n.met c.args.stream c.args.piece.now n.collection n.front in
-    let none : c.self.inside.left ≡ 0 = c.if-self-eq0.true in
-    rw (← c.self.view_is)
-    (pass_refused (record {
-      cause = λ met collection is front. stops_change _ _ _ c.other_pairs.ensures (other_pieces _ _ met c.args.stream c.args.piece.now collection is front is_open none);
-    }))
+use Rattle.mg_make.proofs.Stopping.{other_piece, stops_change, stops_store}
+use Rattle.mg_make.proofs.second.SecondPass.put_piece.Goals as goal
+use Rattle.mg_make.proofs.second.SecondPass.put_piece.Goals.{in-Ok-add, in-Err-add}
 
 pub returns-in-None : goal.returns-in-None
 returns-in-None g c =
@@ -56,7 +41,7 @@ returns-in-None-term_of g c =
     let at = c.symbol_and_piece.ensures.piece (code_of c.args.stream c.plan.inside.model) c.in-Some.symbol c.args.piece.now found in
     let there = subst (λ (k : TextCode). slice_get (code_of c.args.stream k).pieces c.in-Some.symbol ≡ Some c.args.piece.now) code at in
     let number = c.symbol_and_piece.ensures.number (code_of c.args.stream c.plan.inside.model) c.in-Some.symbol c.args.piece.now found in
-    let more : 0 < c.self.inside.left = omega (arith, c.if-self-eq0.false) in
+    let more : 0 < c.self.inside.left = rw (← c.self.view_is) at c.requires.more in
     let term_is = c.in-None-term_of.ensures.term c.args.piece.now there in
     let e = c.put_piece.ensures in
     rw (← c.self.view_is)
@@ -92,7 +77,7 @@ returns g c =
     let at = c.symbol_and_piece.ensures.piece (code_of c.args.stream c.plan.inside.model) c.in-Some.symbol c.args.piece.now found in
     let there = subst (λ (k : TextCode). slice_get (code_of c.args.stream k).pieces c.in-Some.symbol ≡ Some c.args.piece.now) code at in
     let number = c.symbol_and_piece.ensures.number (code_of c.args.stream c.plan.inside.model) c.in-Some.symbol c.args.piece.now found in
-    let more : 0 < c.self.inside.left = omega (arith, c.if-self-eq0.false) in
+    let more : 0 < c.self.inside.left = rw (← c.self.view_is) at c.requires.more in
     let term_is = c.in-Some-term_of.ensures.term c.args.piece.now there in
     let known = c.in-Some-term_of.ensures.known c.in-Some-term_of.term refl in
     let some = some_begun n.met _ n.collection n.front (open_at_piece n.met c.args.stream c.args.piece.now n.collection n.front) in
@@ -133,7 +118,7 @@ returns g c =
             faults = omega (arith, e.cause.later, a.cause.later);
             refused = record {
               cause = λ met collection is front.
-                  stops_store _ _ _ _ w.of_store-in-Err-add.ensures (λ f. rose_before _ _ _ e.cause.later (w.in-Err-add.ensures.cause.failed f));
+                  stops_store _ _ _ _ w.of_store-in-Err-add.ensures (λ f. rose_behind _ _ _ e.cause.later (w.in-Err-add.ensures.cause.failed f));
             };
           })
     ]

@@ -4,7 +4,7 @@ use Rattle.mg_make.specs.Indexes.{HasTaken, Indexing}
 use Rattle.mg_make.specs.Second.{occurring_by}
 use Rattle.mg_make.proofs.Finishing.{ends_all, finish_by_part, finish_stops, whole_is_closed}
 use Rattle.mg_make.proofs.Frames.{index_kept, runs_alone, runs_wrote, text_wrote, wrote_both}
-use Rattle.mg_make.proofs.second.SecondPass.finish.Goals as goal
+use Rattle.mg_make.proofs.mark_writer.end_marks.Goals as goal
 
 -- ---- the text stops
 
@@ -24,8 +24,9 @@ merge-requires g c =
     let e = c.in-Ok.ensures in
     let same = c.into_index.ensures ∙ e.index in
     let taken = index_kept c.runs_stay.ensures.fed _ _ _ _ _ _ (is.text_base ∙ sym is.runs_base) e.told e.others is.index in
-    let fed = occurring_by c.args.self.plan (marks c.requires.whole.collection) in
-    let terms = length c.args.self.plan.terms.terms in
+    let plan = (g.W.MarkWriter.pass c.args.writer).plan in
+    let fed = occurring_by plan (marks c.requires.whole.collection) in
+    let terms = length plan.terms.terms in
     record { taken = (terms, fed, subst (λ (i : Indexing). HasTaken i (g.S.Store.files c.end_text.new.store) terms fed) (sym same) taken) }
 
 pub returns-in-Ok-merge-clause-ends : goal.returns-in-Ok-merge-clause-ends

@@ -1,0 +1,86 @@
+-- What one step of a writer of a set does, told of the moments before it and after it.
+use Rattle.std.specs.Prelude.{◌≡◌, ◌<◌, ◌≤◌, ◌^◌, ◌++◌, ◌∷◌, ℕ, List, [], length, IfErr, IfOk, OnOk, Some}
+use Rattle.std.specs.Option.{IsSome}
+use Rattle.std.specs.declared.option.Option.{Option}
+use Rattle.std.specs.declared.result.Result.{Result}
+use Rattle.mg_dev.specs.Causes.{Rose}
+use Rattle.mg_dev.specs.Files.{Files, Reads, SameReads, file_at}
+use Rattle.mg_dev.specs.Names.{full_name}
+use Rattle.mg_dev.specs.declared.fault.Fault.{Fault}
+use Rattle.mg_dev.specs.declared.part.Part.TheVariants as part
+use Rattle.mg_defs.specs.Heads.{IsWithin}
+use Rattle.mg_layout.specs.HeadAnswers.{fields_of}
+use Rattle.mg_layout.specs.declared.head.Head.{Head}
+use Rattle.mg_make.specs.Finishing.{ReadRuns}
+use Rattle.mg_make.specs.Index.{OfIndex, WroteIndex}
+use Rattle.mg_make.specs.Plans.{IsPlanOf, Plan}
+use Rattle.mg_make.specs.Putting.{ForHanded, ForPut, HasHeadOf, HasPeakOf, HasPut, MakesHead, MakesReady, OthersSame, PlanStops, Putting}
+use Rattle.mg_make.specs.Steps.{SortStep}
+use Rattle.mg_make.specs.Written.{SecondStops}
+use Rattle.mg_make.specs.declared.inverter.Inverted.{Inverted}
+
+-- one byte more is put, or why it is not
+pub record ByteStep (old new : Putting) (byte : ℕ) (result : Result (Unit {0}) Fault)
+    (files_before files_now : Option Files)
+    (reads_before reads_now : Reads) (faults_before faults_now : ℕ) : Type 0 where
+  -- when it is done, the byte stands behind all that were put before
+  pub put : OnOk result ((fed : List ℕ) → HasPut old files_before fed → HasPut new files_now (fed ++ byte ∷ []))
+  -- the base, the plan and the size of the pool stay
+  pub base : new.base ≡ old.base
+  pub plan : new.plan ≡ old.plan
+  pub limit : new.limit ≡ old.limit
+  -- the head is there and empty
+  pub head : IsSome files_before → file_at files_now (full_name old.base part.Head) ≡ Some []
+  -- files that are no part of the set stay
+  pub others : OthersSame old.base files_before files_now
+  -- no part was read
+  pub reads : SameReads reads_before reads_now
+  -- the faults never fall
+  pub later : faults_before ≤ faults_now
+  -- why it stops
+  pub refused : IfErr result (λ fault. (fed more : List ℕ) → HasPut old files_before fed →
+      length (fed ++ byte ∷ more) < 2 ^ 32
+      → SecondStops (Rose faults_before faults_now) (IsPlanOf old.plan (fed ++ byte ∷ more)) fault)
+
+-- what follows the pass is written, with the head that belongs to it, or why it is not
+pub record RestStep (plan : Plan) (limit size : ℕ) (base : List ℕ) (inverted : Inverted)
+    (result : Result (Head × ℕ) Fault) (files_before files_now : Option Files)
+    (reads_before reads_now : Reads) (faults_before faults_now : ℕ) : Type 0 where
+  -- the head has room for its numbers
+  pub within : IfOk result (λ made. IsWithin (fields_of made.0))
+  -- it is that of the bytes for which the pass ended
+  pub head : ForHanded plan limit base files_before inverted (MakesHead size plan limit files_before result)
+  -- and so is the greatest use of the pool
+  pub peak : ForHanded plan limit base files_before inverted
+      (λ fed. IsPlanOf plan fed → HasPeakOf limit result fed)
+  -- lists, lexicon and weights stand
+  pub stand : ForHanded plan limit base files_before inverted
+      (λ fed. IsSome files_before → IsPlanOf plan fed → WroteIndex files_now base result fed)
+  -- which files are written, and what is read
+  pub step : SortStep OfIndex base files_before files_now reads_before reads_now faults_before faults_now
+  -- why it stops
+  pub refused : IfErr result (λ fault. ForHanded plan limit base files_before inverted
+      (PlanStops (Rose faults_before faults_now) plan files_before fault))
+
+-- all parts but the head are written, or why they are not
+pub record PartsStep (w : Putting) (result : Result (Head × ℕ) Fault) (files_before files_now : Option Files)
+    (reads_before reads_now : Reads) (faults_before faults_now : ℕ) : Type 0 where
+  -- they are those of the bytes that were put
+  pub ready : ForPut w files_before (MakesReady w files_now result)
+  -- the head has room for its numbers
+  pub within : IfOk result (λ made. IsWithin (fields_of made.0))
+  -- it is that of these bytes
+  pub head : ForPut w files_before (HasHeadOf w.plan w.limit result)
+  -- and so is the greatest use of the pool
+  pub peak : (fed : List ℕ) → HasPut w files_before fed → IsPlanOf w.plan fed → HasPeakOf w.limit result fed
+  -- the part of the head is there and empty
+  pub gone : IsSome files_before → file_at files_now (full_name w.base part.Head) ≡ Some []
+  -- files that are no part of the set stay
+  pub others : OthersSame w.base files_before files_now
+  -- no part was read but those of the runs
+  pub reads : ReadRuns reads_before reads_now
+  -- the faults never fall
+  pub later : faults_before ≤ faults_now
+  -- why it stops
+  pub refused : IfErr result (λ fault. (fed : List ℕ) → HasPut w files_before fed →
+      PlanStops (Rose faults_before faults_now) w.plan files_before fault fed)
