@@ -22,6 +22,7 @@ use Rattle.mg_runs.specs.Joins.{IsRunPart}
 use Rattle.mg_runs.specs.Left.{IsMerging, Merging}
 use Rattle.mg_make.specs.Listing.{ListStops, OfPostings, SameMerge}
 use Rattle.mg_make.specs.Written.{OfLists, WroteParts}
+use Rattle.mg_make.proofs.CallerLemmas.{rose_behind}
 
 -- ---- what was written
 
@@ -153,6 +154,12 @@ stops_for (fault.NameClash part) up down h = h
 stops_for fault.InputTooLong up down h = h
 stops_for fault.SameName up down h = h
 stops_for (fault.TooManyRotations count) up down h = h
+
+-- the store's own refusal, behind steps in which the faults did not fall
+pub store_stops : {T : Type 0} {l m n : ℕ} (same : Type 0) (refusal : PutErr) (fault : Fault) → l ≤ m → HasPutCause {T = T} m n (Err refusal) →
+    fault ≡ fault_of_store refusal → ListStops (Rose l n) same fault
+store_stops {l = l} {m = m} {n = n} same put.Failed fault later cause is = rw is (rose_behind l m n later (cause.failed refl))
+store_stops same put.Memory fault later cause is = rw is tt
 
 -- a refusal that is passed on
 pub passed_on : {T : Type 0} {rose rose' same same' : Type 0} (r : Result T Fault) (e : Fault) → (y : Fault) × (r ≡ Err y) × (y ≡ e) → (rose → rose') →

@@ -4,7 +4,6 @@ use Rattle.std.specs.Prelude.{IfErr, IfOk, OnOk, Result}
 use Rattle.std.specs.declared.option.Option.{Option}
 use Rattle.mg_dev.specs.declared.part.Part.{Part}
 use Rattle.mg_dev.specs.declared.fault.Fault.{Fault}
-use Rattle.mg_dev.specs.declared.fault.Fault.TheVariants as cause
 use Rattle.mg_dev.specs.declared.part.Part.TheVariants.{Head, Nonwords, Places, Run, Text, Words}
 use Rattle.mg_dev.specs.Causes.{Rose}
 use Rattle.mg_dev.specs.Files.{Files, Reads, bytes_at, file_at}
@@ -30,6 +29,7 @@ use Rattle.mg_make.specs.Written.{OfSecond, WroteParts, WroteSecond}
 use Rattle.mg_make.specs.declared.inverter.Inverted.{Inverted}
 use Rattle.mg_make.proofs.Finishing.{planned_occurrences, planned_text}
 use Rattle.mg_make.proofs.CallerLemmas.{others_more, rose_behind}
+use Rattle.mg_make.proofs.ListFrames.{stops_for}
 use Rattle.mg_make.proofs.SetFrames.{bytes_kept, head_of_second, index_from, kept, models_of_second, others_kept, others_of_second}
 
 -- the laws of text that a caller takes from mg_text_writer
@@ -87,31 +87,13 @@ head_of_index base f g wrote = kept OfIndex base f g Head (λ q of is. omega (ar
 
 -- ---- why it stops
 
-pub list_wider : (rose now same less : Type 0) (fault : Fault) → (rose → now) → (less → same) → ListStops rose same fault → ListStops now less fault
-list_wider rose now same less cause.StoreFault grows back stop = grows stop
-list_wider rose now same less cause.Memory grows back stop = tt
-list_wider rose now same less (cause.Changed what first second) grows back stop = (stop.0, λ is. stop.1 (back is))
-list_wider rose now same less (cause.Damaged bad) grows back stop = λ is. stop (back is)
-list_wider rose now same less cause.Usage grows back stop = absurd stop
-list_wider rose now same less cause.ReadFault grows back stop = absurd stop
-list_wider rose now same less cause.WriteFault grows back stop = absurd stop
-list_wider rose now same less cause.NotBuilt grows back stop = absurd stop
-list_wider rose now same less cause.NoCollection grows back stop = absurd stop
-list_wider rose now same less (cause.TooLarge bytes most) grows back stop = absurd stop
-list_wider rose now same less cause.TooManyDocuments grows back stop = absurd stop
-list_wider rose now same less (cause.TooManyPieces stream) grows back stop = absurd stop
-list_wider rose now same less (cause.NameClash p) grows back stop = absurd stop
-list_wider rose now same less cause.InputTooLong grows back stop = absurd stop
-list_wider rose now same less cause.SameName grows back stop = absurd stop
-list_wider rose now same less (cause.TooManyRotations count) grows back stop = absurd stop
-
 -- of the parts behind the second pass, for the bytes that were put
 pub rest_refused : {T : Type 0} (result : Result T Fault) (w : Putting) (f g : Option Files) (r : Inverted) (rose now : Type 0) → (rose → now) →
     (IsSome f → IsSome g) → ((fed : List ℕ) → HasPut w f fed → IsHanded w.plan w.limit w.base fed f g r)
     → IfErr result (λ fault. (fed : List ℕ) (before : Option Files) → IsHanded w.plan w.limit w.base fed before g r → ListStops rose (IsSome g × IsPlanOf w.plan fed) fault)
     → IfErr result (λ fault. (fed : List ℕ) → HasPut w f fed → ListStops now (IsSome f × IsPlanOf w.plan fed) fault)
 rest_refused (Ok value) w f g r rose now grows still handed stop = tt
-rest_refused (Err fault) w f g r rose now grows still handed stop = λ fed put. list_wider rose now _ _ fault grows (λ both. (still both.0, both.1)) (stop fed f (handed fed put))
+rest_refused (Err fault) w f g r rose now grows still handed stop = λ fed put. stops_for fault grows (λ both. (still both.0, both.1)) (stop fed f (handed fed put))
 
 pub ready_all : {T : Type 0} (result : Result T Fault) (w : Putting) (fed : List ℕ) (h : Option Files) → OnOk result (IndexStands h w.base fed) →
     (IndexStands h w.base fed → IsReady (run_cap w.limit) h w.base w.plan.code fed) → OnOk result (IsReady (run_cap w.limit) h w.base w.plan.code fed)

@@ -3,7 +3,6 @@ use Rattle.std.proofs.Common.{arith, ◌≡◌, ◌≤◌, ◌^◌, ◌∙◌, �
 use Rattle.std.specs.Prelude.{sum}
 use Rattle.std.specs.declared.option.Option.{Option}
 use Rattle.mg_dev.specs.declared.fault.Fault.{Fault}
-use Rattle.mg_dev.specs.declared.fault.Fault.TheVariants as cause
 use Rattle.mg_dev.specs.Files.{Files}
 use Rattle.mg_defs.specs.CodedText.{TextCode, text_part}
 use Rattle.mg_defs.specs.Heads.{Head, run_count}
@@ -29,6 +28,7 @@ use Rattle.mg_make.proofs.CountSizes.{together}
 use Rattle.mg_make.proofs.Finishing.{planned_occurrences, planned_text}
 use Rattle.mg_make.proofs.MarkFronts.{same_number}
 use Rattle.mg_make.proofs.Handing.{inverted_by_pass, sizes_of_pass}
+use Rattle.mg_make.proofs.ListFrames.{stops_for}
 
 module _ (plan : Plan) (limit : ℕ) (base fed : List ℕ) (before now : Option Files) (r : Inverted) (handed : IsHanded plan limit base fed before now r) where
   -- over any store the lengths of lists are within what the writers take
@@ -44,25 +44,7 @@ module _ (plan : Plan) (limit : ℕ) (base fed : List ℕ) (before now : Option 
   -- and why they are not written
   pub rest_stops : (rose : Type 0) (fault : Fault) → ((collection : List ℕ) → ListStops rose (IsInverted plan r.counts collection r.merge now) fault) →
       ListStops rose (IsSome now × IsPlanOf plan fed) fault
-  rest_stops rose fault stop = less_stops rose _ _ fault (λ both. handed_lists both.0 both.1) (stop fed)
-    where
-      less_stops : (rose same less : Type 0) (fault : Fault) → (less → same) → ListStops rose same fault → ListStops rose less fault
-      less_stops rose same less cause.StoreFault back stop = stop
-      less_stops rose same less cause.Memory back stop = tt
-      less_stops rose same less (cause.Changed what first second) back stop = (stop.0, λ is. stop.1 (back is))
-      less_stops rose same less (cause.Damaged bad) back stop = λ is. stop (back is)
-      less_stops rose same less cause.Usage back stop = absurd stop
-      less_stops rose same less cause.ReadFault back stop = absurd stop
-      less_stops rose same less cause.WriteFault back stop = absurd stop
-      less_stops rose same less cause.NotBuilt back stop = absurd stop
-      less_stops rose same less cause.NoCollection back stop = absurd stop
-      less_stops rose same less (cause.TooLarge bytes most) back stop = absurd stop
-      less_stops rose same less cause.TooManyDocuments back stop = absurd stop
-      less_stops rose same less (cause.TooManyPieces stream) back stop = absurd stop
-      less_stops rose same less (cause.NameClash p) back stop = absurd stop
-      less_stops rose same less cause.InputTooLong back stop = absurd stop
-      less_stops rose same less cause.SameName back stop = absurd stop
-      less_stops rose same less (cause.TooManyRotations count) back stop = absurd stop
+  rest_stops rose fault stop = stops_for fault (λ r. r) (λ both. handed_lists both.0 both.1) (stop fed)
 
   -- the numbers of occurrences and runs, and the greatest use of the pool
   pub handed_count : r.occurrences ≡ length (occurring_by plan (marks fed))

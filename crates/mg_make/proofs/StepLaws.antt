@@ -21,6 +21,16 @@ use Rattle.mg_make.proofs.ListFrames.{same_more, same_none, wrote_lex, wrote_lis
 
 -- ---- what is a step
 
+-- nothing was done
+pub step_none : {parts : AnyPart → Type 0} {base : List ℕ} {merge : Merging} {f g : Option Files} {q r : Reads} {m n : ℕ} →
+    g ≡ f → SameReads q r → m ≤ n → MergeStep parts base merge merge f g q r m n
+step_none {parts} {base} {merge} {f} {g} same reads later = record {
+  same = same_none merge;
+  wrote = wrote_none parts base f g same;
+  reads = λ p run first second. reads p;
+  later = later;
+}
+
 -- a posting was taken, and nothing was written
 pub step_look : {parts : AnyPart → Type 0} {base : List ℕ} {a b : Merging} {f g : Option Files} {q r : Reads} {m n : ℕ} →
     MergeLook a b f g q r m n → MergeStep parts base a b f g q r m n

@@ -14,6 +14,7 @@ pub mod Listed
 pub mod Second
 pub mod Finishing
 pub mod Steps
+pub mod ListEnds
 pub mod Scanning
 pub mod Counting
 pub mod Summaries

@@ -1,9 +1,10 @@
 -- What one step of a writer of a set does, told of the moments before it and after it.
-use Rattle.std.specs.Prelude.{◌≡◌, ◌<◌, ◌≤◌, ◌^◌, ◌++◌, ◌∷◌, ℕ, List, [], length, IfErr, IfOk, OnOk, Some}
+use Rattle.std.specs.Prelude.{◌≡◌, ◌<◌, ◌≤◌, ◌^◌, ◌++◌, ◌∷◌, ℕ, List, [], length, sum, IfErr, IfOk, OnOk, Some}
 use Rattle.std.specs.Option.{IsSome}
 use Rattle.std.specs.declared.option.Option.{Option}
 use Rattle.std.specs.declared.result.Result.{Result}
 use Rattle.mg_dev.specs.Causes.{Rose}
+use Rattle.mg_dev.specs.Each.{ForEach}
 use Rattle.mg_dev.specs.Files.{Files, Reads, SameReads, file_at}
 use Rattle.mg_dev.specs.Names.{full_name}
 use Rattle.mg_dev.specs.declared.fault.Fault.{Fault}
@@ -12,12 +13,14 @@ use Rattle.mg_defs.specs.Heads.{IsWithin}
 use Rattle.mg_layout.specs.HeadAnswers.{fields_of}
 use Rattle.mg_layout.specs.declared.head.Head.{Head}
 use Rattle.mg_make.specs.Finishing.{ReadRuns}
-use Rattle.mg_make.specs.Index.{OfIndex, WroteIndex}
+use Rattle.mg_make.specs.Index.{HasPostPart, HasSkipPart, InvertedBy, OfIndex, WroteIndex}
+use Rattle.mg_make.specs.Listing.{ListStops}
 use Rattle.mg_make.specs.Plans.{IsPlanOf, Plan}
 use Rattle.mg_make.specs.Putting.{ForHanded, ForPut, HasHeadOf, HasPeakOf, HasPut, MakesHead, MakesReady, OthersSame, PlanStops, Putting}
-use Rattle.mg_make.specs.Steps.{SortStep}
+use Rattle.mg_make.specs.Steps.{MergeStep, SortStep}
 use Rattle.mg_make.specs.Written.{SecondStops}
 use Rattle.mg_make.specs.declared.inverter.Inverted.{Inverted}
+use Rattle.mg_make.specs.declared.lists.Sizes.{Sizes}
 
 -- one byte more is put, or why it is not
 pub record ByteStep (old new : Putting) (byte : ℕ) (result : Result (Unit {0}) Fault)
@@ -61,6 +64,25 @@ pub record RestStep (plan : Plan) (limit size : ℕ) (base : List ℕ) (inverted
   -- why it stops
   pub refused : IfErr result (λ fault. ForHanded plan limit base files_before inverted
       (PlanStops (Rose faults_before faults_now) plan files_before fault))
+
+-- lists, lexicon and weights are written of what was inverted, or why they are not
+pub record WeighedStep (p : Plan) (inverted inverted_now : Inverted) (base : List ℕ) (result : Result Sizes Fault)
+    (files_before files_now : Option Files)
+    (reads_before reads_now : Reads) (faults_before faults_now : ℕ) : Type 0 where
+  -- they are those of the collection of which it is
+  pub stand : ForEach (InvertedBy p inverted files_before) (WroteIndex files_now base result)
+  -- Post has as many bytes as it has there
+  pub post_bytes : ForEach (InvertedBy p inverted files_before) (HasPostPart result)
+  -- there are as many skip entries as there
+  pub skip_count : ForEach (InvertedBy p inverted files_before) (HasSkipPart result)
+  -- over any store: there are no more of them than postings were counted
+  pub few : IfOk result (λ sizes. sizes.skip_count ≤ sum inverted.counts.docs)
+  -- which files are written, and what is read
+  pub step : MergeStep OfIndex base inverted.merge inverted_now.merge files_before files_now reads_before reads_now
+      faults_before faults_now
+  -- why it stops
+  pub refused : IfErr result (λ fault. (collection : List ℕ) →
+      ListStops (Rose faults_before faults_now) (InvertedBy p inverted files_before collection) fault)
 
 -- all parts but the head are written, or why they are not
 pub record PartsStep (w : Putting) (result : Result (Head × ℕ) Fault) (files_before files_now : Option Files)

@@ -1,16 +1,15 @@
 //! Lists, lexicon and weights, from what was inverted.
 ghost use Rattle.std.specs.Prelude.{◌≡◌, ◌≤◌, List, [], length, replicate, IfOk, OnOk, IsSome, Some, sum};
-ghost use Rattle.mg_dev.specs.Each.{ForEach};
 ghost use Rattle.mg_dev.specs.Files.{file_at};
 ghost use Rattle.mg_dev.specs.Names.{full_name};
 ghost use Rattle.mg_dev.specs.declared.part.Part.TheVariants as part;
 ghost use Rattle.mg_dev.specs.Moments.{Between};
 ghost use Rattle.mg_defs.specs.declared.TermPosting.{TermPosting};
 ghost use Rattle.mg_runs.specs.Left.{IsMerging};
-ghost use Rattle.mg_make.specs.Each.{RefusedIfNone};
-ghost use Rattle.mg_make.specs.Index.{HasPostPart, HasSkipPart, InvertedBy, OfIndex, OfWeights, WeightsAreRoots, WroteIndex};
+ghost use Rattle.mg_make.specs.Index.{OfWeights, WeightsAreRoots};
 ghost use Rattle.mg_make.specs.Listing.{AreListSizes};
-ghost use Rattle.mg_make.specs.Steps.{PutStep, MergeStep};
+ghost use Rattle.mg_make.specs.SetSteps.{WeighedStep};
+ghost use Rattle.mg_make.specs.Steps.{PutStep};
 
 use crate::Plan;
 use crate::inverter::Inverted;
@@ -70,17 +69,8 @@ pub(crate) fn write_all<S: Store>(
     requires left { (left : List TermPosting) ×
         IsMerging inverted.old.merge (S.files store.old) left }
     requires zero { rest.old.sums.items ≡ replicate (length rest.old.plan.now.pairs) 0 }
-    ensures stand { ForEach (InvertedBy rest.old.plan.now inverted.old (S.files store.old))
-        (WroteIndex (S.files store.new) base.now result) }
-    ensures post_bytes { ForEach (InvertedBy rest.old.plan.now inverted.old (S.files store.old))
-        (HasPostPart result) }
-    ensures skip_count { ForEach (InvertedBy rest.old.plan.now inverted.old (S.files store.old))
-        (HasSkipPart result) }
-    ensures few { IfOk result (λ sizes. sizes.skip_count ≤ sum inverted.old.counts.docs) }
-    ensures refused { RefusedIfNone S.faults store.old store.new
-        (InvertedBy rest.old.plan.now inverted.old (S.files store.old)) result }
-    ensures step { Between S.files S.reads S.faults store.old store.new
-        (MergeStep OfIndex base.now inverted.old.merge inverted.new.merge) }
+    ensures { Between S.files S.reads S.faults store.old store.new
+        (WeighedStep rest.old.plan.now inverted.old inverted.new base.now result) }
 {
     postings_are_lists();
     documents_are_counted();
@@ -89,14 +79,17 @@ pub(crate) fn write_all<S: Store>(
         table: &plan.table,
         counts: &inverted.counts,
     };
-    let sizes = write_lists(
+    let sizes = match write_lists(
         alloc,
         store,
         base,
         &mut inverted.merge,
         &terms,
         &mut rest.sums,
-    )?;
+    ) {
+        Ok(sizes) => sizes,
+        Err(refusal) => return Err(refusal),
+    };
     squares_weigh();
     lists_are_whole();
     match write_weights_part(alloc, store, base, &rest.sums) {

@@ -18,6 +18,7 @@ ghost use Rattle.mg_lex.specs.Writing.{TookTerms};
 ghost use Rattle.mg_post.specs.Writing.{Took};
 ghost use Rattle.mg_runs.specs.Left.{IsMerging};
 ghost use Rattle.mg_make.specs.Each.{RefusedUnless, RefusedIfNone};
+ghost use Rattle.mg_make.specs.ListEnds.{IndexStep};
 ghost use Rattle.mg_make.specs.Listed.{CanIndexTo, EndsIndex, HasAllTerms, HasPostBytes, HasSkipCount, IndexedTo, IndexesAll, IndexesTerm, ListsAreLeft};
 ghost use Rattle.mg_make.specs.Listed.{NothingLeft, SumsAreSquares, ToIndex, WhereAllTaken, WroteLists};
 ghost use Rattle.mg_make.specs.Listing.{AreListSizes};
@@ -204,22 +205,18 @@ fn write_index<S: Store>(
     requires can { CanIndexTo 0 terms.now merge.old writer.old sums.old (S.files store.old) }
     requires sizes { AreListSizes terms.now.counts.now.docs (length terms.now.table.now.terms)
         writer.old.lists.all }
-    ensures stand { ForEach (ToIndex terms.now merge.old writer.old sums.old (S.files store.old))
-        (WroteLists S.files store.new merge.old.base result) }
-    ensures sums { ForEach (ToIndex terms.now merge.old writer.old sums.old (S.files store.old))
-        (SumsAreSquares sums.new result) }
-    ensures post_bytes { ForEach (ToIndex terms.now merge.old writer.old sums.old
-        (S.files store.old)) (HasPostBytes result) }
-    ensures skip_count { ForEach (ToIndex terms.now merge.old writer.old sums.old
-        (S.files store.old)) (HasSkipCount result) }
-    ensures few { IfOk result (λ sizes. sizes.skip_count ≤ sum terms.now.counts.now.docs) }
-    ensures refused { RefusedIfNone S.faults store.old store.new
-        (ToIndex terms.now merge.old writer.old sums.old (S.files store.old)) result }
-    ensures step { Between S.files S.reads S.faults store.old store.new
-        (MergeStep OfLists merge.old.base merge.old merge.new) }
+    ensures { Between S.files S.reads S.faults store.old store.new
+        (IndexStep (ToIndex terms.now merge.old writer.old sums.old (S.files store.old))
+        terms.now.counts.now.docs merge.old.base merge.old merge.new sums.new result) }
 {
-    write_terms(store, merge, writer, sums, terms)?;
-    expect_end(store, merge)?;
+    match write_terms(store, merge, writer, sums, terms) {
+        Ok(()) => {}
+        Err(refusal) => return Err(refusal),
+    }
+    match expect_end(store, merge) {
+        Ok(()) => {}
+        Err(refusal) => return Err(refusal),
+    }
     match finish(store, writer) {
         Ok(sizes) => Ok(sizes),
         Err(refusal) => Err(Fault::of_store(refusal)),
@@ -241,19 +238,9 @@ pub(crate) fn write_lists<S: Store>(
         (length sums.old.items) }
     requires left { (left : List TermPosting) × IsMerging merge.old (S.files store.old) left }
     requires zero { sums.old.items ≡ replicate (length sums.old.items) 0 }
-    ensures stand { ForEach (ListsAreLeft terms.now sums.old merge.old (S.files store.old))
-        (WroteLists S.files store.new base.now result) }
-    ensures sums { ForEach (ListsAreLeft terms.now sums.old merge.old (S.files store.old))
-        (SumsAreSquares sums.new result) }
-    ensures post_bytes { ForEach (ListsAreLeft terms.now sums.old merge.old (S.files store.old))
-        (HasPostBytes result) }
-    ensures skip_count { ForEach (ListsAreLeft terms.now sums.old merge.old (S.files store.old))
-        (HasSkipCount result) }
-    ensures few { IfOk result (λ sizes. sizes.skip_count ≤ sum terms.now.counts.now.docs) }
-    ensures refused { RefusedIfNone S.faults store.old store.new
-        (ListsAreLeft terms.now sums.old merge.old (S.files store.old)) result }
-    ensures step { Between S.files S.reads S.faults store.old store.new
-        (MergeStep OfLists base.now merge.old merge.new) }
+    ensures { Between S.files S.reads S.faults store.old store.new
+        (IndexStep (ListsAreLeft terms.now sums.old merge.old (S.files store.old))
+        terms.now.counts.now.docs base.now merge.old merge.new sums.new result) }
 {
     let all = sums.len() as u32;
     let mut writer = match start_writers(alloc, store, base, all) {

@@ -14,8 +14,9 @@ ghost use Rattle.mg_defs.specs.Lists.{Follows};
 ghost use Rattle.mg_post.specs.Writing.{Pushed, PushedMore, SameFiles, Took, posting_of};
 ghost use Rattle.mg_runs.specs.Left.{IsMerging};
 ghost use Rattle.mg_make.specs.Each.{RefusedUnless};
-ghost use Rattle.mg_make.specs.Listed.{BeginsInPost, BeginsInSkip, EndsList, ForListLeft, ForFirstLeft, ListTakes, SumsTake, TakesPosting, TakesPostings};
-ghost use Rattle.mg_make.specs.Listing.{CanList, HasList, HasNext, HasRest, ListedMore, OfPostings};
+ghost use Rattle.mg_make.specs.ListEnds.{ListStep};
+ghost use Rattle.mg_make.specs.Listed.{ForFirstLeft, ListTakes, SumsTake, TakesPosting, TakesPostings};
+ghost use Rattle.mg_make.specs.Listing.{CanList, HasNext, HasRest, OfPostings};
 ghost use Rattle.mg_make.specs.Steps.{MergeStep, MergeLook};
 
 use mg_defs::TermPosting;
@@ -199,19 +200,8 @@ pub(crate) fn write_list<S: Store>(
     requires between { lists.old.pushed ≡ 0 }
     requires within { docs ≤ lists.old.all }
     requires total { lists.old.total + docs ≤ 2 ^ 32 }
-    ensures can { OnOk result (CanList merge.new lists.new sums.new.items (S.files store.new)) }
-    ensures told { EndsList docs number merge.old merge.new lists.old lists.new sums.old sums.new
-        S.files store.old store.new result }
-    ensures post_at { ForListLeft docs number merge.old lists.old sums.old (S.files store.old)
-        (BeginsInPost lists.old.all result) }
-    ensures skip_at { ForListLeft docs number merge.old lists.old sums.old (S.files store.old)
-        (BeginsInSkip lists.old.all result) }
-    ensures listed { OnOk result (ListedMore lists.old lists.new docs) }
-    ensures refused { RefusedUnless S.faults store.old store.new
-        (HasList number docs merge.old lists.old sums.old.items (S.files store.old)) result }
-    ensures files { SameFiles lists.old lists.new }
-    ensures step { Between S.files S.reads S.faults store.old store.new
-        (MergeStep OfPostings merge.old.base merge.old merge.new) }
+    ensures { Between S.files S.reads S.faults store.old store.new
+        (ListStep docs number merge.old merge.new lists.old lists.new sums.old sums.new result) }
 {
     if docs == 0 {
         return Err(Fault::Changed {
@@ -224,7 +214,10 @@ pub(crate) fn write_list<S: Store>(
         Ok(()) => {}
         Err(refusal) => return Err(Fault::of_store(refusal)),
     }
-    take_postings(store, merge, lists, sums, number, docs)?;
+    match take_postings(store, merge, lists, sums, number, docs) {
+        Ok(()) => {}
+        Err(refusal) => return Err(refusal),
+    }
     runs_stay();
     match lists.end_list(store) {
         Ok(at) => Ok(at),

@@ -1,5 +1,4 @@
-use Rattle.std.proofs.Common.{◌∙◌, [], refl, sym, ap, subst, is_some}
-use Rattle.std.proofs.lemmas.Result.{err_from_is_err_and}
+use Rattle.std.proofs.Common.{arith, ◌∙◌, ◌≤◌, [], length, refl, sym, ap, subst, is_some}
 use Rattle.mg_dev.specs.declared.part.Part.TheVariants.{Post, Skip}
 use Rattle.mg_dev.specs.Names.{full_name}
 use Rattle.mg_defs.specs.Lists.{inverted}
@@ -9,23 +8,41 @@ use Rattle.mg_post.specs.Writing.{Took}
 use Rattle.mg_make.specs.Listing.{ListsStand}
 use Rattle.mg_make.proofs.CallerLemmas.{rose_behind}
 use Rattle.mg_make.proofs.IndexEnds.{ended}
-use Rattle.mg_make.proofs.ListFrames.{passed_on_all}
+use Rattle.mg_make.proofs.ListFrames.{stops_for, store_stops}
 use Rattle.mg_make.proofs.ListSteps.{took_between}
+use Rattle.mg_make.proofs.SecondSteps.{sum_front}
 use Rattle.mg_make.proofs.StepLaws.{step_for, step_look, step_more, step_put}
 use Rattle.mg_make.proofs.lists.write_index.Goals as goal
 
-pub returns-in_err-expect_end-clause-refused : goal.returns-in_err-expect_end-clause-refused
-returns-in_err-expect_end-clause-refused g c =
-    passed_on_all _ c.from_residual-in_err-expect_end.result c.in_err-expect_end.field-0.0 (err_from_is_err_and c.from_residual-in_err-expect_end.result c.from_residual-in_err-expect_end.ensures.1)
-    (rose_behind _ _ _ c.write_terms.ensures.step.later)
-    (λ collection has.
-    let e = ended c.args.terms.now.table.now.terms c.args.terms.now.counts.now.docs collection _ _ _ _ _ _ refl (c.in_ok-write_terms.ensures.indexed collection has) in
-    (e.told, e.merging))
-    c.in_err-expect_end.ensures.refused
+pub returns-in-Err : goal.returns-in-Err
+returns-in-Err g c = record {
+  stand = λ collection has. tt;
+  sums = λ collection has. tt;
+  post_bytes = λ collection has. tt;
+  skip_count = λ collection has. tt;
+  few = tt;
+  step = c.write_terms.ensures.step;
+  refused = c.in-Err.ensures.refused;
+}
+
+pub returns-in-Err-expect_end : goal.returns-in-Err-expect_end
+returns-in-Err-expect_end g c = record {
+  stand = λ collection has. tt;
+  sums = λ collection has. tt;
+  post_bytes = λ collection has. tt;
+  skip_count = λ collection has. tt;
+  few = tt;
+  step = step_more c.write_terms.ensures.step (step_look c.expect_end.ensures.looked);
+  refused = λ collection. stops_for c.in-Err-expect_end.refusal (rose_behind _ _ _ c.write_terms.ensures.step.later)
+      (λ has.
+      let e = ended c.args.terms.now.table.now.terms c.args.terms.now.counts.now.docs collection _ _ _ _ _ _ refl (c.in-Ok.ensures.indexed collection has) in
+      (e.told, e.merging))
+      c.in-Err-expect_end.ensures.refused;
+}
 
 pub finish-requires : goal.finish-requires
 finish-requires g c =
-    let can = c.in_ok-write_terms.ensures.can in
+    let can = c.in-Ok.ensures.can in
     record {
       lists = (
         can.list.done,
@@ -37,42 +54,43 @@ finish-requires g c =
       skip = can.list.skip ∙ ap (λ b. full_name b Skip) (sym can.base);
     }
 
-pub returns-in-Ok-clause-stand : goal.returns-in-Ok-clause-stand
-returns-in-Ok-clause-stand g c = λ collection has.
-    let can = c.in_ok-write_terms.ensures.can in
-    let e = ended c.args.terms.now.table.now.terms c.args.terms.now.counts.now.docs collection _ _ _ _ _ _ refl (c.in_ok-write_terms.ensures.indexed collection has) in
+pub returns-in-Ok-finish : goal.returns-in-Ok-finish
+returns-in-Ok-finish g c =
+    let terms = c.args.terms.now.table.now.terms in
+    let docs = c.args.terms.now.counts.now.docs in
+    let can = c.in-Ok.ensures.can in
     let files = c.expect_end.ensures.looked.files in
-    subst (λ b. ListsStand (g.S.Store.files c.finish.new.store) b collection) (can.base ∙ c.write_terms.ensures.step.same.base)
-    (c.in-Ok.ensures.stand collection (ap is_some files ∙ e.told) e.all (subst (λ x. Took c.write_terms.new.writer.lists x (inverted collection) []) (sym files) e.took)
-    (subst (λ x. TookTerms c.write_terms.new.writer.lex x (terms_of collection)) (sym files) e.terms))
+    let own = can.base ∙ c.write_terms.ensures.step.same.base in
+    record {
+      stand = λ collection has.
+          let e = ended terms docs collection _ _ _ _ _ _ refl (c.in-Ok.ensures.indexed collection has) in
+          subst (λ b. ListsStand (g.S.Store.files c.finish.new.store) b collection) own
+          (c.in-Ok-finish.ensures.stand collection (ap is_some files ∙ e.told) e.all (subst (λ x. Took c.write_terms.new.writer.lists x (inverted collection) []) (sym files) e.took)
+          (subst (λ x. TookTerms c.write_terms.new.writer.lex x (terms_of collection)) (sym files) e.terms));
+      sums = λ collection has.
+          let e = ended terms docs collection _ _ _ _ _ _ refl (c.in-Ok.ensures.indexed collection has) in
+          e.sums_are can.list.each;
+      post_bytes = λ collection has.
+          let e = ended terms docs collection _ _ _ _ _ _ refl (c.in-Ok.ensures.indexed collection has) in
+          c.in-Ok-finish.ensures.post_bytes collection e.all (subst (λ x. Took c.write_terms.new.writer.lists x (inverted collection) []) (sym files) e.took);
+      skip_count = λ collection has.
+          let e = ended terms docs collection _ _ _ _ _ _ refl (c.in-Ok.ensures.indexed collection has) in
+          c.in-Ok-finish.ensures.skip_count collection e.all (subst (λ x. Took c.write_terms.new.writer.lists x (inverted collection) []) (sym files) e.took);
+      few = omega (arith, c.in-Ok-finish.ensures.few, can.total, sum_front docs (length terms));
+      step = step_more (step_more c.write_terms.ensures.step (step_look c.expect_end.ensures.looked)) (step_for own (step_put c.finish.ensures.step));
+      refused = tt;
+    }
 
-pub returns-in-Ok-clause-sums : goal.returns-in-Ok-clause-sums
-returns-in-Ok-clause-sums g c = λ collection has.
-    let e = ended c.args.terms.now.table.now.terms c.args.terms.now.counts.now.docs collection _ _ _ _ _ _ refl (c.in_ok-write_terms.ensures.indexed collection has) in
-    e.sums_are c.in_ok-write_terms.ensures.can.list.each
-
-pub returns-in-Ok-clause-post_bytes : goal.returns-in-Ok-clause-post_bytes
-returns-in-Ok-clause-post_bytes g c = λ collection has.
-    let e = ended c.args.terms.now.table.now.terms c.args.terms.now.counts.now.docs collection _ _ _ _ _ _ refl (c.in_ok-write_terms.ensures.indexed collection has) in
-    c.in-Ok.ensures.post_bytes collection e.all (subst (λ x. Took c.write_terms.new.writer.lists x (inverted collection) []) (sym c.expect_end.ensures.looked.files) e.took)
-
-pub returns-in-Ok-clause-skip_count : goal.returns-in-Ok-clause-skip_count
-returns-in-Ok-clause-skip_count g c = λ collection has.
-    let e = ended c.args.terms.now.table.now.terms c.args.terms.now.counts.now.docs collection _ _ _ _ _ _ refl (c.in_ok-write_terms.ensures.indexed collection has) in
-    c.in-Ok.ensures.skip_count collection e.all (subst (λ x. Took c.write_terms.new.writer.lists x (inverted collection) []) (sym c.expect_end.ensures.looked.files) e.took)
-
-pub returns-in_err-write_terms-clause-step : goal.returns-in_err-write_terms-clause-step
-returns-in_err-write_terms-clause-step g c = c.write_terms.ensures.step
-
-pub returns-in_err-expect_end-clause-step : goal.returns-in_err-expect_end-clause-step
-returns-in_err-expect_end-clause-step g c = step_more c.write_terms.ensures.step (step_look c.expect_end.ensures.looked)
-
-pub returns-in-Ok-clause-step : goal.returns-in-Ok-clause-step
-returns-in-Ok-clause-step g c =
-    let own = c.in_ok-write_terms.ensures.can.base ∙ c.write_terms.ensures.step.same.base in
-    step_more (step_more c.write_terms.ensures.step (step_look c.expect_end.ensures.looked)) (step_for own (step_put c.finish.ensures.step))
-
-pub returns-in-Err-clause-step : goal.returns-in-Err-clause-step
-returns-in-Err-clause-step g c =
-    let own = c.in_ok-write_terms.ensures.can.base ∙ c.write_terms.ensures.step.same.base in
-    step_more (step_more c.write_terms.ensures.step (step_look c.expect_end.ensures.looked)) (step_for own (step_put c.finish.ensures.step))
+pub returns-in-Err-finish : goal.returns-in-Err-finish
+returns-in-Err-finish g c =
+    let own = c.in-Ok.ensures.can.base ∙ c.write_terms.ensures.step.same.base in
+    record {
+      stand = λ collection has. tt;
+      sums = λ collection has. tt;
+      post_bytes = λ collection has. tt;
+      skip_count = λ collection has. tt;
+      few = tt;
+      step = step_more (step_more c.write_terms.ensures.step (step_look c.expect_end.ensures.looked)) (step_for own (step_put c.finish.ensures.step));
+      refused = λ collection. store_stops _ c.in-Err-finish.refusal _ (omega (arith, c.write_terms.ensures.step.later, c.expect_end.ensures.looked.later))
+          c.in-Err-finish.ensures.step.cause c.of_store.ensures;
+    }
