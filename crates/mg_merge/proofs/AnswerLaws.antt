@@ -2,7 +2,7 @@
 use Rattle.std.proofs.Common.{◌≡◌, ◌≢◌, ◌⊎◌, ◌<◌, ◌≤◌, ℕ, List, [], length, Some, IsSome, Err, Option, ap, inl, inr, refl}
 use Rattle.std.specs.Prelude.{Result, OnOk, IfErr}
 use Rattle.mg_dev.specs.Files.{Files, file_at}
-use Rattle.mg_dev.specs.Moments.{StoreAt, StoreRose, KeptFiles}
+use Rattle.mg_dev.specs.Moments.{StoreAt, StoreRose}
 use Rattle.mg_dev.specs.Names.{full_name}
 use Rattle.mg_dev.specs.Runs.{IsDone, RefusedFor, status_of}
 use Rattle.mg_dev.specs.declared.part.Part.TheVariants as part
@@ -16,10 +16,11 @@ use Rattle.mg_defs.specs.Marks.{PassesFirst, start, piece}
 use Rattle.mg_layout.specs.Stands.{HasNoHead, Stands, StandsIn}
 use Rattle.mg_make.specs.Putting.{OthersSame}
 use Rattle.mg_merge.specs.Joined.{Joined}
+use Rattle.mg_merge.specs.Looks.{IsUntouched}
 use Rattle.mg_make.specs.Outcomes.{IsEarly, Left, most_bytes}
 use Rattle.mg_merge.specs.Merging.{BothStand, IsSizeByHeads, MergeStops}
 use Rattle.mg_dev.specs.declared.status.Status.TheVariants.{Stopped}
-use Rattle.mg_merge.proofs.PassLaws.{others_none}
+use Rattle.mg_make.proofs.CallerLemmas.{others_none}
 use Rattle.mg_dev.proofs.CallerLemmas.{at_fault, done_or_lacks, stopped_by, stopped_for, when_ok}
 
 -- both sets stand
@@ -35,7 +36,7 @@ module _ {T : Type 0} (first second new : List ℕ) (store store_now : StoreAt) 
     (merge_b : (a b : List ℕ) → BothStand store.files first second a b → OnOk r (file_at store_now.files (full_name new part.MergeB) ≡ Some []))
     (others : OthersSame new store.files store_now.files)
     (left : (a b : List ℕ) → BothStand store.files first second a b → Left new store.files store_now.files (join a b))
-    (early : IfErr r (λ fault. IsEarly fault → KeptFiles store store_now))
+    (early : IfErr r (λ fault. IsEarly fault → IsUntouched store store_now))
     (cause : IfErr r (MergeStops (StoreRose store store_now) store.files first second new))
     (same : (new ≡ first) ⊎ (new ≡ second) → r ≡ Err SameName)
     (missing : IsSome store.files → new ≢ first → new ≢ second → HasNoHead store.files first ⊎ HasNoHead store.files second → RefusedFor r NotBuilt)
@@ -50,7 +51,8 @@ module _ {T : Type 0} (first second new : List ℕ) (store store_now : StoreAt) 
     done = λ version cap a b one two end.
         let stand = both version cap store.files first second a b one two in
         record { stands = when_ok _ r end (stands version cap a b one two); merge_a = when_ok _ r end (merge_a a b stand); merge_b = when_ok _ r end (merge_b a b stand) };
-    unchanged = λ fault soon end. at_fault (λ (f : Fault). IsEarly f → KeptFiles store store_now) r fault end early soon;
+    unchanged = λ fault soon end. (at_fault (λ (f : Fault). IsEarly f → IsUntouched store store_now) r fault end early soon).files;
+    unread = λ fault soon end. (at_fault (λ (f : Fault). IsEarly f → IsUntouched store store_now) r fault end early soon).unread;
     left = left;
     others = others;
     cause = stopped_by _ r cause;
@@ -64,7 +66,7 @@ module _ {T : Type 0} (first second new : List ℕ) (store store_now : StoreAt) 
 
 -- A refusal while no file has changed, where the new name is none of the two: each cause that comes before is told.
 module _ {T : Type 0} (first second new : List ℕ) (store store_now : StoreAt) (fault : Fault)
-    (kept : KeptFiles store store_now) (one : new ≢ first) (other : new ≢ second)
+    (untouched : IsUntouched store store_now) (one : new ≢ first) (other : new ≢ second)
     (cause : MergeStops (StoreRose store store_now) store.files first second new fault)
     (missing : IsSome store.files → HasNoHead store.files first ⊎ HasNoHead store.files second → RefusedFor {T = T} (Err fault) NotBuilt)
     (large : (size : ℕ) → IsSome store.files → IsSizeByHeads store.files first second size → most_bytes < size → RefusedFor {T = T} (Err fault) (TooLarge size most_bytes))
@@ -73,18 +75,18 @@ module _ {T : Type 0} (first second new : List ℕ) (store store_now : StoreAt) 
     (complete : (a b : List ℕ) → BothStand store.files first second a b → IsWithinLimits 2 (join a b) → ¬ StoreRose store store_now → IsDone {T = T} (Err fault)) where
   pub refused_by : Joined first second new store store_now (Stopped fault)
   refused_by = joined_by {T = T} first second new store store_now (Err fault)
-      (λ version cap a b is stands. tt) (λ a b both. tt) (λ a b both. tt) (others_none new store.files store_now.files kept) (λ a b both. inl kept)
-      (λ early. kept) cause (λ same. elim same [ inl is ↦ absurd (one is) | inr is ↦ absurd (other is) ])
+      (λ version cap a b is stands. tt) (λ a b both. tt) (λ a b both. tt) (others_none new store.files store_now.files untouched.files) (λ a b both. inl untouched.files)
+      (λ early. untouched) cause (λ same. elim same [ inl is ↦ absurd (one is) | inr is ↦ absurd (other is) ])
       (λ told new_one new_other. missing told) (λ size told new_one new_other. large size told)
       (λ a b both new_one new_other few passes. documents a b both few) (λ a b stream word both new_one new_other few passes. pieces a b stream both few)
       (λ a b both new_one new_other. complete a b both)
 
 -- the new name is one of the two
-pub same_by : (first second new : List ℕ) (store store_now : StoreAt) → KeptFiles store store_now → (new ≡ first) ⊎ (new ≡ second) →
+pub same_by : (first second new : List ℕ) (store store_now : StoreAt) → IsUntouched store store_now → (new ≡ first) ⊎ (new ≡ second) →
     Joined first second new store store_now (Stopped SameName)
-same_by first second new store store_now kept same = joined_by {T = Unit {0}} first second new store store_now (Err SameName)
-    (λ version cap a b is stands. tt) (λ a b both. tt) (λ a b both. tt) (others_none new store.files store_now.files kept) (λ a b both. inl kept)
-    (λ early. kept) same (λ is. refl) (λ told one other. never one other) (λ size told one other. never one other)
+same_by first second new store store_now untouched same = joined_by {T = Unit {0}} first second new store store_now (Err SameName)
+    (λ version cap a b is stands. tt) (λ a b both. tt) (λ a b both. tt) (others_none new store.files store_now.files untouched.files) (λ a b both. inl untouched.files)
+    (λ early. untouched) same (λ is. refl) (λ told one other. never one other) (λ size told one other. never one other)
     (λ a b both one other. never one other) (λ a b stream word both one other. never one other) (λ a b both one other. never one other)
   where
     never : {P : Type 0} → new ≢ first → new ≢ second → P

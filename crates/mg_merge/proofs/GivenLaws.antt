@@ -1,5 +1,5 @@
 -- The documents of two texts, given one after the other.
-use Rattle.std.proofs.Common.{arith, ◌≡◌, ◌≤◌, ◌<◌, ◌+◌, ◌-◌, ◌^◌, ◌++◌, ◌∷◌, ◌∙◌, ℕ, List, [], length, take, drop, Option, refl, sym, ap, append-nil}
+use Rattle.std.proofs.Common.{arith, ◌≡◌, ◌≤◌, ◌<◌, ◌+◌, ◌-◌, ◌++◌, ◌∷◌, ◌∙◌, ℕ, List, [], length, take, drop, Option, refl, sym, ap}
 use Rattle.std.proofs.lemmas.List.{append_assoc, length-append, take-append-drop}
 use Rattle.mg_dev.specs.Files.{Files}
 use Rattle.mg_defs.specs.Split.{close, documents, has_open_end, is_closed, joined}

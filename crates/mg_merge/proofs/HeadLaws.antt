@@ -1,5 +1,5 @@
 -- Heads that are loaded, and what is missing.
-use Rattle.std.proofs.Common.{◌≡◌, ◌≢◌, ◌∙◌, ◌⊎◌, ℕ, List, [], Option, Some, None, Ok, Err, IsSome, refl, sym, ap, subst, inl, inr}
+use Rattle.std.proofs.Common.{◌≡◌, ◌≢◌, ◌∙◌, ℕ, List, [], Option, Some, Ok, Err, ap, subst, inl, inr}
 use Rattle.mg_dev.specs.Faults.{fault_of_part}
 use Rattle.mg_dev.specs.Files.{Files, bytes_at}
 use Rattle.mg_dev.specs.Names.{full_name}
@@ -13,7 +13,6 @@ use Rattle.mg_layout.specs.HeadAnswers.{AnswersHead, fields_of}
 use Rattle.mg_layout.specs.Stands.{HasNoHead}
 use Rattle.mg_layout.specs.declared.head.Head as layout
 use Rattle.mg_dev.specs.Runs.{RefusedFor}
-use Rattle.mg_merge.specs.Stops.{AreHeads}
 use Rattle.mg_layout.proofs.CallerLemmas.{no_empty_head}
 
 -- the head that was loaded

@@ -1,9 +1,7 @@
 -- The documents of a collection, given one after the other with the bytes that close them.
-use Rattle.std.proofs.Common.{arith, ◌≡◌, ◌+◌, ◌-◌, ◌*◌, ◌/◌, ◌^◌, ◌≤◌, ◌<◌, ℕ, zero, suc, Bool, max, List, [], ◌∷◌, ◌++◌, length, drop, get_or, refl, sym, ◌∙◌, ap, subst, append-nil, append_assoc, add-one, drop-cons}
-use Rattle.std.proofs.lemmas.List.{length-append}
+use Rattle.std.proofs.Common.{arith, ◌≡◌, ◌+◌, ◌-◌, ◌/◌, ◌≤◌, ◌<◌, ℕ, zero, suc, Bool, List, [], ◌∷◌, ◌++◌, length, drop, get_or, refl, sym, ◌∙◌, ap, append-nil, append_assoc, add-one, drop-cons}
 use Rattle.mg_defs.specs.Join.{join}
 use Rattle.mg_defs.specs.Split.{close, documents, has_open_end, is_closed, joined}
-use Rattle.mg_defs.specs.Terms.{document}
 use Rattle.mg_defs.proofs.SplitLaws.{documents_split, joined_next}
 use Rattle.mg_laws.proofs.JoinLaws.{first_document, second_document}
 use Rattle.mg_merge.specs.Merging.{budget_of}
@@ -66,9 +64,3 @@ given_all collection bytes i all whole = sym (append-nil bytes) ∙ ap (λ l. by
 
 pub cap_again : (cap : ℕ) → 341 ≤ cap → budget_of cap / 12 ≡ cap
 cap_again cap h = omega (arith, h)
-
-pub budget_least : (cap : ℕ) → 4096 ≤ budget_of cap
-budget_least cap = omega arith
-
-pub budget_most : (cap : ℕ) → cap ≤ 89478485 → budget_of cap ≤ 2 ^ 30
-budget_most cap h = omega (arith, h)

@@ -1,3 +1,4 @@
+mod LookLaws
 mod JoinedLaws
 mod TextLaws
 mod StayLaws
@@ -5,5 +6,7 @@ mod StopLaws
 mod HeadLaws
 mod GivenLaws
 mod PassLaws
+mod LimitLaws
 mod MergeLaws
+mod WrittenLaws
 mod AnswerLaws

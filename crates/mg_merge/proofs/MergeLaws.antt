@@ -1,6 +1,6 @@
 -- What a merge answers, by what the calls that it makes answer.
-use Rattle.std.proofs.Common.{arith, ◌≡◌, ◌≢◌, ◌≤◌, ◌<◌, ◌+◌, ◌*◌, ◌/◌, ◌^◌, ◌∙◌, ◌⊎◌, cond, ℕ, Bool, List, [], length, Option, Some, Ok, Err, IsSome, refl, sym, ap, subst, inl, inr}
-use Rattle.std.specs.Prelude.{IfErr, IfOk, OnOk, Result, max}
+use Rattle.std.proofs.Common.{◌≡◌, ◌≢◌, ◌/◌, ◌∙◌, ℕ, List, Option, Ok, Err, sym, ap, subst, inl, inr}
+use Rattle.std.specs.Prelude.{IfErr, OnOk, Result}
 use Rattle.mg_dev.specs.Faults.{ReadStops}
 use Rattle.mg_dev.specs.Files.{Files, bytes_at}
 use Rattle.mg_dev.specs.Names.{full_name}
@@ -8,11 +8,9 @@ use Rattle.mg_dev.specs.declared.fault.Fault.{Fault}
 use Rattle.mg_dev.specs.declared.fault.Fault.TheVariants as cause
 use Rattle.mg_dev.specs.declared.part.Part.{Part}
 use Rattle.mg_dev.specs.declared.part.Part.TheVariants.{Head, Places, Plain, Text}
-use Rattle.mg_defs.specs.CodedText.{TextCode}
 use Rattle.mg_defs.specs.declared.Stream.{Stream}
 use Rattle.mg_defs.specs.Heads as defs
 use Rattle.mg_defs.specs.Heads.{IsHead}
-use Rattle.mg_defs.specs.Join.{join}
 use Rattle.mg_defs.specs.Limits.{version_2}
 use Rattle.mg_defs.specs.WithinLimits.{IsWithinLimits}
 use Rattle.mg_defs.specs.Marks.{PassesFirst, piece, start}
@@ -21,19 +19,18 @@ use Rattle.mg_defs.specs.Summaries.{run_cap}
 use Rattle.mg_defs.proofs.HeadLaws.{one_head}
 use Rattle.mg_defs.proofs.StandLaws.{stand-tells}
 use Rattle.mg_layout.specs.HeadAnswers.{fields_of}
-use Rattle.mg_layout.specs.Stands.{Stands, StandsBy, StandsIn, parts_at}
+use Rattle.mg_layout.specs.Stands.{Stands, StandsIn, parts_at}
 use Rattle.mg_layout.specs.declared.head.Head as layout
 use Rattle.mg_layout.proofs.CallerLemmas.{in_stands, loaded_set}
-use Rattle.mg_make.specs.Plans.{IsPlanOf, Plan}
 use Rattle.mg_make.specs.Putting.{IsApart}
 use Rattle.mg_dev.specs.Runs.{IsDone, RefusedFor}
-use Rattle.mg_make.specs.Outcomes.{IsEarly, most_bytes}
-use Rattle.mg_merge.specs.Merging.{BothStand, IsSizeByHeads, MergeStops, budget_of, joined_size}
-use Rattle.mg_merge.specs.Passes.{AreApart, ArePlanned}
+use Rattle.mg_make.specs.Outcomes.{IsEarly}
+use Rattle.mg_merge.specs.Merging.{BothStand, IsSizeByHeads, budget_of, joined_size}
+use Rattle.mg_merge.specs.Passes.{AreApart}
 use Rattle.mg_merge.specs.Stops.{AreHeads, CountingStops}
-use Rattle.mg_merge.specs.Texts.{AreSetsBy, AreTextsOf, TextsStand, TwoTexts}
+use Rattle.mg_merge.specs.Texts.{AreSetsBy, AreTextsOf, TwoTexts}
 use Rattle.mg_merge.proofs.JoinedLaws.{cap_again}
-use Rattle.mg_merge.proofs.StopLaws.{counting_cause, counting_documents, counting_only, counting_pieces, only_done, read_counts, read_late, within_passes}
+use Rattle.mg_merge.proofs.StopLaws.{counting_documents, counting_only, counting_pieces, only_done, read_counts, read_late, within_passes}
 
 -- ---- names
 
@@ -114,12 +111,6 @@ refused_other {T} {U} fault wanted (inr (inr is)) = inr (inr (ap Err (from_err {
 pub early_at : {T : Type 0} (r : Result T Fault) (kept now : Type 0) → (kept → now) → IfErr r (λ fault. IsEarly fault → kept) → IfErr r (λ fault. IsEarly fault → now)
 early_at (Ok value) kept now same early = tt
 early_at (Err fault) kept now same early = λ is. same (early is)
-
-pub cause_all : {T : Type 0} (r : Result T Fault) (rose now : Type 0) (stands : List ℕ → Type 0) (files : Option Files) (first second new : List ℕ) →
-    (rose → now) → ((a b : List ℕ) → BothStand files first second a b → stands (join a b)) → IfErr r (CountingStops rose stands) →
-    IfErr r (MergeStops now files first second new)
-cause_all (Ok value) rose now stands files first second new grows is stop = tt
-cause_all (Err fault) rose now stands files first second new grows is stop = counting_cause rose now stands files first second new fault grows is stop
 
 pub documents_all : {T : Type 0} (r : Result T Fault) (rose : Type 0) (stands : List ℕ → Type 0) (collection : List ℕ) → stands collection →
     PassesFirst version_2 collection start → OnOk r (IsWithinLimits 2 collection) → IfErr r (CountingStops rose stands) → RefusedFor r cause.TooManyDocuments

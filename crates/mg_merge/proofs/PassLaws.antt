@@ -1,8 +1,7 @@
 -- Bytes that are counted and written one after the other, and why a pass over them stops.
-use Rattle.std.proofs.Common.{arith, ◌≡◌, ◌≢◌, ◌≤◌, ◌<◌, ◌+◌, ◌^◌, ◌++◌, ◌∷◌, ◌∙◌, ◌⊎◌, ℕ, List, [], length, take, drop, Option, Some, Ok, Err, IsSome, is_some, refl, sym, ap, subst, inl, inr}
+use Rattle.std.proofs.Common.{◌≡◌, ◌<◌, ◌+◌, ◌^◌, ◌++◌, ◌∙◌, ℕ, List, [], length, Option, Some, Ok, Err, IsSome, is_some, sym, ap, subst, inl, inr}
 use Rattle.std.proofs.lemmas.List.{append_assoc}
 use Rattle.std.specs.Prelude.{IfErr, Result}
-use Rattle.mg_dev.specs.Causes.{Rose}
 use Rattle.mg_dev.specs.Faults.{IsDamagedPart, ReadStops}
 use Rattle.mg_dev.specs.Files.{Files, file_at}
 use Rattle.mg_dev.specs.Names.{full_name}
@@ -15,9 +14,9 @@ use Rattle.mg_layout.specs.Stands.{StandsForNone}
 use Rattle.mg_make.specs.Counting.{CountStops, EndStops, PassWith}
 use Rattle.mg_make.specs.Listing.{ListStops}
 use Rattle.mg_make.specs.Plans.{IsPlanOf, Plan}
-use Rattle.mg_make.specs.Putting.{HasPut, IsUnbuilt, OthersSame, Putting}
+use Rattle.mg_make.specs.Putting.{HasPut, IsUnbuilt, Putting}
 use Rattle.mg_make.specs.Written.{SecondStops}
-use Rattle.mg_make.specs.Outcomes.{IsEarly, Left}
+use Rattle.mg_make.specs.Outcomes.{Left}
 use Rattle.mg_merge.specs.Stops.{CountingStops, Differ, IsRetold}
 
 -- ---- counting
@@ -147,7 +146,7 @@ second_wider rose now same less cause.SameName grows back stop = absurd stop
 second_wider rose now same less (cause.TooManyRotations count) grows back stop = absurd stop
 
 -- damage comes where nothing stands
-damage_stops : (now whole : Type 0) (fault : Fault) → IsDamagedPart fault → (whole → ⊥) → ReadStops now whole fault
+pub damage_stops : (now whole : Type 0) (fault : Fault) → IsDamagedPart fault → (whole → ⊥) → ReadStops now whole fault
 damage_stops now whole cause.Usage is none = absurd is
 damage_stops now whole cause.StoreFault is none = absurd is
 damage_stops now whole cause.ReadFault is none = absurd is
@@ -210,24 +209,11 @@ finish_stops rose now same whole (cause.TooManyRotations count) told grows all i
 
 -- ---- files
 
-pub others_more : (base : List ℕ) (f g h : Option Files) → OthersSame base f g → OthersSame base g h → OthersSame base f h
-others_more base f g h one two = record { told = two.told ∙ one.told; others = λ name apart. two.others name apart ∙ one.others name apart }
-
-pub others_none : (base : List ℕ) (f g : Option Files) → g ≡ f → OthersSame base f g
-others_none base f g same = record { told = ap is_some same; others = λ name apart. ap (λ files. file_at files name) same }
-
 pub still_told : (before now : Option Files) → is_some now ≡ is_some before → IsSome before → IsSome now
 still_told before now same told = same ∙ told
 
 pub still_put : (w : Putting) (before now : Option Files) (fed : List ℕ) → now ≡ before → HasPut w before fed → HasPut w now fed
 still_put w before now fed same put = subst (λ files. HasPut w files fed) (sym same) put
-
--- failures that rose later rose, and those that rose so far did
-pub rose_behind : (a b c : ℕ) → a ≤ b → Rose b c → Rose a c
-rose_behind a b c up rose = omega (arith, up, rose)
-
-pub rose_before : (a b c : ℕ) → b ≤ c → Rose a b → Rose a c
-rose_before a b c up rose = omega (arith, up, rose)
 
 -- what a start that was refused leaves
 pub left_by_start : (base collection : List ℕ) (before now : Option Files) → IsSome before →

@@ -1,5 +1,5 @@
 -- Two texts, while other files change.
-use Rattle.std.proofs.Common.{◌≡◌, ◌∙◌, ℕ, List, Option, sym, subst}
+use Rattle.std.proofs.Common.{◌∙◌, ℕ, List, Option, sym, subst}
 use Rattle.mg_dev.specs.Files.{Files}
 use Rattle.mg_make.specs.Putting.{IsApart, OthersSame}
 use Rattle.mg_text.proofs.CallerLemmas.{text_fits, text_stays}

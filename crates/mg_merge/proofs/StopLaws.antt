@@ -1,6 +1,5 @@
 -- What is answered of refusals, by what the calls that refused answer.
-use Rattle.std.proofs.Common.{arith, ◌≡◌, ◌≤◌, ◌<◌, ◌+◌, ◌^◌, ◌++◌, ◌∷◌, ◌⊎◌, ℕ, List, length, Option, Ok, Err, IsSome, refl, sym, ap, subst, inl, inr, append_assoc}
-use Rattle.std.specs.Prelude.{IfErr, OnOk, Result}
+use Rattle.std.proofs.Common.{◌≡◌, ◌⊎◌, ℕ, List, Option, Err, IsSome, refl, sym, ap, subst, inl, inr}
 use Rattle.mg_dev.specs.Faults.{ReadStops}
 use Rattle.mg_dev.specs.Files.{Files, bytes_at}
 use Rattle.mg_dev.specs.Names.{full_name}
@@ -18,9 +17,9 @@ use Rattle.mg_laws.proofs.FirstMarks.{first_is_beyond, one_first, within_from}
 use Rattle.mg_layout.specs.Stands.{HasNoHead}
 use Rattle.mg_layout.proofs.CallerLemmas.{no_empty_head, own_head}
 use Rattle.mg_dev.specs.Runs.{IsDone, RefusedFor}
-use Rattle.mg_merge.specs.Merging.{BothStand, IsSizeByHeads, MergeStops}
+use Rattle.mg_merge.specs.Merging.{BothStand, MergeStops}
 use Rattle.mg_make.specs.Outcomes.{IsEarly}
-use Rattle.mg_merge.specs.Stops.{AreHeads, CountingStops, HeadStops}
+use Rattle.mg_merge.specs.Stops.{AreHeads, CountingStops, HeadStops, TellBeyond}
 
 -- the store failed and its failures rose, or memory lacks
 abbrev pub OnlyFails : Type 0 → Fault → Type 0
@@ -266,40 +265,21 @@ counting_only rose stands collection cause.SameName stand limits stop = absurd s
 counting_only rose stands collection (cause.TooManyRotations count) stand limits stop = absurd stop
 
 pub counting_cause : (rose now : Type 0) (stands : List ℕ → Type 0) (files : Option Files) (first second new : List ℕ) (fault : Fault) → (rose → now) →
-    ((a b : List ℕ) → BothStand files first second a b → stands (join a b)) → CountingStops rose stands fault → MergeStops now files first second new fault
-counting_cause rose now stands files first second new cause.Usage grows is stop = absurd stop
-counting_cause rose now stands files first second new cause.StoreFault grows is stop = grows stop
-counting_cause rose now stands files first second new cause.ReadFault grows is stop = absurd stop
-counting_cause rose now stands files first second new cause.WriteFault grows is stop = absurd stop
-counting_cause rose now stands files first second new cause.NotBuilt grows is stop = absurd stop
-counting_cause rose now stands files first second new (cause.Damaged bad) grows is stop = λ a b both. stop (join a b) (is a b both)
-counting_cause rose now stands files first second new cause.NoCollection grows is stop = absurd stop
-counting_cause rose now stands files first second new (cause.TooLarge bytes most) grows is stop = absurd stop
-counting_cause rose now stands files first second new cause.TooManyDocuments grows is stop = λ a b both. stop (join a b) (is a b both)
-counting_cause rose now stands files first second new (cause.TooManyPieces kind) grows is stop = λ a b both. stop (join a b) (is a b both)
-counting_cause rose now stands files first second new (cause.Changed what one two) grows is stop = absurd stop
-counting_cause rose now stands files first second new cause.Memory grows is stop = tt
-counting_cause rose now stands files first second new (cause.NameClash part) grows is stop = absurd stop
-counting_cause rose now stands files first second new cause.InputTooLong grows is stop = absurd stop
-counting_cause rose now stands files first second new cause.SameName grows is stop = absurd stop
-counting_cause rose now stands files first second new (cause.TooManyRotations count) grows is stop = absurd stop
-
--- the same, later
-pub counting_wider : (rose now : Type 0) (stands less : List ℕ → Type 0) (fault : Fault) → (rose → now) →
-    ((collection : List ℕ) → less collection → stands collection) → CountingStops rose stands fault → CountingStops now less fault
-counting_wider rose now stands less cause.Usage grows back stop = absurd stop
-counting_wider rose now stands less cause.StoreFault grows back stop = grows stop
-counting_wider rose now stands less cause.ReadFault grows back stop = absurd stop
-counting_wider rose now stands less cause.WriteFault grows back stop = absurd stop
-counting_wider rose now stands less cause.NotBuilt grows back stop = absurd stop
-counting_wider rose now stands less (cause.Damaged bad) grows back stop = λ collection stand. stop collection (back collection stand)
-counting_wider rose now stands less cause.NoCollection grows back stop = absurd stop
-counting_wider rose now stands less (cause.TooLarge bytes most) grows back stop = absurd stop
-counting_wider rose now stands less cause.TooManyDocuments grows back stop = λ collection stand. stop collection (back collection stand)
-counting_wider rose now stands less (cause.TooManyPieces kind) grows back stop = λ collection stand. stop collection (back collection stand)
-counting_wider rose now stands less (cause.Changed what one two) grows back stop = absurd stop
-counting_wider rose now stands less cause.Memory grows back stop = tt
-counting_wider rose now stands less (cause.NameClash part) grows back stop = absurd stop
-counting_wider rose now stands less cause.InputTooLong grows back stop = absurd stop
-counting_wider rose now stands less cause.SameName grows back stop = absurd stop
-counting_wider rose now stands less (cause.TooManyRotations count) grows back stop = absurd stop
+    ((a b : List ℕ) → BothStand files first second a b → stands (join a b)) → (IsSome files → TellBeyond files first second fault) → CountingStops rose stands fault
+    → MergeStops now files first second new fault
+counting_cause rose now stands files first second new cause.Usage grows is told stop = absurd stop
+counting_cause rose now stands files first second new cause.StoreFault grows is told stop = grows stop
+counting_cause rose now stands files first second new cause.ReadFault grows is told stop = absurd stop
+counting_cause rose now stands files first second new cause.WriteFault grows is told stop = absurd stop
+counting_cause rose now stands files first second new cause.NotBuilt grows is told stop = absurd stop
+counting_cause rose now stands files first second new (cause.Damaged bad) grows is told stop = λ a b both. stop (join a b) (is a b both)
+counting_cause rose now stands files first second new cause.NoCollection grows is told stop = absurd stop
+counting_cause rose now stands files first second new (cause.TooLarge bytes most) grows is told stop = absurd stop
+counting_cause rose now stands files first second new cause.TooManyDocuments grows is told stop = (λ a b both. stop (join a b) (is a b both), told)
+counting_cause rose now stands files first second new (cause.TooManyPieces kind) grows is told stop = (λ a b both. stop (join a b) (is a b both), told)
+counting_cause rose now stands files first second new (cause.Changed what one two) grows is told stop = absurd stop
+counting_cause rose now stands files first second new cause.Memory grows is told stop = tt
+counting_cause rose now stands files first second new (cause.NameClash part) grows is told stop = absurd stop
+counting_cause rose now stands files first second new cause.InputTooLong grows is told stop = absurd stop
+counting_cause rose now stands files first second new cause.SameName grows is told stop = absurd stop
+counting_cause rose now stands files first second new (cause.TooManyRotations count) grows is told stop = absurd stop

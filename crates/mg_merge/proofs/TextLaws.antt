@@ -1,8 +1,8 @@
 -- Two texts that are read: what stands of them, and what their documents are.
-use Rattle.std.proofs.Common.{arith, ◌≡◌, ◌≢◌, ◌+◌, ◌-◌, ◌^◌, ◌≤◌, ◌<◌, ◌==◌, ℕ, Bool, true, false, not, if◌then◌else◌, List, [], ◌∷◌, ◌++◌, length, get_or, Option, None, Some, Ok, Err, IsSome, is_some, refl, sym, ◌∙◌, ap, subst, append-nil, append_assoc, inl, inr}
+use Rattle.std.proofs.Common.{arith, ◌≡◌, ◌+◌, ◌-◌, ◌≤◌, ◌<◌, ℕ, Bool, true, false, List, [], ◌∷◌, ◌++◌, length, get_or, Option, Ok, Err, is_some, refl, sym, ◌∙◌, ap, subst, append-nil}
 use Rattle.std.specs.Prelude.{OnOk, Result}
 use Rattle.mg_dev.specs.Faults.{ReadStops, fault_of_part}
-use Rattle.mg_dev.specs.Files.{Files, bytes_at, file_at}
+use Rattle.mg_dev.specs.Files.{Files, file_at}
 use Rattle.mg_dev.specs.PartCauses.{HasPartCause}
 use Rattle.mg_dev.specs.Causes.{Rose}
 use Rattle.mg_dev.specs.declared.part_err.PartErr.{PartErr}
@@ -10,7 +10,7 @@ use Rattle.mg_dev.specs.declared.part_err.PartErr.TheVariants.{Bad, Device, Memo
 use Rattle.mg_dev.specs.Bads.{IsNotBad}
 use Rattle.mg_defs.specs.Join.{join}
 use Rattle.mg_defs.specs.Split.{close, documents, has_open_end, is_closed}
-use Rattle.mg_laws.proofs.JoinLaws.{count_joined, documents_joined, end_joined, size_joined}
+use Rattle.mg_laws.proofs.JoinLaws.{count_joined, end_joined, size_joined}
 use Rattle.mg_layout.specs.HeadAnswers.{fields_of}
 use Rattle.mg_layout.specs.declared.head.Head as layout
 use Rattle.mg_defs.specs.Stands.{head_of}

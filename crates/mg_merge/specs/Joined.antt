@@ -2,7 +2,6 @@
 use Rattle.std.specs.Prelude.{◌≡◌, ◌≢◌, ◌⊎◌, ◌<◌, ◌≤◌, ℕ, List, length, IsSome}
 use Rattle.mg_dev.specs.Moments.{StoreAt, StoreRose, KeptFiles}
 use Rattle.mg_dev.specs.Runs.{IfStopped, StoppedFor}
-use Rattle.mg_dev.specs.declared.part.Part.TheVariants as part
 use Rattle.mg_dev.specs.declared.fault.Fault.{Fault}
 use Rattle.mg_dev.specs.declared.fault.Fault.TheVariants.{NotBuilt, TooLarge, TooManyDocuments, TooManyPieces, Memory, SameName}
 use Rattle.mg_dev.specs.declared.status.Status.{Status}
@@ -15,6 +14,7 @@ use Rattle.mg_defs.specs.Marks.{PassesFirst, start, piece}
 use Rattle.mg_layout.specs.Stands.{HasNoHead, Stands, StandsIn}
 use Rattle.mg_make.specs.Putting.{OthersSame}
 use Rattle.mg_make.specs.Outcomes.{AreMadeAnew, IsEarly, Left, most_bytes}
+use Rattle.mg_merge.specs.Looks.{reads_outside}
 use Rattle.mg_merge.specs.Merging.{BothStand, IsSizeByHeads, MergeStops}
 
 -- of each two collections that the sets of these names stand for, in either version, by the store before the merge and after it, and its status
@@ -25,6 +25,9 @@ pub record Joined (first second new : List ℕ) (store store_now : StoreAt) (sta
       → AreMadeAnew store_now.files new (join a b) cap
   -- after the statuses 16, 5 and 8 to 10 no file has changed
   pub unchanged : (fault : Fault) → IsEarly fault → status ≡ Stopped fault → KeptFiles store store_now
+  -- and of the two sets no part was read but the heads, the models and the texts
+  pub unread : (fault : Fault) → IsEarly fault → status ≡ Stopped fault →
+      reads_outside store_now.reads ≡ reads_outside store.reads
   -- every status: all files are as before, or the new set stands for none, or for both collections in one; no file but its own changes
   pub left : (a b : List ℕ) → BothStand store.files first second a b → Left new store.files store_now.files (join a b)
   pub others : OthersSame new store.files store_now.files

@@ -1,5 +1,7 @@
+pub mod Looks
 pub mod Texts
 pub mod Stops
 pub mod Merging
 pub mod Passes
+pub mod Written
 pub mod Joined

@@ -5,13 +5,12 @@ use Rattle.std.specs.declared.option.Option.{Option}
 use Rattle.mg_dev.specs.Files.{Files}
 use Rattle.mg_dev.specs.declared.fault.Fault.{Fault}
 use Rattle.mg_dev.specs.declared.fault.Fault.TheVariants.{Damaged, Memory, NotBuilt, SameName, StoreFault, TooLarge, TooManyDocuments, TooManyPieces}
-use Rattle.mg_defs.specs.declared.Stream.{Stream}
 use Rattle.mg_defs.specs.Heads as heads
 use Rattle.mg_defs.specs.Join.{join}
 use Rattle.mg_defs.specs.Limits.{version_2}
 use Rattle.mg_defs.specs.Marks.{PassesFirst, piece, start}
 use Rattle.mg_layout.specs.Stands.{HasNoHead, Stands, StandsIn}
-use Rattle.mg_merge.specs.Stops.{AreHeads}
+use Rattle.mg_merge.specs.Stops.{AreHeads, TellBeyond}
 use Rattle.mg_make.specs.Outcomes.{most_bytes}
 
 -- ---- what it makes
@@ -29,13 +28,6 @@ pub record BothStand (files : Option Files) (first second a b : List ℕ) : Type
   pub first_stands : Stands files first a
   pub second_stands : Stands files second b
 
--- the collection that both sets make
-pub record AreOf (files : Option Files) (first second collection : List ℕ) : Type 0 where
-  pub a : List ℕ
-  pub b : List ℕ
-  pub both : BothStand files first second a b
-  pub joins : collection ≡ join a b
-
 -- the heads of both sets tell so many bytes
 pub record IsSizeByHeads (files : Option Files) (first second : List ℕ) (size : ℕ) : Type 0 where
   pub a : heads.Head
@@ -45,17 +37,18 @@ pub record IsSizeByHeads (files : Option Files) (first second : List ℕ) (size 
 
 -- ---- why it stops
 
--- the cause of each refusal, by the files as it began and the three bases
+-- the cause of each refusal, by the files as it began and the three bases; over any sets a limit is passed only where the heads tell it
 abbrev pub MergeStops : Type 0 → Option Files → List ℕ → List ℕ → List ℕ → Fault → Type 0
 MergeStops store_rose files first second new StoreFault = store_rose
 MergeStops store_rose files first second new NotBuilt = IsSome files → HasNoHead files first ⊎ HasNoHead files second
 MergeStops store_rose files first second new (Damaged bad) = (a b : List ℕ) → BothStand files first second a b → ⊥
 MergeStops store_rose files first second new (TooLarge size most) = (most ≡ most_bytes) × (most < size)
     × (IsSome files → IsSizeByHeads files first second size)
-MergeStops store_rose files first second new TooManyDocuments = (a b : List ℕ) → BothStand files first second a b →
-    PassesFirst version_2 (join a b) start
-MergeStops store_rose files first second new (TooManyPieces stream) = (a b : List ℕ) →
-    BothStand files first second a b → (bytes : List ℕ) × PassesFirst version_2 (join a b) (piece stream bytes)
+MergeStops store_rose files first second new TooManyDocuments = ((a b : List ℕ) → BothStand files first second a b →
+    PassesFirst version_2 (join a b) start) × (IsSome files → TellBeyond files first second TooManyDocuments)
+MergeStops store_rose files first second new (TooManyPieces stream) = ((a b : List ℕ) →
+    BothStand files first second a b → (bytes : List ℕ) × PassesFirst version_2 (join a b) (piece stream bytes))
+    × (IsSome files → TellBeyond files first second (TooManyPieces stream))
 MergeStops store_rose files first second new Memory = Unit {0}
 MergeStops store_rose files first second new SameName = (new ≡ first) ⊎ (new ≡ second)
 MergeStops store_rose files first second new _ = ⊥

@@ -1,7 +1,8 @@
 -- Why the steps of a merge stop.
-use Rattle.std.specs.Prelude.{◌≡◌, ◌≢◌, ◌⊎◌, ℕ, List}
+use Rattle.std.specs.Prelude.{◌≡◌, ◌≢◌, ◌⊎◌, ◌<◌, ◌+◌, ℕ, List, Err, Ok}
 use Rattle.std.specs.Option.{IsSome}
 use Rattle.std.specs.declared.option.Option.{Option}
+use Rattle.std.specs.declared.result.Result.{Result}
 use Rattle.mg_dev.specs.Faults.{IsDamagedPart}
 use Rattle.mg_dev.specs.Files.{Files, bytes_at}
 use Rattle.mg_dev.specs.Names.{full_name}
@@ -10,6 +11,8 @@ use Rattle.mg_dev.specs.declared.fault.Fault.TheVariants.{Changed, Damaged, Memo
 use Rattle.mg_dev.specs.declared.part.Part.TheVariants.{Head}
 use Rattle.mg_dev.specs.declared.part_err.PartErr.{PartErr}
 use Rattle.mg_dev.specs.declared.part_err.PartErr.TheVariants as part
+use Rattle.mg_defs.specs.declared.Stream.{Stream}
+use Rattle.mg_defs.specs.declared.Stream.TheVariants.{Others, Words}
 use Rattle.mg_defs.specs.Heads.{IsHead}
 use Rattle.mg_defs.specs.Heads as heads
 use Rattle.mg_defs.specs.Limits.{version_2}
@@ -75,3 +78,32 @@ IsRetold fault told = told ≡ fault
 -- the head of the one or of the other base is missing or empty
 abbrev pub IsOneMissing : Option Files → List ℕ → List ℕ → Type 0
 IsOneMissing files first second = HasNoHead files first ⊎ HasNoHead files second
+
+-- ---- limits, by what the heads tell
+
+-- how many pieces of a stream a head tells
+abbrev pub pieces_told : Stream → heads.Head → ℕ
+pieces_told Words head = head.words
+pieces_told Others head = head.others
+
+-- a limit that is told as passed: the numbers of both heads together pass it
+abbrev pub AreBeyond : heads.Head → heads.Head → Fault → Type 0
+AreBeyond a b TooManyDocuments = version_2.documents < a.documents + b.documents
+AreBeyond a b (TooManyPieces stream) = version_2.pieces < pieces_told stream a + pieces_told stream b
+AreBeyond a b _ = Unit {0}
+
+-- the heads of two bases tell so
+pub record TellBeyond (files : Option Files) (first second : List ℕ) (fault : Fault) : Type 0 where
+  pub a : heads.Head
+  pub b : heads.Head
+  pub are : AreHeads files first second a b
+  pub beyond : AreBeyond a b fault
+
+-- a limit that the heads do not pass is told as damage, all else as it is
+abbrev pub IsToldByHeads : heads.Head → heads.Head → Fault → Fault → Type 0
+IsToldByHeads a b fault told = (AreBeyond a b fault × (told ≡ fault)) ⊎ (¬ AreBeyond a b fault × IsDamagedPart told)
+
+-- so is it told of what a call answered
+abbrev pub IsAnswerByHeads : {T : Type 0} → heads.Head → heads.Head → Result T Fault → Result T Fault → Type 0
+IsAnswerByHeads a b (Ok value) answer = answer ≡ Ok value
+IsAnswerByHeads a b (Err fault) answer = (told : Fault) × (answer ≡ Err told) × IsToldByHeads a b fault told

@@ -10,7 +10,7 @@ use Rattle.mg_defs.specs.Split.{close, documents, has_open_end, is_closed, joine
 use Rattle.mg_defs.specs.CodedText.{TextCode}
 use Rattle.mg_layout.specs.Stands.{StandsBy}
 use Rattle.mg_layout.specs.declared.head.Head as layout
-use Rattle.mg_text.specs.Reading.{SameText, TextFits, TextReading, TextStands}
+use Rattle.mg_text.specs.Reading.{IsTextReader, SameText, TextFits, TextReading, TextStands}
 
 -- the readers of both texts, how many documents the first one and both have, whether the end is open, how many bytes all documents have with those that close them, and the document that was read last, with the byte that closes it
 pub record TwoTexts : Type 0 where
@@ -64,6 +64,19 @@ pub record AreSetsBy (one other : layout.Head) (files : Option Files) (first sec
 abbrev pub AreSomeSetsBy : layout.Head → layout.Head → Option Files → List ℕ → List ℕ → Type 0
 AreSomeSetsBy one other files first second = (a : List ℕ) × (b : List ℕ) × AreSetsBy one other files first second a b
 
+-- these are readers of the texts of two bases, by the numbers of two heads
+pub record AreReaders (one other : TextReading) (files : Option Files) (first second : List ℕ)
+    (heads : layout.Head × layout.Head) : Type 0 where
+  pub first_fits : TextFits one files
+  pub second_fits : TextFits other files
+  pub first_reader : IsTextReader one first heads.0
+  pub second_reader : IsTextReader other second heads.1
+
+-- they read the texts of two collections
+pub record BothTextsStand (one other : TextReading) (files : Option Files) (a b : List ℕ) : Type 0 where
+  pub first : TextStands one files a
+  pub second : TextStands other files b
+
 -- it reads Text and Places of these bases
 pub record AreTextsOf (t : TwoTexts) (first second : List ℕ) : Type 0 where
   pub first_text : t.first.text.name ≡ full_name first Text
@@ -112,3 +125,9 @@ ForSetsBy one other files first second holds = (a b : List ℕ) → AreSetsBy on
 -- the text of a collection is read by what was loaded
 abbrev pub LoadsText : {E : Type 0} → Option Files → Result TextReading E → TextCode → List ℕ → Type 0
 LoadsText files result code collection = IfOk result (λ (r : TextReading). TextStands r files collection)
+
+-- this is so of each two collections that the files of two bases stand for by these two heads
+abbrev pub WhereSetsStand : layout.Head × layout.Head → Option Files → List ℕ → List ℕ →
+    (List ℕ → List ℕ → Type 0) → Type 0
+WhereSetsStand heads files first second holds = (a b : List ℕ) → AreSetsBy heads.0 heads.1 files first second a b →
+    holds a b

@@ -1,8 +1,10 @@
 //! The first pass over two texts.
-ghost use Rattle.std.specs.Prelude.{◌≡◌, ◌<◌, ◌≤◌, ◌+◌, ◌^◌, ◌++◌, ℕ, List, [], length, IfErr, IfOk, OnOk};
+ghost use Rattle.std.specs.Prelude.{◌<◌, ◌≤◌, ◌+◌, ◌^◌, ◌++◌, ℕ, List, [], length, IfErr, IfOk, OnOk};
+ghost use Rattle.mg_dev.specs.Moments.{Between};
 ghost use Rattle.mg_dev.specs.Causes.{Rose};
 ghost use Rattle.mg_make.specs.Counting.{CountStops, HasCounted};
 ghost use Rattle.mg_make.specs.Plans.{IsPlan, IsPlanOf, IsRoomFor};
+ghost use Rattle.mg_merge.specs.Looks.{LooksAtTexts};
 ghost use Rattle.mg_merge.specs.Stops.{CountingStops};
 ghost use Rattle.mg_merge.specs.Passes.{AreAllGiven};
 ghost use Rattle.mg_merge.specs.Texts.{SameTexts, TextsFit, TextsStand};
@@ -43,8 +45,7 @@ fn count_documents<'a, S: Store, D: Documents<'a, S>>(
         (S.files store.old) fed × HasCounted count.new fed) }
     ensures fits { TextsFit (D.texts texts.new) (S.files store.new) }
     ensures same { SameTexts (D.texts texts.old) (D.texts texts.new) }
-    ensures files { S.files store.new ≡ S.files store.old }
-    ensures later { S.faults store.old ≤ S.faults store.new }
+    ensures looks { Between S.files S.reads S.faults store.old store.new LooksAtTexts }
     ensures refused { IfErr result (CountingStops (Rose (S.faults store.old) (S.faults store.new))
         (TextsStand (D.texts texts.old) (S.files store.old))) }
 {
@@ -87,8 +88,7 @@ pub(crate) fn count_all<'a, S: Store, D: Documents<'a, S>>(
         (S.files store.old) collection → IfOk result (λ made. IsPlanOf made.0 collection) }
     ensures fits { TextsFit (D.texts texts.new) (S.files store.new) }
     ensures same { SameTexts (D.texts texts.old) (D.texts texts.new) }
-    ensures files { S.files store.new ≡ S.files store.old }
-    ensures later { S.faults store.old ≤ S.faults store.new }
+    ensures looks { Between S.files S.reads S.faults store.old store.new LooksAtTexts }
     ensures refused { IfErr result (CountingStops (Rose (S.faults store.old) (S.faults store.new))
         (TextsStand (D.texts texts.old) (S.files store.old))) }
 {

@@ -2,11 +2,13 @@
 //!
 //! Both passes take whatever reads them: they see no more of it than this trait tells.
 ghost use Rattle.std.specs.Prelude.{◌≡◌, ◌<◌, ◌≤◌, ◌+◌, ◌^◌, IfErr, IfOk, OnOk, length};
+ghost use Rattle.mg_dev.specs.Moments.{Between};
 ghost use Rattle.mg_dev.specs.Causes.{Rose};
 ghost use Rattle.mg_dev.specs.Faults.{ReadStops};
 ghost use Rattle.mg_defs.specs.Heads.{IsWithin};
 ghost use Rattle.mg_layout.specs.HeadAnswers.{fields_of};
 ghost use Rattle.mg_make.specs.Outcomes.{Fails};
+ghost use Rattle.mg_merge.specs.Looks.{LooksAtTexts};
 ghost use Rattle.mg_merge.specs.Merging.{joined_size};
 ghost use Rattle.mg_merge.specs.Texts.{AreShort, AreSomeSets, AreTextsOf, ForSetsBy, ForShort, SameTexts, TextsFit, TextsStand, TwoTexts, closed_document};
 
@@ -35,8 +37,7 @@ pub(crate) trait Documents<'a, S: Store> {
         ensures stands { ForSetsBy heads.now.0 heads.now.1
             (S.files store.old) first.entry.now second.entry.now
             (λ collection. IfOk result (λ d. TextsStand (texts d) (S.files store.new) collection)) }
-        ensures files { S.files store.new ≡ S.files store.old }
-        ensures later { S.faults store.old ≤ S.faults store.new }
+        ensures looks { Between S.files S.reads S.faults store.old store.new LooksAtTexts }
         ensures refused { IfErr result (ReadStops (Fails S.faults store.old store.new)
             (AreSomeSets heads.now (S.files store.old) first.entry.now second.entry.now)) };
 
@@ -64,8 +65,7 @@ pub(crate) trait Documents<'a, S: Store> {
             (λ collection. OnOk result ((texts self.new).held
             ≡ closed_document number collection)) }
         ensures short { OnOk result (length (texts self.new).held ≤ most + 1) }
-        ensures files { S.files store.new ≡ S.files store.old }
-        ensures later { S.faults store.old ≤ S.faults store.new }
+        ensures looks { Between S.files S.reads S.faults store.old store.new LooksAtTexts }
         ensures refused { IfErr result (ReadStops (Rose (S.faults store.old) (S.faults store.new))
             (AreShort (texts self.old) (S.files store.old) number most)) };
 }

@@ -1,11 +1,13 @@
 //! The heads of two sets.
-ghost use Rattle.std.specs.Prelude.{◌≡◌, ◌≤◌, IfErr, IfOk, IsSome, Err};
+ghost use Rattle.std.specs.Prelude.{◌≡◌, IfErr, IfOk, IsSome, Err};
+ghost use Rattle.mg_dev.specs.Moments.{Between};
 ghost use Rattle.mg_dev.specs.Causes.{Rose};
 ghost use Rattle.mg_dev.specs.declared.fault.Fault.TheVariants as fault;
 ghost use Rattle.mg_defs.specs.Heads.{IsWithin};
 ghost use Rattle.mg_layout.specs.HeadAnswers.{fields_of};
 ghost use Rattle.mg_layout.specs.Stands.{HasNoHead};
 ghost use Rattle.mg_dev.specs.Runs.{RefusedFor};
+ghost use Rattle.mg_merge.specs.Looks.{LooksAtTexts};
 ghost use Rattle.mg_merge.specs.Merging.{budget_of, joined_size};
 ghost use Rattle.mg_merge.specs.Stops.{AreHeads, HeadStops, IsOneMissing, IsRefusedFirst, IsToldFirst};
 
@@ -28,8 +30,7 @@ pub(crate) fn load_heads<S: Store>(
         (S.files store.old) first.now second.now → RefusedFor result fault.NotBuilt }
     ensures refused { IfErr result (HeadStops (Rose (S.faults store.old) (S.faults store.new))
         (S.files store.old) first.now second.now) }
-    ensures files { S.files store.new ≡ S.files store.old }
-    ensures later { S.faults store.old ≤ S.faults store.new }
+    ensures looks { Between S.files S.reads S.faults store.old store.new LooksAtTexts }
 {
     let loaded = match Head::load(store, first) {
         Ok(loaded) => loaded,
@@ -55,8 +56,7 @@ fn refused_first<S: Store>(store: &mut S, second: &str, refusal: PartErr) -> Fau
         IsRefusedFirst result }
     ensures cause { IsToldFirst (Rose (S.faults store.old) (S.faults store.new))
         (S.files store.old) second.now refusal result }
-    ensures files { S.files store.new ≡ S.files store.old }
-    ensures later { S.faults store.old ≤ S.faults store.new }
+    ensures looks { Between S.files S.reads S.faults store.old store.new LooksAtTexts }
 {
     let bad = match refusal {
         PartErr::Bad(bad) => bad,

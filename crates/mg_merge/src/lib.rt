@@ -10,6 +10,7 @@
 
 mod counting;
 mod documents;
+mod dropping;
 mod heads;
 mod merging;
 mod retelling;

@@ -1,26 +1,24 @@
 //! The merge of two sets.
-ghost use Rattle.std.specs.Prelude.{◌≡◌, ◌≢◌, ◌≤◌, ◌^◌, ℕ, List, IfErr, OnOk};
-ghost use Rattle.mg_dev.specs.Causes.{Rose};
-ghost use Rattle.mg_dev.specs.Each.{ForEach};
+ghost use Rattle.std.specs.Prelude.{◌≢◌, ◌≤◌, ◌^◌};
 ghost use Rattle.mg_dev.specs.Runs.{status_of};
-ghost use Rattle.mg_dev.specs.declared.part.Part.TheVariants as part;
-ghost use Rattle.mg_defs.specs.WithinLimits.{IsWithinLimits};
-ghost use Rattle.mg_make.specs.Putting.{IsEmptied, OthersSame};
 ghost use Rattle.mg_merge.specs.Joined.{Joined};
-ghost use Rattle.mg_make.specs.Outcomes.{BetweenMoments, HasSummaryOf, IsEarly, Left, MakesSet};
+ghost use Rattle.mg_make.specs.Outcomes.{BetweenMoments, HasSummaryOf};
+ghost use Rattle.mg_make.specs.Plans.{IsPlan, IsRoomFor};
 ghost use Rattle.mg_merge.specs.Merging.{ForBoth, budget_of};
-ghost use Rattle.mg_merge.specs.Stops.{CountingStops};
 ghost use Rattle.mg_merge.specs.Passes.{AreApart};
-ghost use Rattle.mg_merge.specs.Texts.{AreTexts, TextsFit, TextsStand};
+ghost use Rattle.mg_merge.specs.Texts.{TextsFit};
+ghost use Rattle.mg_merge.specs.Written.{MergesTexts, WritesSet};
 
 use crate::counting::count_all;
 use crate::documents::Documents;
+use crate::dropping::without;
 use crate::heads::{budget_of, joined_size, load_heads};
+use crate::retelling::answer_by_heads;
 use crate::texts::Texts;
 use crate::writing::write_set;
 use mg_defs::COLLECTION_BYTES;
 use mg_dev::{Fault, Store, names_apart};
-use mg_make::Summary;
+use mg_make::{Plan, Room, Summary};
 use std::alloc::Global;
 
 /// Makes the set of the documents of two sets under a third base, in version 2 and with the first one's cap. The two may be
@@ -34,8 +32,9 @@ use std::alloc::Global;
 ///
 /// Before the first write, and in this order: `SameName` where the new base is one of the two, `NotBuilt` where one has no
 /// head, `TooLarge` where both have too many bytes by their heads, and `TooManyDocuments` or `TooManyPieces`, whichever
-/// is met first. `Damaged` only where one of the sets stands for no collection, also where it changes while it is read.
-/// The store's faults, and want of memory.
+/// is met first, and that only where the heads together tell too many: else a set holds more than its head tells, which
+/// is damage. `Damaged` only where one of the sets stands for no collection, also where it changes while it is read. The
+/// store's faults, and want of memory.
 pub fn merge<S: Store>(
     alloc: Global,
     store: &mut S,
@@ -94,7 +93,8 @@ fn merge_apart<'a, S: Store, D: Documents<'a, S> + Drop>(
         Err(refusal) => return Err(refusal),
     };
     let budget = budget_of(heads.0.cap);
-    merge_texts(alloc, store, &mut texts, new, budget)
+    let answer = merge_texts(alloc, store, &mut texts, new, budget);
+    answer_by_heads(answer, &heads)
 }
 
 // Makes the set of two texts, by a pool of so many bytes.
@@ -109,28 +109,32 @@ fn merge_texts<'a, S: Store, D: Documents<'a, S>>(
     requires most { budget ≤ 2 ^ 30 }
     requires fits { TextsFit (D.texts texts.old) (S.files store.old) }
     requires apart { AreApart new.now (D.texts texts.old) }
-    ensures stands { ForEach (TextsStand (D.texts texts.old) (S.files store.old))
-        (MakesSet budget (S.files store.new) new.now result) }
-    ensures summary { ForEach (TextsStand (D.texts texts.old) (S.files store.old))
-        (HasSummaryOf budget result) }
-    ensures limits { (collection : List ℕ) → TextsStand (D.texts texts.old)
-        (S.files store.old) collection → OnOk result (IsWithinLimits 2 collection) }
-    ensures merge_a { AreTexts (D.texts texts.old) (S.files store.old) → OnOk result
-        (IsEmptied (S.files store.new) new.now part.MergeA) }
-    ensures merge_b { AreTexts (D.texts texts.old) (S.files store.old) → OnOk result
-        (IsEmptied (S.files store.new) new.now part.MergeB) }
-    ensures left { (collection : List ℕ) → TextsStand (D.texts texts.old)
-        (S.files store.old) collection →
-        Left new.now (S.files store.old) (S.files store.new) collection }
-    ensures others { OthersSame new.now (S.files store.old) (S.files store.new) }
-    ensures early { IfErr result (λ fault. IsEarly fault → S.files store.new ≡ S.files store.old) }
-    ensures refused { IfErr result (CountingStops (Rose (S.faults store.old) (S.faults store.new))
-        (TextsStand (D.texts texts.old) (S.files store.old))) }
-    ensures later { S.faults store.old ≤ S.faults store.new }
+    ensures merged { BetweenMoments S.files S.reads S.faults store.old store.new
+        (λ before now. MergesTexts budget new.now (D.texts texts.old) before now result) }
 {
-    let (plan, room) = match count_all(alloc, store, texts, budget) {
-        Ok(made) => made,
-        Err(refusal) => return Err(refusal),
-    };
-    write_set(alloc, store, texts, new, &plan, room)
+    match count_all(alloc, store, texts, budget) {
+        Ok(made) => write_planned(alloc, store, texts, new, made.0, made.1),
+        Err(refusal) => Err(refusal),
+    }
+}
+
+// Writes the set of two texts by a plan, of which nothing more is wanted.
+fn write_planned<'a, S: Store, D: Documents<'a, S>>(
+    alloc: Global,
+    store: &mut S,
+    texts: &mut D,
+    new: &str,
+    plan: Plan,
+    room: Room,
+) -> Result<Summary, Fault>
+    requires plan { IsPlan plan }
+    requires room { IsRoomFor room plan room.pool.limit }
+    requires fits { TextsFit (D.texts texts.old) (S.files store.old) }
+    requires apart { AreApart new.now (D.texts texts.old) }
+    ensures written { BetweenMoments S.files S.reads S.faults store.old store.new
+        (λ before now. WritesSet plan room.pool.limit new.now (D.texts texts.old) before now
+        result) }
+{
+    let answer = write_set(alloc, store, texts, new, &plan, room);
+    without(plan, answer)
 }

@@ -1,5 +1,6 @@
 //! The texts of two sets, whose documents are read one after the other.
 ghost use Rattle.std.specs.Prelude.{◌≡◌, ◌≤◌, IfErr, IfOk, OnOk, length};
+ghost use Rattle.mg_dev.specs.Moments.{Between};
 ghost use Rattle.mg_dev.specs.Bads.{IsNotBad};
 ghost use Rattle.mg_dev.specs.Causes.{Rose};
 ghost use Rattle.mg_dev.specs.Faults.{ReadStops};
@@ -8,9 +9,11 @@ ghost use Rattle.mg_defs.specs.Heads.{IsWithin};
 ghost use Rattle.mg_layout.specs.HeadAnswers.{fields_of};
 ghost use Rattle.mg_layout.specs.Stands.{ForSetBy, IsSetBy};
 ghost use Rattle.mg_text.specs.Reading.{IsTextReader, TextFits};
-ghost use Rattle.mg_merge.specs.Texts.{ForShort, LoadsText, SameTexts, TextsFit, numbered};
+ghost use Rattle.mg_merge.specs.Looks.{LooksAtTexts};
+ghost use Rattle.mg_merge.specs.Texts.{AreReaders, AreSomeSets, BothTextsStand, ForShort, LoadsText, SameTexts, TextsFit, WhereSetsStand, numbered};
 
 use crate::documents::Documents;
+use crate::dropping::without;
 use crate::heads::joined_size;
 use mg_dev::{Fault, PartErr, Store};
 use mg_layout::Head;
@@ -51,8 +54,7 @@ fn load_text<'a, S: Store>(
     ensures reader { IfOk result (λ r. IsTextReader r base.entry.now head.now) }
     ensures stands { ForSetBy head.now (S.files store.old) base.entry.now
         (LoadsText (S.files store.new) result) }
-    ensures files { S.files store.new ≡ S.files store.old }
-    ensures later { S.faults store.old ≤ S.faults store.new }
+    ensures looks { Between S.files S.reads S.faults store.old store.new LooksAtTexts }
     ensures refused { IfErr result (ReadStops (Rose (S.faults store.old) (S.faults store.new))
         (IsSetBy head.now (S.files store.old) base.entry.now)) }
 {
@@ -61,6 +63,34 @@ fn load_text<'a, S: Store>(
     match TextReader::load(alloc, store, base, head) {
         Ok(reader) => Ok(reader),
         Err(refusal) => Err(Fault::from(refusal)),
+    }
+}
+
+// Readers of the texts of two sets with these heads.
+fn load_both<'a, S: Store>(
+    alloc: Global,
+    store: &mut S,
+    first: &'a str,
+    second: &'a str,
+    heads: &(Head, Head),
+) -> Result<(TextReader<'a, S>, TextReader<'a, S>), Fault>
+    requires first { IsWithin (fields_of heads.now.0) }
+    requires second { IsWithin (fields_of heads.now.1) }
+    ensures readers { IfOk result (λ both. AreReaders both.0 both.1 (S.files store.new)
+        first.entry.now second.entry.now heads.now) }
+    ensures stand { WhereSetsStand heads.now (S.files store.old) first.entry.now second.entry.now
+        (λ a b. IfOk result (λ both. BothTextsStand both.0 both.1 (S.files store.new) a b)) }
+    ensures looks { Between S.files S.reads S.faults store.old store.new LooksAtTexts }
+    ensures refused { IfErr result (ReadStops (Rose (S.faults store.old) (S.faults store.new))
+        (AreSomeSets heads.now (S.files store.old) first.entry.now second.entry.now)) }
+{
+    let before = match load_text(alloc, store, first, &heads.0) {
+        Ok(reader) => reader,
+        Err(refusal) => return Err(refusal),
+    };
+    match load_text(alloc, store, second, &heads.1) {
+        Ok(behind) => Ok((before, behind)),
+        Err(refusal) => Err(without(before, refusal)),
     }
 }
 
@@ -77,7 +107,7 @@ impl<'a, S: Store> Texts<'a, S> {
         ensures short { OnOk result (length self.new.held ≤ most) }
         ensures never_bad { ForShort self.old (S.files store.old) number most
             (λ _. IfErr result IsNotBad) }
-        ensures files { S.files store.new ≡ S.files store.old }
+        ensures looks { Between S.files S.reads S.faults store.old store.new LooksAtTexts }
         ensures cause { HasPartCause (S.faults store.old) (S.faults store.new) result }
     {
         self.held.set_most(most);
@@ -99,12 +129,8 @@ impl<'a, S: Store> Documents<'a, S> for Texts<'a, S> {
         second: &'a str,
         heads: &(Head, Head),
     ) -> Result<Self, Fault> {
-        let before = match load_text(alloc, store, first, &heads.0) {
-            Ok(reader) => reader,
-            Err(refusal) => return Err(refusal),
-        };
-        let behind = match load_text(alloc, store, second, &heads.1) {
-            Ok(reader) => reader,
+        let (before, behind) = match load_both(alloc, store, first, second, heads) {
+            Ok(both) => both,
             Err(refusal) => return Err(refusal),
         };
         let size = joined_size(&heads.0, &heads.1);

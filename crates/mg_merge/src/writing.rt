@@ -6,13 +6,15 @@ ghost use Rattle.mg_dev.specs.Faults.{ReadStops};
 ghost use Rattle.mg_dev.specs.Files.{file_at};
 ghost use Rattle.mg_dev.specs.Names.{full_name};
 ghost use Rattle.mg_dev.specs.declared.part.Part.TheVariants as part;
+ghost use Rattle.mg_make.specs.Outcomes.{BetweenMoments};
 ghost use Rattle.mg_make.specs.Plans.{IsPlan, IsRoomFor};
-ghost use Rattle.mg_make.specs.Putting.{HasPut, IsEmptied, NextRefused, OthersSame};
-ghost use Rattle.mg_make.specs.Outcomes.{HasSummaryOf, Left, MakesSet};
-ghost use Rattle.mg_merge.specs.Passes.{AreAllGiven, AreApart, ArePlanned, ForPlanned};
+ghost use Rattle.mg_make.specs.Putting.{HasPut, NextRefused, OthersSame};
+ghost use Rattle.mg_merge.specs.Passes.{AreAllGiven, AreApart, ArePlanned};
 ghost use Rattle.mg_merge.specs.Texts.{TextsFit};
+ghost use Rattle.mg_merge.specs.Written.{WritesSet};
 
 use crate::documents::Documents;
+use crate::dropping::without;
 use crate::retelling::{retold, too_long};
 use mg_dev::{Fault, Store};
 use mg_make::{Plan, Room, SetWriter, Summary, empty_heads_stand_for_none};
@@ -106,29 +108,36 @@ pub(crate) fn write_set<'a, 'b, S: Store, D: Documents<'b, S>>(
     requires room { IsRoomFor room plan.now room.pool.limit }
     requires fits { TextsFit (D.texts texts.old) (S.files store.old) }
     requires apart { AreApart base.now (D.texts texts.old) }
-    ensures stands { ForPlanned plan.entry.now (D.texts texts.old) (S.files store.old)
-        (MakesSet room.pool.limit (S.files store.new) base.entry.now result) }
-    ensures summary { ForPlanned plan.entry.now (D.texts texts.old) (S.files store.old)
-        (HasSummaryOf room.pool.limit result) }
-    ensures merge_a { ArePlanned plan.entry.now (D.texts texts.old) (S.files store.old) →
-        OnOk result (IsEmptied (S.files store.new) base.entry.now part.MergeA) }
-    ensures merge_b { ArePlanned plan.entry.now (D.texts texts.old) (S.files store.old) →
-        OnOk result (IsEmptied (S.files store.new) base.entry.now part.MergeB) }
-    ensures left { ForPlanned plan.entry.now (D.texts texts.old) (S.files store.old)
-        (Left base.entry.now (S.files store.old) (S.files store.new)) }
-    ensures others { OthersSame base.entry.now (S.files store.old) (S.files store.new) }
-    ensures later { S.faults store.old ≤ S.faults store.new }
-    ensures refused { IfErr result (ReadStops (Rose (S.faults store.old) (S.faults store.new))
-        (ArePlanned plan.entry.now (D.texts texts.old) (S.files store.old))) }
+    ensures written { BetweenMoments S.files S.reads S.faults store.old store.new
+        (λ before now. WritesSet plan.entry.now room.pool.limit base.entry.now
+        (D.texts texts.old) before now result) }
 {
     empty_heads_stand_for_none();
-    let mut writer = match SetWriter::start(alloc, store, base, plan, room) {
-        Ok(writer) => writer,
-        Err(refusal) => return Err(Fault::of_store(refusal)),
-    };
+    match SetWriter::start(alloc, store, base, plan, room) {
+        Ok(writer) => write_started(alloc, store, texts, writer),
+        Err(refusal) => Err(Fault::of_store(refusal)),
+    }
+}
+
+// Gives the texts to a writer whose head is emptied, and ends it.
+fn write_started<'b, S: Store, D: Documents<'b, S>>(
+    alloc: Global,
+    store: &mut S,
+    texts: &mut D,
+    writer: SetWriter<'_>,
+) -> Result<Summary, Fault>
+    requires fits { TextsFit (D.texts texts.old) (S.files store.old) }
+    requires apart { AreApart writer.base (D.texts texts.old) }
+    requires nothing { HasPut writer (S.files store.old) [] }
+    ensures written { BetweenMoments S.files S.reads S.faults store.old store.new
+        (λ before now. WritesSet writer.entry.plan writer.entry.limit writer.entry.base
+        (D.texts texts.old) before now result) }
+{
+    empty_heads_stand_for_none();
+    let mut writer = writer;
     match put_documents(store, texts, &mut writer) {
         Ok(()) => {}
-        Err(refusal) => return Err(refusal),
+        Err(refusal) => return Err(without(writer, refusal)),
     }
     match writer.finish(alloc, store) {
         Ok(summary) => Ok(summary),

@@ -17,3 +17,9 @@ returns-clause-refused g c = end_stops_all c.finish.result (λ fed. HasCounted c
 pub returns-clause-of : goal.returns-clause-of
 returns-clause-of g c = λ collection stand. subst (λ bytes. IfOk c.finish.result (λ made. IsPlanOf made.0 bytes)) (c.in-Ok.ensures.counted.1.told collection stand)
     (c.finish.ensures.of c.in-Ok.ensures.counted.0 c.in-Ok.ensures.counted.2 (omega (arith, c.in-Ok.ensures.counted.1.size, c.requires.fits.few)))
+
+pub returns-in-Err-clause-looks : goal.returns-in-Err-clause-looks
+returns-in-Err-clause-looks g c = c.in-Err.ensures.looks
+
+pub returns-clause-looks : goal.returns-clause-looks
+returns-clause-looks g c = c.in-Ok.ensures.looks

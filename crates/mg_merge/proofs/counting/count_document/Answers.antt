@@ -1,4 +1,4 @@
-use Rattle.std.proofs.Common.{arith, ◌≡◌, ◌<◌, ◌+◌, ◌++◌, ◌∷◌, [], length, take, drop, get_or, sym, subst, append-nil}
+use Rattle.std.proofs.Common.{arith, ◌+◌, ◌++◌, ◌∷◌, [], take, drop, get_or, sym, subst, append-nil}
 use Rattle.std.proofs.lemmas.List.{length-append, length-take, take_more, take_all}
 use Rattle.mg_make.specs.Counting.{CountStops, HasCounted}
 use Rattle.mg_merge.proofs.GivenLaws.{one_more, others_behind}

@@ -1,9 +1,11 @@
-use Rattle.std.proofs.Common.{arith, ◌≡◌, ◌<◌, ◌≤◌, ◌+◌, ◌-◌, ◌^◌, ◌∙◌, ◌++◌, [], ℕ, List, length, drop, sym, ap, rules}
+use Rattle.std.proofs.Common.{arith, ◌≡◌, ◌<◌, ◌≤◌, ◌+◌, ◌-◌, ◌∙◌, ◌++◌, [], ℕ, List, length, drop, sym, ap}
 use Rattle.mg_defs.specs.Split.{documents, has_open_end, joined}
+use Rattle.mg_make.proofs.CallerLemmas.{rose_behind}
 use Rattle.mg_merge.specs.Passes.{AreGiven}
 use Rattle.mg_merge.specs.Texts.{TextsStand, closed_document}
 use Rattle.mg_merge.proofs.GivenLaws.{first_next, given_each, given_nothing, given_one_more, short_next, too_little, too_much}
-use Rattle.mg_merge.proofs.PassLaws.{counting_stops, rose_behind}
+use Rattle.mg_merge.proofs.PassLaws.{counting_stops}
+use Rattle.mg_merge.proofs.LookLaws.{looks_more, looks_nothing}
 use Rattle.mg_merge.proofs.StopLaws.{read_counts}
 use Rattle.mg_merge.proofs.TextLaws.{texts_more, texts_none, texts_stand_on}
 use Rattle.mg_merge.proofs.counting.count_documents.Goals as goal
@@ -12,20 +14,19 @@ pub loop-index-init : goal.loop-index-init
 loop-index-init g c = record {
   fits = c.requires.fits;
   same = texts_none _;
-  files = search rules;
-  later = omega arith;
+  looks = looks_nothing;
   counted = ([], given_nothing _ _ _ c.size-size.ensures, c.requires.nothing);
 }
 
 pub returns-in-Err-clause-refused : goal.returns-in-Err-clause-refused
 returns-in-Err-clause-refused g c =
     let so_far = c.loop-index.invariant in
-    read_counts _ _ _ _ c.in-Err.refusal (λ rose. rose_behind _ _ _ so_far.later rose)
+    read_counts _ _ _ _ c.in-Err.refusal (λ rose. rose_behind _ _ _ so_far.looks.later rose)
     (λ collection stand. (
       collection,
       record {
         stands = texts_stand_on (g.D.Documents.texts c.args.texts.now) (g.D.Documents.texts c.loop-index.texts) (g.S.Store.files c.args.store.now)
-            (g.S.Store.files c.loop-index.store) collection so_far.same so_far.files stand;
+            (g.S.Store.files c.loop-index.store) collection so_far.same so_far.looks.files stand;
         short = short_next (g.D.Documents.texts c.args.texts.now) (g.S.Store.files c.args.store.now) collection so_far.counted.0 c.loop-index.index
             c.loop-index.left c.requires.fits (omega (arith, c.loop-index-test.true, c.documents-index-end.ensures)) so_far.counted.1 stand;
       },
@@ -47,7 +48,7 @@ returns-then-found-left-clause-refused g c = λ collection stand.
     let is : ((collection : List ℕ) → TextsStand texts before collection → held ≡ closed_document (c.loop-index.index + 1) collection)
     = λ collection stand. c.bytes.ensures ∙ c.in-Ok.ensures.held collection
     (record {
-      stands = texts_stand_on texts (g.D.Documents.texts c.loop-index.texts) before middle collection so_far.same so_far.files stand;
+      stands = texts_stand_on texts (g.D.Documents.texts c.loop-index.texts) before middle collection so_far.same so_far.looks.files stand;
       short = short_next texts before collection fed c.loop-index.index c.loop-index.left c.requires.fits more given stand;
     }) in
     too_much texts before collection fed held c.loop-index.index c.loop-index.left c.requires.fits more given stand (is collection stand) (omega (arith, c.if-found-left.true))
@@ -67,7 +68,7 @@ count_document-requires g c =
     let is : ((collection : List ℕ) → TextsStand texts before collection → held ≡ closed_document (c.loop-index.index + 1) collection)
     = λ collection stand. c.bytes-in-loop-index.ensures ∙ c.in-Ok.ensures.held collection
     (record {
-      stands = texts_stand_on texts (g.D.Documents.texts c.loop-index.texts) before middle collection so_far.same so_far.files stand;
+      stands = texts_stand_on texts (g.D.Documents.texts c.loop-index.texts) before middle collection so_far.same so_far.looks.files stand;
       short = short_next texts before collection fed c.loop-index.index c.loop-index.left c.requires.fits more given stand;
     }) in
     let count : length c.bytes.result.now ≡ length held = ap (λ (bytes : List ℕ). length bytes) (c.bytes.ensures ∙ sym c.bytes-in-loop-index.ensures) in
@@ -87,7 +88,7 @@ returns-in-Err-count_document-clause-refused g c =
     let is : ((collection : List ℕ) → TextsStand texts before collection → held ≡ closed_document (c.loop-index.index + 1) collection)
     = λ collection stand. c.bytes-in-loop-index.ensures ∙ c.in-Ok.ensures.held collection
     (record {
-      stands = texts_stand_on texts (g.D.Documents.texts c.loop-index.texts) before middle collection so_far.same so_far.files stand;
+      stands = texts_stand_on texts (g.D.Documents.texts c.loop-index.texts) before middle collection so_far.same so_far.looks.files stand;
       short = short_next texts before collection fed c.loop-index.index c.loop-index.left c.requires.fits more given stand;
     }) in
     counting_stops _ _ (fed ++ held) c.in-Err-count_document.refusal
@@ -110,7 +111,7 @@ loop-index-preserved g c =
     let is : ((collection : List ℕ) → TextsStand texts before collection → held ≡ closed_document (c.loop-index.index + 1) collection)
     = λ collection stand. c.bytes-in-loop-index.ensures ∙ c.in-Ok.ensures.held collection
     (record {
-      stands = texts_stand_on texts (g.D.Documents.texts c.loop-index.texts) before middle collection so_far.same so_far.files stand;
+      stands = texts_stand_on texts (g.D.Documents.texts c.loop-index.texts) before middle collection so_far.same so_far.looks.files stand;
       short = short_next texts before collection fed c.loop-index.index c.loop-index.left c.requires.fits more given stand;
     }) in
     let count : length c.bytes.result.now ≡ length held = ap (λ (bytes : List ℕ). length bytes) (c.bytes.ensures ∙ sym c.bytes-in-loop-index.ensures) in
@@ -118,8 +119,7 @@ loop-index-preserved g c =
     record {
       fits = c.in-Ok.ensures.fits;
       same = texts_more texts (g.D.Documents.texts c.loop-index.texts) (g.D.Documents.texts c.read.new.self) so_far.same c.in-Ok.ensures.same;
-      files = c.in-Ok.ensures.files ∙ so_far.files;
-      later = omega (arith, so_far.later, c.in-Ok.ensures.later);
+      looks = looks_more so_far.looks c.in-Ok.ensures.looks;
       counted = (
         fed ++ held,
         given_one_more texts before fed held c.loop-index.index c.loop-index.left (length c.bytes.result.now) c.requires.fits more given is count within,
@@ -144,3 +144,20 @@ returns-clause-counted g c =
           c.loop-index.left c.requires.fits (omega (arith, c.loop-index-test.false, c.documents-index-end.ensures)) so_far.counted.1,
       so_far.counted.2,
     )
+
+-- ---- what is read
+
+pub returns-in-Err-clause-looks : goal.returns-in-Err-clause-looks
+returns-in-Err-clause-looks g c = looks_more c.loop-index.invariant.looks c.in-Err.ensures.looks
+
+pub returns-then-found-left-clause-looks : goal.returns-then-found-left-clause-looks
+returns-then-found-left-clause-looks g c = looks_more c.loop-index.invariant.looks c.in-Ok.ensures.looks
+
+pub returns-in-Err-count_document-clause-looks : goal.returns-in-Err-count_document-clause-looks
+returns-in-Err-count_document-clause-looks g c = looks_more c.loop-index.invariant.looks c.in-Ok.ensures.looks
+
+pub returns-then-left-gt0-clause-looks : goal.returns-then-left-gt0-clause-looks
+returns-then-left-gt0-clause-looks g c = c.loop-index.invariant.looks
+
+pub returns-clause-looks : goal.returns-clause-looks
+returns-clause-looks g c = c.loop-index.invariant.looks

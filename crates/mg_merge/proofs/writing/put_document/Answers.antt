@@ -1,4 +1,4 @@
-use Rattle.std.proofs.Common.{arith, ◌≡◌, ◌<◌, ◌^◌, ◌+◌, ◌∙◌, ◌++◌, ◌∷◌, [], length, take, drop, get_or, sym, ap, subst, append-nil, rules, Some, IsSome}
+use Rattle.std.proofs.Common.{arith, ◌≡◌, ◌<◌, ◌^◌, ◌+◌, ◌∙◌, ◌++◌, ◌∷◌, [], length, take, drop, get_or, sym, ap, subst, append-nil, rules, Some}
 use Rattle.std.proofs.lemmas.List.{length-append, length-take, take_more, take_all}
 use Rattle.mg_dev.specs.Causes.{Rose}
 use Rattle.mg_dev.specs.Files.{file_at}
@@ -6,9 +6,9 @@ use Rattle.mg_dev.specs.Names.{full_name}
 use Rattle.mg_dev.specs.declared.part.Part.TheVariants.{Head}
 use Rattle.mg_make.specs.Plans.{IsPlanOf}
 use Rattle.mg_make.specs.Putting.{HasPut, OthersSame}
-use Rattle.mg_make.specs.Written.{SecondStops}
+use Rattle.mg_make.proofs.CallerLemmas.{others_more, others_none, rose_behind}
 use Rattle.mg_merge.proofs.GivenLaws.{more_behind, one_more}
-use Rattle.mg_merge.proofs.PassLaws.{others_more, others_none, rose_behind, second_wider, still_told}
+use Rattle.mg_merge.proofs.PassLaws.{second_wider, still_told}
 use Rattle.mg_merge.proofs.writing.put_document.Goals as goal
 
 pub loop-byte-init : goal.loop-byte-init

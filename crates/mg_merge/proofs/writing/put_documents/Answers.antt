@@ -1,4 +1,4 @@
-use Rattle.std.proofs.Common.{arith, ◌≡◌, ◌<◌, ◌≤◌, ◌+◌, ◌-◌, ◌^◌, ◌∙◌, ◌++◌, [], ℕ, List, length, drop, sym, ap, subst, rules, Some, IsSome}
+use Rattle.std.proofs.Common.{arith, ◌≡◌, ◌<◌, ◌≤◌, ◌+◌, ◌-◌, ◌^◌, ◌∙◌, ◌++◌, [], ℕ, List, length, drop, sym, ap, subst, rules, Some}
 use Rattle.std.proofs.lemmas.List.{append_assoc, length-append}
 use Rattle.mg_dev.specs.Causes.{Rose}
 use Rattle.mg_dev.specs.Files.{file_at}
@@ -8,10 +8,11 @@ use Rattle.mg_defs.specs.Split.{documents, has_open_end, joined}
 use Rattle.mg_make.specs.Plans.{IsPlanOf}
 use Rattle.mg_make.specs.Putting.{HasPut, OthersSame}
 use Rattle.mg_make.specs.Written.{SecondStops}
+use Rattle.mg_make.proofs.CallerLemmas.{others_more, others_none, rose_behind}
 use Rattle.mg_merge.specs.Passes.{AreGiven}
 use Rattle.mg_merge.specs.Texts.{TextsStand, closed_document}
 use Rattle.mg_merge.proofs.GivenLaws.{first_next, given_each, given_nothing, given_one_more, short_next, too_much}
-use Rattle.mg_merge.proofs.PassLaws.{others_more, others_none, put_stops, rose_behind, second_differs, still_put, still_told}
+use Rattle.mg_merge.proofs.PassLaws.{put_stops, second_differs, still_put, still_told}
 use Rattle.mg_merge.proofs.StayLaws.{apart_still, fits_stay, texts_stay}
 use Rattle.mg_merge.proofs.StopLaws.{read_wider}
 use Rattle.mg_merge.proofs.TextLaws.{texts_more, texts_none}
@@ -50,10 +51,10 @@ returns-in-Err-clause-refused g c =
     c.in-Err.ensures.refused
 
 pub returns-in-Err-clause-others : goal.returns-in-Err-clause-others
-returns-in-Err-clause-others g c = subst (λ f. OthersSame c.args.writer.now.base (g.S.Store.files c.args.store.now) f) (sym c.in-Err.ensures.files) c.loop-index.invariant.others
+returns-in-Err-clause-others g c = subst (λ f. OthersSame c.args.writer.now.base (g.S.Store.files c.args.store.now) f) (sym c.in-Err.ensures.looks.files) c.loop-index.invariant.others
 
 pub returns-in-Err-clause-head : goal.returns-in-Err-clause-head
-returns-in-Err-clause-head g c = λ told. subst (λ f. file_at f (full_name c.args.writer.now.base Head) ≡ Some []) (sym c.in-Err.ensures.files) (c.loop-index.invariant.head told)
+returns-in-Err-clause-head g c = λ told. subst (λ f. file_at f (full_name c.args.writer.now.base Head) ≡ Some []) (sym c.in-Err.ensures.looks.files) (c.loop-index.invariant.head told)
 
 -- ---- a document is longer than what is left
 
@@ -79,10 +80,10 @@ returns-then-found-left-clause-refused g c = λ some.
     too_much texts before some.0 fed held c.loop-index.index c.loop-index.left c.requires.fits more given some.1 (is some.0 some.1) (omega (arith, c.if-found-left.true))
 
 pub returns-then-found-left-clause-others : goal.returns-then-found-left-clause-others
-returns-then-found-left-clause-others g c = subst (λ f. OthersSame c.args.writer.now.base (g.S.Store.files c.args.store.now) f) (sym c.in-Ok.ensures.files) c.loop-index.invariant.others
+returns-then-found-left-clause-others g c = subst (λ f. OthersSame c.args.writer.now.base (g.S.Store.files c.args.store.now) f) (sym c.in-Ok.ensures.looks.files) c.loop-index.invariant.others
 
 pub returns-then-found-left-clause-head : goal.returns-then-found-left-clause-head
-returns-then-found-left-clause-head g c = λ told. subst (λ f. file_at f (full_name c.args.writer.now.base Head) ≡ Some []) (sym c.in-Ok.ensures.files) (c.loop-index.invariant.head told)
+returns-then-found-left-clause-head g c = λ told. subst (λ f. file_at f (full_name c.args.writer.now.base Head) ≡ Some []) (sym c.in-Ok.ensures.looks.files) (c.loop-index.invariant.head told)
 
 -- ---- a document is written
 
@@ -107,11 +108,11 @@ put_document-requires g c =
     }) in
     let count : length c.bytes.result.now ≡ length held = ap (λ (bytes : List ℕ). length bytes) (c.bytes.ensures ∙ sym c.bytes-in-loop-index.ensures) in
     let within : length c.bytes.result.now ≤ c.loop-index.left = omega (arith, c.if-found-left.false) in
-    let has : HasPut c.loop-index.writer read fed = still_put c.loop-index.writer middle read fed c.in-Ok.ensures.files so_far.put.2 in
-    let read_others : OthersSame base before read = subst (λ f. OthersSame base before f) (sym c.in-Ok.ensures.files) so_far.others in
+    let has : HasPut c.loop-index.writer read fed = still_put c.loop-index.writer middle read fed c.in-Ok.ensures.looks.files so_far.put.2 in
+    let read_others : OthersSame base before read = subst (λ f. OthersSame base before f) (sym c.in-Ok.ensures.looks.files) so_far.others in
     record {
       put = (fed, has, omega (arith, given.size, c.requires.fits.few, count, within));
-      head = λ told. subst (λ f. file_at f (full_name c.loop-index.writer.base Head) ≡ Some []) (sym c.in-Ok.ensures.files)
+      head = λ told. subst (λ f. file_at f (full_name c.loop-index.writer.base Head) ≡ Some []) (sym c.in-Ok.ensures.looks.files)
           (subst (λ b. file_at middle (full_name b Head) ≡ Some []) (sym so_far.base) (so_far.head (sym read_others.told ∙ told)));
     }
 
@@ -136,7 +137,7 @@ retold-requires g c =
     }) in
     let count : length c.bytes.result.now ≡ length held = ap (λ (bytes : List ℕ). length bytes) (c.bytes.ensures ∙ sym c.bytes-in-loop-index.ensures) in
     let within : length c.bytes.result.now ≤ c.loop-index.left = omega (arith, c.if-found-left.false) in
-    let has : HasPut c.loop-index.writer read fed = still_put c.loop-index.writer middle read fed c.in-Ok.ensures.files so_far.put.2 in
+    let has : HasPut c.loop-index.writer read fed = still_put c.loop-index.writer middle read fed c.in-Ok.ensures.looks.files so_far.put.2 in
     let short : length (fed ++ (held ++ [])) < 2 ^ 32 = omega (arith, length-append fed (held ++ []), length-append held [], given.size, c.requires.fits.few, count, within) in
     second_differs _ _ c.in-Err-put_document.refusal (c.in-Err-put_document.ensures.refused fed [] has short)
 
@@ -161,11 +162,11 @@ returns-in-Err-put_document-clause-refused g c =
     }) in
     let count : length c.bytes.result.now ≡ length held = ap (λ (bytes : List ℕ). length bytes) (c.bytes.ensures ∙ sym c.bytes-in-loop-index.ensures) in
     let within : length c.bytes.result.now ≤ c.loop-index.left = omega (arith, c.if-found-left.false) in
-    let has : HasPut c.loop-index.writer read fed = still_put c.loop-index.writer middle read fed c.in-Ok.ensures.files so_far.put.2 in
+    let has : HasPut c.loop-index.writer read fed = still_put c.loop-index.writer middle read fed c.in-Ok.ensures.looks.files so_far.put.2 in
     let short : length (fed ++ (held ++ [])) < 2 ^ 32 = omega (arith, length-append fed (held ++ []), length-append held [], given.size, c.requires.fits.few, count, within) in
     let rose = Rose (g.S.Store.faults c.read.new.store) (g.S.Store.faults c.put_document.new.store) in
     put_stops rose _ _ c.args.writer.now.plan (λ more. fed ++ (held ++ more)) c.in-Err-put_document.refusal c.retold.result
-    (λ rises. rose_behind _ _ _ (omega (arith, so_far.later, c.in-Ok.ensures.later)) rises) short
+    (λ rises. rose_behind _ _ _ (omega (arith, so_far.later, c.in-Ok.ensures.looks.later)) rises) short
     (λ some.
     let rest = joined (drop (c.loop-index.index + 1) (documents some.0)) (has_open_end some.0) in
     let whole : fed ++ (held ++ rest) ≡ some.0
@@ -184,7 +185,7 @@ returns-in-Err-put_document-clause-others g c =
     let read = g.S.Store.files c.read.new.store in
     let fed = so_far.put.0 in
     let given : AreGiven texts before c.loop-index.index c.loop-index.left fed = so_far.put.1 in
-    let read_others : OthersSame base before read = subst (λ f. OthersSame base before f) (sym c.in-Ok.ensures.files) so_far.others in
+    let read_others : OthersSame base before read = subst (λ f. OthersSame base before f) (sym c.in-Ok.ensures.looks.files) so_far.others in
     let now = g.S.Store.files c.put_document.new.store in
     let put_others : OthersSame base read now = subst (λ b. OthersSame b read now) so_far.base c.in-Err-put_document.ensures.others in
     others_more base before read now read_others put_others
@@ -199,7 +200,7 @@ returns-in-Err-put_document-clause-head g c = λ told.
     let read = g.S.Store.files c.read.new.store in
     let fed = so_far.put.0 in
     let given : AreGiven texts before c.loop-index.index c.loop-index.left fed = so_far.put.1 in
-    let read_others : OthersSame base before read = subst (λ f. OthersSame base before f) (sym c.in-Ok.ensures.files) so_far.others in
+    let read_others : OthersSame base before read = subst (λ f. OthersSame base before f) (sym c.in-Ok.ensures.looks.files) so_far.others in
     subst (λ b. file_at (g.S.Store.files c.put_document.new.store) (full_name b Head) ≡ Some []) so_far.base (c.in-Err-put_document.ensures.head (still_told before read read_others.told told))
 
 pub loop-index-preserved : goal.loop-index-preserved
@@ -223,8 +224,8 @@ loop-index-preserved g c =
     }) in
     let count : length c.bytes.result.now ≡ length held = ap (λ (bytes : List ℕ). length bytes) (c.bytes.ensures ∙ sym c.bytes-in-loop-index.ensures) in
     let within : length c.bytes.result.now ≤ c.loop-index.left = omega (arith, c.if-found-left.false) in
-    let has : HasPut c.loop-index.writer read fed = still_put c.loop-index.writer middle read fed c.in-Ok.ensures.files so_far.put.2 in
-    let read_others : OthersSame base before read = subst (λ f. OthersSame base before f) (sym c.in-Ok.ensures.files) so_far.others in
+    let has : HasPut c.loop-index.writer read fed = still_put c.loop-index.writer middle read fed c.in-Ok.ensures.looks.files so_far.put.2 in
+    let read_others : OthersSame base before read = subst (λ f. OthersSame base before f) (sym c.in-Ok.ensures.looks.files) so_far.others in
     let now = g.S.Store.files c.put_document.new.store in
     let put_others : OthersSame base read now = subst (λ b. OthersSame b read now) so_far.base c.in-Ok-put_document.ensures.others in
     let same = texts_more texts (g.D.Documents.texts c.loop-index.texts) (g.D.Documents.texts c.read.new.self) so_far.same c.in-Ok.ensures.same in
@@ -236,7 +237,7 @@ loop-index-preserved g c =
       limit = c.in-Ok-put_document.ensures.limit ∙ so_far.limit;
       head = λ told. subst (λ b. file_at now (full_name b Head) ≡ Some []) so_far.base (c.in-Ok-put_document.ensures.head (still_told before read read_others.told told));
       others = others_more base before read now read_others put_others;
-      later = omega (arith, so_far.later, c.in-Ok.ensures.later, c.in-Ok-put_document.ensures.later);
+      later = omega (arith, so_far.later, c.in-Ok.ensures.looks.later, c.in-Ok-put_document.ensures.later);
       put = (
         fed ++ held,
         given_one_more texts before fed held c.loop-index.index c.loop-index.left (length c.bytes.result.now) c.requires.fits more given is count within,

@@ -1,6 +1,7 @@
 use Rattle.std.proofs.Common.{◌-◌}
 use Rattle.mg_defs.specs.Terms.{document}
 use Rattle.mg_merge.specs.Texts.{numbered}
+use Rattle.mg_merge.proofs.LookLaws.{looks_text}
 use Rattle.mg_merge.proofs.TextLaws.{document_ahead, document_behind, held_is, held_short, short_ahead, short_behind}
 use Rattle.mg_merge.proofs.texts.Texts.decode.Goals as goal
 
@@ -44,3 +45,9 @@ returns-then-number-self-clause-short g c = held_short c.read.result _ _ _ c.set
 
 pub returns-clause-short : goal.returns-clause-short
 returns-clause-short g c = held_short c.read-2.result _ _ _ c.set_most.ensures.most c.read-2.ensures.short
+
+pub returns-then-number-self-clause-looks : goal.returns-then-number-self-clause-looks
+returns-then-number-self-clause-looks g c = looks_text c.read.ensures.looked
+
+pub returns-clause-looks : goal.returns-clause-looks
+returns-clause-looks g c = looks_text c.read-2.ensures.looked

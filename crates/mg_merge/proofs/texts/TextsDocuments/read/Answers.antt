@@ -16,7 +16,7 @@ returns-in-Err-clause-refused g c =
 pub returns-then-not-closed-clause-held : goal.returns-then-not-closed-clause-held
 returns-then-not-closed-clause-held g c = λ collection has.
     let later = texts_stand_on c.args.self.now c.decode.new.self (g.S.Store.files c.args.store.now) (g.S.Store.files c.decode.new.store) collection
-    c.in-Ok.ensures.same c.in-Ok.ensures.files has.stands in
+    c.in-Ok.ensures.same c.in-Ok.ensures.looks.files has.stands in
     let closed : c.is_closed-closed.result ≡ is_closed c.args.number c.decode.new.self.all c.decode.new.self.open_end = rw (← c.self.view_is) c.is_closed-closed.ensures in
     closes c.decode.new.self (g.S.Store.files c.decode.new.store) collection c.decode.new.self.held c.decode.new.self.held c.is_closed-closed.result
     c.args.number c.in-Ok.ensures.fits closed (c.in-Ok.ensures.held collection has)
@@ -25,7 +25,7 @@ returns-then-not-closed-clause-held g c = λ collection has.
 pub returns-clause-held : goal.returns-clause-held
 returns-clause-held g c = λ collection has.
     let later = texts_stand_on c.args.self.now c.decode.new.self (g.S.Store.files c.args.store.now) (g.S.Store.files c.decode.new.store) collection
-    c.in-Ok.ensures.same c.in-Ok.ensures.files has.stands in
+    c.in-Ok.ensures.same c.in-Ok.ensures.looks.files has.stands in
     let closed : c.is_closed-closed.result ≡ is_closed c.args.number c.decode.new.self.all c.decode.new.self.open_end = rw (← c.self.view_is) c.is_closed-closed.ensures in
     let held : c.self.inside.held.bytes.items ≡ c.decode.new.self.held = ap (λ (t : TwoTexts). t.held) c.self.view_is in
     closes c.decode.new.self (g.S.Store.files c.decode.new.store) collection c.decode.new.self.held c.close.new.self.bytes.items c.is_closed-closed.result
@@ -37,3 +37,17 @@ returns-clause-short g c =
     let held : c.self.inside.held.bytes.items ≡ c.decode.new.self.held = ap (λ (t : TwoTexts). t.held) c.self.view_is in
     let now : c.close.new.self.bytes.items ≡ c.decode.new.self.held ++ 2 ∷ [] = c.in-Ok-close.ensures.closed ∙ ap (λ h. h ++ 2 ∷ []) held in
     omega (arith, ap (λ (h : List ℕ). length h) now, length-append c.decode.new.self.held (2 ∷ []), c.in-Ok.ensures.short)
+
+-- ---- what is read
+
+pub returns-in-Err-clause-looks : goal.returns-in-Err-clause-looks
+returns-in-Err-clause-looks g c = c.in-Err.ensures.looks
+
+pub returns-then-not-closed-clause-looks : goal.returns-then-not-closed-clause-looks
+returns-then-not-closed-clause-looks g c = c.in-Ok.ensures.looks
+
+pub returns-in-Err-close-clause-looks : goal.returns-in-Err-close-clause-looks
+returns-in-Err-close-clause-looks g c = c.in-Ok.ensures.looks
+
+pub returns-clause-looks : goal.returns-clause-looks
+returns-clause-looks g c = c.in-Ok.ensures.looks
