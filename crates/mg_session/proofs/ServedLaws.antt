@@ -1,6 +1,6 @@
 -- What is told of a session's opening and of its lines is what its run did, whatever kind of session it is.
 use Rattle.std.proofs.Common.{arith, ◌≡◌, ◌≤◌, ◌∙◌, ◌⊎◌, ℕ, false, List, ◌++◌, Some, Ok, Err, IsSome, Option, refl, sym, ap, subst, inl, inr}
-use Rattle.std.specs.Prelude.{Result, OnOk, IfErr}
+use Rattle.std.specs.Prelude.{Result, IfErr}
 use Rattle.mg_dev.specs.Causes.{Rose}
 use Rattle.mg_dev.specs.Files.{Files, Reads}
 use Rattle.mg_dev.specs.Moments.{SinkAt, SinkRose, SourceAt, SourceRose, StoreAt, StoreRose}
@@ -25,11 +25,11 @@ use Rattle.mg_defs.specs.Session.{Question, heard_questions, heard_session}
 use Rattle.mg_defs.specs.declared.session.Hearing.{Hearing}
 use Rattle.mg_defs.specs.declared.session.Settings.{Settings}
 use Rattle.mg_layout.proofs.CallerLemmas.{loaded_set, no_empty_head}
-use Rattle.mg_layout.specs.Stands.{HasHead, HasNoHead, Stands, StandsBy, StandsForNone}
+use Rattle.mg_layout.specs.Stands.{HasNoHead, Stands, StandsBy, StandsForNone}
 use Rattle.mg_layout.specs.declared.head.Head.{Head}
+use Rattle.mg_reply.proofs.CallerLemmas.{none_in_turn}
 use Rattle.mg_reply.specs.Printed.{IsTooLong}
-use Rattle.mg_reply.specs.Served.{LeftEnough}
-use Rattle.mg_session.specs.Opening.{HeadOpened, OpenStops, SetOpened}
+use Rattle.mg_session.specs.Opening.{HeadOpened, SetOpened}
 use Rattle.mg_session.specs.Served.{LineStops, LinesServed, Served}
 use Rattle.mg_session.specs.Serves.{IsFirst, ServeStops, StandsByNone}
 use Rattle.mg_session.proofs.SetLaws.{loaded_too}
@@ -88,7 +88,7 @@ pub record Kind : Type 1 where
 
 -- its run
 abbrev pub ServedAs : Kind → List ℕ → Run → Type 0
-ServedAs k base run = Served k.text k.IsWithin k.IsUnread k.IsCounted base run
+ServedAs k base run = Served k.text k.hearing k.reply k.IsWithin k.IsUnread k.IsCounted base run
 
 -- a refusal is the same, whatever is answered else
 pub refused_as : {A B : Type 0} (f g : Fault) → RefusedFor {T = A} (Err f) g → RefusedFor {T = B} (Err f) g
@@ -138,6 +138,7 @@ stopped k base s0 s1 i o e e1 f files pages unread cause not_built = record {
   left = λ given some end. when_ok {T = Unit {0}} _ (Err f) end tt;
   within = λ given some end. when_ok {T = Unit {0}} _ (Err f) end tt;
   prefix = λ collection given stands some. grew_nothing _ _;
+  in_turn = λ collection stands. none_in_turn k.hearing (k.reply collection) refl refl;
   silent = λ fault first is. refl;
   untouched = λ fault first is. refl;
   cause = cause;
@@ -205,6 +206,7 @@ lines_served k IsOver counted base s0 s1 old new i i1 o o1 e e1 head opened r h 
       prefix = λ collection given stands some.
           let is = over collection stands in
           subst (λ (t : List ℕ). GrewByPrefix o.written o1.written t) (sym (k.text_is collection given)) (lines.prefix (k.reply collection) given (k.answers old is.0 collection is.1) some);
+      in_turn = λ collection stands. let is = over collection stands in lines.in_turn (k.reply collection) (k.answers old is.0 collection is.1);
       silent = λ fault first is. lines_first r (SourceRose i i1) (SinkRose o o1) (IsTooLong i.left) _ (k.MayStop old new) fault is first lines.cause;
       untouched = λ fault first is. lines_first r (SourceRose i i1) (SinkRose o o1) (IsTooLong i.left) _ (k.MayStop old new) fault is first lines.cause;
       cause = stopped_by _ r (lines_cause k base s0 old new i i1 o o1 r (omega (arith, h.faults, set.faults)) over lines.cause);

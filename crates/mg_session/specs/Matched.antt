@@ -6,7 +6,8 @@ use Rattle.mg_defs.specs.InputLimit.{is_too_much}
 use Rattle.mg_defs.specs.Limits.{input_limit}
 use Rattle.mg_defs.specs.Rotations.{most_rotations, rotation_count}
 use Rattle.mg_defs.specs.Terms.{dictionary}
-use Rattle.mg_defs.specs.WildSession.{wild_session}
+use Rattle.mg_defs.specs.WildSession.{wild_reply, wild_session}
+use Rattle.mg_defs.specs.declared.session.Hearing.TheVariants.{Questions}
 use Rattle.mg_layout.specs.Stands.{Stands}
 use Rattle.mg_session.specs.Served.{Served}
 use Rattle.mg_session.specs.WildAnswers.{NeverReadByPatterns, ReadsPatterns}
@@ -16,7 +17,8 @@ use Rattle.mg_dev.specs.Runs.{Run, StoreFailed, InputFailed, OutputFailed, Stops
 -- of each collection that the files of this name stand for, and for each input that the source tells
 pub record Matched (base : List ℕ) (run : Run) : Type 0 where
   -- it prints the session of patterns; of the lists it reads no more pages than the patterns allow, and no other part but the head and the lexicon
-  pub served : Served wild_session ReadsPatterns NeverReadByPatterns CountsTooMany base run
+  pub served : Served wild_session Questions (λ collection now. wild_reply collection) ReadsPatterns NeverReadByPatterns CountsTooMany
+      base run
   -- 17 comes exactly where the lexicon has too many rotations, whatever the other parts are, unless the store fails or memory is wanting
   pub too_many : (count : ℕ) → IsSome run.store.files → HasTooManyTerms run.store.files base count →
       StopsUnless run (TooManyRotations count)

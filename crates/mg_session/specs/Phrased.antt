@@ -4,7 +4,8 @@ use Rattle.mg_dev.specs.declared.fault.Fault.TheVariants.{Memory}
 use Rattle.mg_dev.specs.declared.status.Status.TheVariants.{Done}
 use Rattle.mg_defs.specs.InputLimit.{is_too_much}
 use Rattle.mg_defs.specs.Limits.{input_limit}
-use Rattle.mg_defs.specs.PhraseSession.{phrase_session}
+use Rattle.mg_defs.specs.PhraseSession.{phrase_reply, phrase_session}
+use Rattle.mg_defs.specs.declared.session.Hearing.TheVariants.{Questions}
 use Rattle.mg_layout.specs.Stands.{Stands}
 use Rattle.mg_session.specs.Parts.{NeverRead}
 use Rattle.mg_session.specs.PhraseAnswers.{ReadsPhrases}
@@ -15,7 +16,8 @@ use Rattle.mg_dev.specs.Runs.{Run, StoreFailed, InputFailed, OutputFailed, Stops
 -- of each collection that the files of this name stand for, and for each input that the source tells
 pub record Phrased (base : List ℕ) (run : Run) : Type 0 where
   -- it prints the session of phrases; of the lists and of the text it reads no more pages than the phrases allow, and some parts never
-  pub served : Served phrase_session ReadsPhrases NeverRead CountsNone base run
+  pub served : Served phrase_session Questions (λ collection now. phrase_reply collection) ReadsPhrases NeverRead
+      CountsNone base run
   -- where the files stand, the input is not too long and no device fails, it is done, or memory is wanting
   pub complete : (collection given : List ℕ) → Stands run.store.files base collection → run.input.left ≡ Some given →
       is_too_much input_limit given ≡ false

@@ -5,8 +5,9 @@ use Rattle.mg_dev.specs.declared.fault.Fault.TheVariants.{Memory}
 use Rattle.mg_dev.specs.declared.status.Status.TheVariants.{Done}
 use Rattle.mg_defs.specs.InputLimit.{is_too_much}
 use Rattle.mg_defs.specs.Limits.{input_limit}
-use Rattle.mg_defs.specs.Replies.{session}
+use Rattle.mg_defs.specs.Replies.{reply, session}
 use Rattle.mg_defs.specs.Session.{questions_of}
+use Rattle.mg_defs.specs.declared.session.Hearing.TheVariants.{Commands}
 use Rattle.mg_layout.specs.Stands.{Stands}
 use Rattle.mg_session.specs.Parts.{NeverRead, is_of_text}
 use Rattle.mg_session.specs.Searching.{AskForNoText}
@@ -17,7 +18,7 @@ use Rattle.mg_dev.specs.Runs.{Run, StoreFailed, InputFailed, OutputFailed, Stops
 -- of each collection that the files of this name stand for, and for each input that the source tells
 pub record Queried (base : List ℕ) (run : Run) : Type 0 where
   -- it prints the session; of the lists and of the text it reads no more pages than the query lines allow, and some parts never
-  pub served : Served session ReadsWithin NeverRead CountsNone base run
+  pub served : Served session Commands reply ReadsWithin NeverRead CountsNone base run
   -- where the files stand, the input is not too long and no device fails, it is done, or memory is wanting
   pub complete : (collection given : List ℕ) → Stands run.store.files base collection → run.input.left ≡ Some given →
       is_too_much input_limit given ≡ false

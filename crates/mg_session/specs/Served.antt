@@ -1,5 +1,5 @@
 -- What a session over files does, whatever its lines ask: the answering of its lines, and its whole run.
-use Rattle.std.specs.Prelude.{◌≡◌, ◌≤◌, ℕ, false, List, Some, IsSome, OnOk, IfErr}
+use Rattle.std.specs.Prelude.{◌≡◌, ℕ, false, List, Some, IsSome, OnOk, IfErr}
 use Rattle.std.specs.declared.option.Option.{Option}
 use Rattle.std.specs.declared.result.Result.{Result}
 use Rattle.mg_dev.specs.Files.{Files, Reads}
@@ -21,7 +21,7 @@ use Rattle.mg_defs.specs.declared.session.Settings.{Settings}
 use Rattle.mg_layout.specs.Stands.{HasNoHead, Stands, StandsBy}
 use Rattle.mg_layout.specs.declared.head.Head.{Head}
 use Rattle.mg_reply.specs.Printed.{IsTooLong}
-use Rattle.mg_reply.specs.Served.{AnsweredSome, LeftEnough}
+use Rattle.mg_reply.specs.Served.{AnsweredSome, LeftEnough, PrintedInTurn}
 use Rattle.mg_session.specs.Serves.{IsFirst, ServeStops}
 
 -- ---- the lines
@@ -49,6 +49,9 @@ pub record LinesServed {A : Type 0} (hearing : Hearing) (Answers : A → (Settin
   -- the input was read to its end, or to a line that ends the session
   pub left : (given : List ℕ) → input.left ≡ Some given → OnOk result (LeftEnough given input_now.left)
   pub within : (given : List ℕ) → input.left ≡ Some given → OnOk result (is_too_much input_limit given ≡ false)
+  -- no reply is held back, by each such reply function
+  pub in_turn : (reply : Settings → List ℕ → List ℕ) → Answers old reply →
+      PrintedInTurn hearing reply input.left input_now.left out.written out_now.written
   -- the first of its query lines were answered
   pub answered : AnsweredSome hearing After old new input.left
   -- the cause of each refusal
@@ -57,10 +60,11 @@ pub record LinesServed {A : Type 0} (hearing : Hearing) (Answers : A → (Settin
 
 -- ---- a run
 
--- A session prints this text of a collection and an input, reads no more pages than this, does not read these parts, and counts these rotations.
+-- A session prints this text of a collection and an input, hears its lines so and replies this to each, reads no more pages than this,
+-- does not read these parts, and counts these rotations.
 -- Told of each collection that the files of this name stand for, and for each input that the source tells.
-pub record Served (text : List ℕ → List ℕ → List ℕ) (IsWithin : TextCode → List ℕ → List ℕ → Reads → Reads → Type 0)
-    (IsUnread : Part → Type 0)
+pub record Served (text : List ℕ → List ℕ → List ℕ) (hearing : Hearing) (reply : List ℕ → Settings → List ℕ → List ℕ)
+    (IsWithin : TextCode → List ℕ → List ℕ → Reads → Reads → Type 0) (IsUnread : Part → Type 0)
     (IsCounted : Option Files → List ℕ → ℕ → Type 0) (base : List ℕ) (run : Run) : Type 0 where
   -- status 0: the whole session is printed, and the input was read to its end or a line `.quit`
   pub done : (collection given : List ℕ) → Stands run.store.files base collection → run.input.left ≡ Some given →
@@ -72,6 +76,9 @@ pub record Served (text : List ℕ → List ℕ → List ℕ) (IsWithin : TextCo
   -- every status: a prefix of the session is printed; after the statuses 5 and 17 nothing, and the input is not read
   pub prefix : (collection given : List ℕ) → Stands run.store.files base collection → run.input.left ≡ Some given
       → GrewByPrefix run.out.written run.out_now.written (text collection given)
+  -- every status: no reply is held back; it is printed before more of the input is taken than a piece behind its line
+  pub in_turn : (collection : List ℕ) → Stands run.store.files base collection →
+      PrintedInTurn hearing (reply collection) run.input.left run.input_now.left run.out.written run.out_now.written
   pub silent : (fault : Fault) → IsFirst fault → Stops run fault → SaysNothing run
   pub untouched : (fault : Fault) → IsFirst fault → Stops run fault → run.input_now.left ≡ run.input.left
   -- the cause of every other status; 5 comes exactly where it has it, unless the store fails or memory is wanting

@@ -12,10 +12,14 @@ use Rattle.mg_dev.specs.declared.status.Status.TheVariants.{Done, Stopped}
 use Rattle.mg_defs.specs.CodedText.{TextCode}
 use Rattle.mg_defs.specs.Generator.{made_collection}
 use Rattle.mg_defs.specs.Join.{join}
-use Rattle.mg_defs.specs.PhraseSession.{phrase_session}
-use Rattle.mg_defs.specs.Replies.{session}
+use Rattle.mg_defs.specs.PhraseSession.{phrase_reply, phrase_session}
+use Rattle.mg_defs.specs.Replies.{reply, session}
 use Rattle.mg_defs.specs.Summaries.{summary_text, trial_text}
-use Rattle.mg_defs.specs.WildSession.{wild_session}
+use Rattle.mg_defs.specs.WildSession.{wild_reply, wild_session}
+use Rattle.mg_defs.specs.declared.session.Hearing.{Hearing}
+use Rattle.mg_defs.specs.declared.session.Hearing.TheVariants.{Commands, Questions}
+use Rattle.mg_defs.specs.declared.session.Settings.{Settings}
+use Rattle.mg_reply.proofs.CallerLemmas.{none_in_turn}
 use Rattle.mg_merge.specs.Merging.{budget_of}
 use Rattle.mg_session.specs.Serves as serves
 use Rattle.mg_session.specs.Parts.{NeverRead}
@@ -75,6 +79,7 @@ module _ (run : Run) (stops : Stops run Memory) (store : run.store_now ≡ run.s
     left = λ given some is. absurd (not_done is);
     within = λ given some is. absurd (not_done is);
     prefix = λ told given some. prefix (session (bytes_at run.store.files n) given);
+    in_turn = λ told. none_in_turn Commands (reply (bytes_at run.store.files n)) (ap (λ s. s.left) input) silent;
     silent = λ is. silent;
     silent_large = λ size most is. silent;
     cause = caused (ScanStops n (StoreFailed run) (InputFailed run) (OutputFailed run) run.store.files run.input.left) tt;
@@ -95,13 +100,14 @@ module _ (run : Run) (stops : Stops run Memory) (store : run.store_now ≡ run.s
   made n base budget = record { made = inl lacks; prints = λ told. prints (summary_text (collection_of n run) budget); input = input }
 
   -- a session, whatever it prints and counts, of which nothing was read
-  served : (text : List ℕ → List ℕ → List ℕ) (IsWithin : TextCode → List ℕ → List ℕ → Reads → Reads → Type 0) (IsUnread : Part → Type 0) (IsCounted : Option Files → List ℕ → ℕ → Type 0) (n : List ℕ) →
-      ((code : TextCode) (c given : List ℕ) → IsWithin code c given run.store.reads run.store_now.reads) → Served text IsWithin IsUnread IsCounted n run
-  served text IsWithin IsUnread IsCounted n within = record {
+  served : (text : List ℕ → List ℕ → List ℕ) (hearing : Hearing) (reply : List ℕ → Settings → List ℕ → List ℕ) (IsWithin : TextCode → List ℕ → List ℕ → Reads → Reads → Type 0) (IsUnread : Part → Type 0) (IsCounted : Option Files → List ℕ → ℕ → Type 0) (n : List ℕ) →
+      ((code : TextCode) (c given : List ℕ) → IsWithin code c given run.store.reads run.store_now.reads) → Served text hearing reply IsWithin IsUnread IsCounted n run
+  served text hearing reply IsWithin IsUnread IsCounted n within = record {
     done = λ c given stands some is. absurd (not_done is);
     left = λ given some is. absurd (not_done is);
     within = λ given some is. absurd (not_done is);
     prefix = λ c given stands some. prefix (text c given);
+    in_turn = λ c stands. none_in_turn hearing (reply c) (ap (λ s. s.left) input) silent;
     silent = λ fault first is. silent;
     untouched = λ fault first is. ap (λ s. s.left) input;
     cause = caused (serves.ServeStops IsCounted n (StoreFailed run) (InputFailed run) (OutputFailed run) run.store.files run.input.left) tt;
@@ -113,21 +119,21 @@ module _ (run : Run) (stops : Stops run Memory) (store : run.store_now ≡ run.s
 
   queried : (n : List ℕ) → Queried n run
   queried n = record {
-    served = served session ReadsWithin NeverRead serves.CountsNone n (λ code c given. record { post = rw (same_reads part.Post) (omega arith); text = rw (same_reads part.Text) (omega arith) });
+    served = served session Commands reply ReadsWithin NeverRead serves.CountsNone n (λ code c given. record { post = rw (same_reads part.Post) (omega arith); text = rw (same_reads part.Text) (omega arith) });
     complete = λ c given stands some short no_store no_input no_output. inr stops;
     texts_unread = λ given some asks p is. same_reads p;
   }
 
   phrased : (n : List ℕ) → Phrased n run
   phrased n = record {
-    served = served phrase_session ReadsPhrases NeverRead serves.CountsNone n (λ code c given.
+    served = served phrase_session Questions (λ c now. phrase_reply c) ReadsPhrases NeverRead serves.CountsNone n (λ code c given.
         record { post = rw (same_reads part.Post) (omega arith); text = rw (same_reads part.Text) (omega arith) });
     complete = λ c given stands some short no_store no_input no_output. inr stops;
   }
 
   matched : (n : List ℕ) → Matched n run
   matched n = record {
-    served = served wild_session ReadsPatterns NeverReadByPatterns CountsTooMany n (λ code c given. record { post = rw (same_reads part.Post) (omega arith) });
+    served = served wild_session Questions (λ c now. wild_reply c) ReadsPatterns NeverReadByPatterns CountsTooMany n (λ code c given. record { post = rw (same_reads part.Post) (omega arith) });
     too_many = λ count told terms. inr (inr stops);
     many = λ c stands more. inr (inr stops);
     complete = λ c given stands few some short no_store no_input no_output. inr stops;
