@@ -1,16 +1,15 @@
 -- What a session of patterns answered is what the run did.
-use Rattle.std.proofs.Common.{arith, ◌≡◌, ◌<◌, ◌≤◌, ◌∙◌, ℕ, List, length, Some, Ok, Err, IsSome, Option, refl, sym, ap, subst, inl, inr}
-use Rattle.std.specs.Prelude.{Result, IfErr}
-use Rattle.mg_dev.specs.Files.{Files, Reads, bytes_at}
+use Rattle.std.proofs.Common.{arith, ◌≡◌, ◌<◌, ◌≤◌, ◌∙◌, ℕ, List, Ok, Err, IsSome, Option, refl, sym, subst, inl, inr}
+use Rattle.std.specs.Prelude.{Result}
+use Rattle.mg_dev.specs.Files.{Files, bytes_at}
 use Rattle.mg_dev.specs.Moments.{SinkAt, SourceAt, StoreAt}
 use Rattle.mg_dev.specs.Names.{full_name, number}
-use Rattle.mg_dev.specs.Runs.{RefusedFor, Run, StopsUnless, status_of}
+use Rattle.mg_dev.specs.Runs.{RefusedFor, Run, status_of}
 use Rattle.mg_dev.specs.declared.fault.Fault.{Fault}
 use Rattle.mg_dev.specs.declared.fault.Fault.TheVariants.{StoreFault, Memory, TooManyRotations}
 use Rattle.mg_dev.specs.declared.part.Part.{Part}
 use Rattle.mg_dev.specs.declared.part.Part.TheVariants as part
 use Rattle.mg_dev.proofs.CallerLemmas.{unless_by}
-use Rattle.mg_defs.specs.CodedText.{TextCode}
 use Rattle.mg_defs.specs.Heads as defs
 use Rattle.mg_defs.specs.Rotations.{most_rotations, rotation_count}
 use Rattle.mg_defs.specs.Session.{heard_session}
@@ -20,7 +19,7 @@ use Rattle.mg_defs.specs.declared.session.Hearing.TheVariants.{Questions}
 use Rattle.mg_defs.proofs.HeadLaws.{one_head}
 use Rattle.mg_laws.proofs.PlainLaws.{plain_heard}
 use Rattle.mg_layout.specs.HeadAnswers.{fields_of}
-use Rattle.mg_layout.specs.Stands.{Stands, StandsBy}
+use Rattle.mg_layout.specs.Stands.{Stands}
 use Rattle.mg_layout.specs.declared.head.Head.{Head}
 use Rattle.mg_layout.proofs.CallerLemmas.{own_head}
 use Rattle.mg_wild.specs.Loading.{HasTooMany}
@@ -30,7 +29,7 @@ use Rattle.mg_session.specs.Served.{LinesServed}
 use Rattle.mg_session.specs.WildAnswers.{NeverReadByPatterns, ReadsPatterns}
 use Rattle.mg_session.specs.WildSearching.{PartsAreBy, WildAsked, WildBy, WildMayStop, WildParts, WildState}
 use Rattle.mg_session.specs.WildServes.{CountedBy, CountsTooMany, HasTooManyTerms, TooManyBy}
-use Rattle.mg_session.proofs.ServedLaws.{Kind, NoPages, ServedAs, done_or, head_stopped, lines_served, refused_as, run_of, set_stopped, stands_opened}
+use Rattle.mg_session.proofs.ServedLaws.{Kind, ServedAs, done_or, head_stopped, lines_served, refused_as, run_of, set_stopped, stands_opened}
 use Rattle.mg_session.proofs.WildPageLaws.{patterns_within}
 use Rattle.mg_session.proofs.WildReplyLaws.{patterns_over}
 use Rattle.mg_session.proofs.WildSetLaws.{counted_of, set_has}

@@ -1,12 +1,12 @@
 -- What opening a set does, by what loading its head and its parts answers.
-use Rattle.std.proofs.Common.{arith, ◌≡◌, ◌≤◌, ◌^◌, ◌⊎◌, ◌∙◌, ℕ, false, List, Ok, Err, None, Some, IsSome, Option, refl, sym, ap, subst, inl, inr}
+use Rattle.std.proofs.Common.{arith, ◌≡◌, ◌≤◌, ◌⊎◌, ◌∙◌, ℕ, false, List, Ok, Err, None, Some, IsSome, Option, refl, sym, subst, inl, inr}
 use Rattle.std.specs.Prelude.{Result}
 use Rattle.mg_bits.specs.Pages.{Looked}
 use Rattle.mg_dev.specs.Causes.{Rose}
 use Rattle.mg_dev.specs.Faults.{fault_of_part}
 use Rattle.mg_dev.specs.Files.{Files, OneRead, Reads, SameReads, bytes_at}
 use Rattle.mg_dev.specs.Moments.{StoreAt}
-use Rattle.mg_dev.specs.Names.{full_name, number, same_part}
+use Rattle.mg_dev.specs.Names.{full_name, same_part}
 use Rattle.mg_dev.specs.PartCauses.{HasPartCause}
 use Rattle.mg_dev.specs.declared.fault.Fault.{Fault}
 use Rattle.mg_dev.specs.declared.fault.Fault.TheVariants.{NotBuilt}
@@ -19,8 +19,7 @@ use Rattle.mg_defs.specs.Heads as defs
 use Rattle.mg_defs.specs.Heads.{IsHead}
 use Rattle.mg_defs.specs.WithinLimits.{IsWithinLimits}
 use Rattle.mg_front.specs.Reading.{Fronted, IsNotBad, LookedAt}
-use Rattle.mg_layout.specs.HeadAnswers.{AnswersBack, AnswersHead, fields_of}
-use Rattle.mg_layout.specs.Stands.{StandsBy}
+use Rattle.mg_layout.specs.HeadAnswers.{AnswersBack, AnswersHead}
 use Rattle.mg_layout.specs.declared.head.Head.{Head}
 use Rattle.mg_layout.proofs.CallerLemmas.{no_empty_head, own_head}
 use Rattle.mg_lex.specs.Reading.{IsLexicon, LexStands}
@@ -28,7 +27,7 @@ use Rattle.mg_text.specs.Reading.{IsText, TextReading, TextStands}
 use Rattle.mg_wild.specs.Loading.{HasTermsOf, TellsOf}
 use Rattle.mg_wild.specs.Terms.{LexTerms}
 use Rattle.mg_session.specs.Opening.{HeadOpened, KeptByPatterns, KeptByPhrases, KeptByQueries, OpenStops, SetOpened}
-use Rattle.mg_session.specs.PhraseSearching.{PartsOver, PartsOverBy, PhraseParts}
+use Rattle.mg_session.specs.PhraseSearching.{PartsOverBy, PhraseParts}
 use Rattle.mg_session.specs.Searching.{Opened, OpenedOver, opened_at}
 use Rattle.mg_session.specs.Serves.{StandsByNone}
 use Rattle.mg_session.specs.WildSearching.{PartsAreBy, WildParts}

@@ -1,14 +1,12 @@
 -- The reply to a phrase.
-use Rattle.std.proofs.Common.{arith, ◌≡◌, ℕ, zero, suc, ◌+◌, ◌-◌, ◌≤◌, true, List, [], ◌∷◌, ◌++◌, length, None, Ok, Err, get_or, refl, sym, ◌∙◌, ap, subst, sum_by, length-append}
+use Rattle.std.proofs.Common.{arith, ◌≡◌, ℕ, zero, suc, ◌+◌, ◌-◌, ◌≤◌, List, [], ◌∷◌, ◌++◌, length, None, Ok, Err, get_or, refl, sym, ◌∙◌, ap, subst, sum_by, length-append}
 use Rattle.std.specs.Prelude.{IfSome, IfErr, map, nat_le, nat_lt}
 use Rattle.std.specs.List.{AllByRecursion}
-use Rattle.std.specs.Option.{ForSome}
 use Rattle.std.specs.declared.option.Option.{Option}
 use Rattle.std.specs.declared.result.Result.{Result}
 use Rattle.std.proofs.lemmas.Bool.{cond_both, leb-false}
 use Rattle.std.proofs.lemmas.Option.{IfSome_then}
 use Rattle.std.proofs.lemmas.List.Sums.{sum_by-append, sum_by-cons}
-use Rattle.mg_dev.specs.Causes.{Rose}
 use Rattle.mg_dev.specs.Bads.{IsNotBad}
 use Rattle.mg_dev.specs.Files.{Files, Reads}
 use Rattle.mg_dev.specs.Streams.{AfterPut}
@@ -21,11 +19,11 @@ use Rattle.mg_dev.specs.declared.show_err.ShowErr.TheVariants as show
 use Rattle.mg_defs.specs.CodedText.{TextCode}
 use Rattle.mg_defs.specs.Lines.{lines}
 use Rattle.mg_defs.specs.Phrases.{phrase_from, phrase_next, phrase_of, phrase_places, phrase_token, phrase_with}
-use Rattle.mg_defs.specs.PhraseSession.{found_text, phrase_reply, phrase_session, with_places}
+use Rattle.mg_defs.specs.PhraseSession.{found_text, phrase_reply, with_places}
 use Rattle.mg_defs.specs.PlainSession.{plain_questions}
 use Rattle.mg_defs.specs.Refusals.{Reading, Refusal, reads, refused}
 use Rattle.mg_defs.specs.Replies.{refusal}
-use Rattle.mg_defs.specs.Session.{Question, heard_questions, heard_session}
+use Rattle.mg_defs.specs.Session.{Question, heard_questions}
 use Rattle.mg_defs.specs.Split.{documents}
 use Rattle.mg_defs.specs.Terms.{folded}
 use Rattle.mg_defs.specs.Texts.{count}
@@ -33,17 +31,12 @@ use Rattle.mg_defs.specs.Tokens.{PlacedToken, Token, amp, bang, bar, closing, op
 use Rattle.mg_defs.specs.declared.session.Hearing.TheVariants.{Questions}
 use Rattle.mg_defs.specs.declared.session.Settings.{Settings}
 use Rattle.mg_defs.proofs.ListLaws.{documents_short}
-use Rattle.mg_laws.proofs.PlainLaws.{plain_heard, questions_heard}
+use Rattle.mg_laws.proofs.PlainLaws.{questions_heard}
 use Rattle.mg_query.specs.AllOf.{IsAllOf}
 use Rattle.mg_query.specs.RefusalOf.{refusal_of}
 use Rattle.mg_query.specs.declared.query_err.QueryErr.{QueryErr}
 use Rattle.mg_reply.specs.Refusals.{AnswerStops}
-use Rattle.mg_reply.specs.Served.{EndsFor, PartStops, fault_of_serve}
-use Rattle.mg_reply.specs.declared.serve.ServeErr.{ServeErr}
-use Rattle.mg_reply.specs.declared.serve.ServeErr.TheVariants as serve
-use Rattle.mg_session.specs.Serves.{Stops}
-use Rattle.mg_defs.specs.InputLimit.{is_too_much}
-use Rattle.mg_defs.specs.Limits.{input_limit}
+use Rattle.mg_reply.specs.Served.{PartStops}
 use Rattle.mg_text.specs.Held.{HasShortDocument}
 use Rattle.mg_text.specs.Reading.{ShowIsNotBad, TextReading, TextStands}
 use Rattle.mg_session.specs.Answering.{HasShowCause}

@@ -1,8 +1,7 @@
 -- Steps of a session of phrases: what they leave of the store, and what is opened of a set.
-use Rattle.std.proofs.Common.{arith, ◌≡◌, ◌≢◌, ◌==◌, ◌+◌, ◌≤◌, ℕ, false, List, length, refl, ◌∙◌, ap, subst, sym}
+use Rattle.std.proofs.Common.{arith, ◌≡◌, ◌≢◌, ◌+◌, ◌≤◌, ℕ, false, List, length, refl, ◌∙◌, ap, subst, sym}
 use Rattle.std.specs.declared.option.Option.{Option}
-use Rattle.std.proofs.lemmas.Bool.Decides.{nat_tests}
-use Rattle.mg_dev.specs.Files.{Files, Reads, SameReads}
+use Rattle.mg_dev.specs.Files.{Files, Reads}
 use Rattle.mg_dev.specs.Names.{number, same_part}
 use Rattle.mg_dev.specs.declared.part.Part.{Part}
 use Rattle.mg_dev.specs.declared.part.Part.TheVariants as part
@@ -16,7 +15,6 @@ use Rattle.mg_post.specs.TermLists.{ReadsLists}
 use Rattle.mg_defs.specs.ShownAnswers.{plain}
 use Rattle.mg_defs.specs.TextBounds.{doc_pages}
 use Rattle.mg_text.specs.Reading.{IsTextReader, TextFits, TextReading, TextStands, document_pages}
-use Rattle.mg_session.specs.Parts.{NeverRead}
 use Rattle.mg_session.specs.PhraseSearching.{OnlyReads, PartsFit, PartsOver}
 use Rattle.mg_session.specs.PhraseSearchLaws.{lists_stay}
 use Rattle.mg_session.specs.SearchLaws.{lex_later, same_parts}

@@ -1,7 +1,7 @@
 -- What a session of phrases answered is what the run did.
-use Rattle.std.proofs.Common.{arith, ◌≡◌, ◌∙◌, ◌++◌, ℕ, List, Some, Ok, Err, Option, refl, subst, sym}
+use Rattle.std.proofs.Common.{arith, ◌≡◌, ◌++◌, ℕ, List, Ok, Err, refl, subst}
 use Rattle.std.specs.Prelude.{Result}
-use Rattle.mg_dev.specs.Files.{Files, Reads}
+use Rattle.mg_dev.specs.Files.{Reads}
 use Rattle.mg_dev.specs.Moments.{SinkAt, SourceAt, StoreAt}
 use Rattle.mg_dev.specs.Runs.{Run, status_of}
 use Rattle.mg_dev.specs.declared.fault.Fault.{Fault}

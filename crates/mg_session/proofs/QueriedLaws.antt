@@ -1,8 +1,8 @@
 -- What a session of queries answered is what the run did.
-use Rattle.std.proofs.Common.{arith, ◌≡◌, ◌∙◌, ℕ, true, List, Some, Ok, Err, Option, refl}
+use Rattle.std.proofs.Common.{arith, ◌≡◌, ◌∙◌, ℕ, true, List, Some, Ok, Err, refl}
 use Rattle.std.specs.Prelude.{Result}
-use Rattle.mg_dev.specs.Files.{Files, Reads}
-use Rattle.mg_dev.specs.Moments.{SinkAt, SourceAt, StoreAt, store_at}
+use Rattle.mg_dev.specs.Files.{Reads}
+use Rattle.mg_dev.specs.Moments.{SinkAt, SourceAt, StoreAt}
 use Rattle.mg_dev.specs.Runs.{Run, status_of}
 use Rattle.mg_dev.specs.declared.fault.Fault.{Fault}
 use Rattle.mg_dev.specs.declared.part.Part.{Part}
@@ -14,7 +14,7 @@ use Rattle.mg_layout.specs.declared.head.Head.{Head}
 use Rattle.mg_session.specs.Opening.{HeadOpened, KeptByQueries, SetOpened}
 use Rattle.mg_session.specs.Parts.{NeverRead, is_of_text}
 use Rattle.mg_session.specs.Queried.{Queried}
-use Rattle.mg_session.specs.Searching.{AnswersBy, AskForNoText, Asked, MayStop, Opened, OpenedOver, Over, Searching, state_of}
+use Rattle.mg_session.specs.Searching.{AnswersBy, AskForNoText, Asked, MayStop, OpenedOver, Over, Searching}
 use Rattle.mg_session.specs.Served.{LinesServed}
 use Rattle.mg_session.specs.Serves.{CountsNone, ReadsWithin}
 use Rattle.mg_session.proofs.ServedLaws.{Kind, NoPages, ServedAs, done_or, head_stopped, lines_served, run_of, set_stopped}

@@ -1,28 +1,17 @@
 -- Laws of a whole session.
 use Rattle.std.proofs.Common.{arith, ◌≡◌, ℕ, List, ◌++◌, refl, ap, subst, sum_by}
-use Rattle.std.specs.Option.{ForSome}
 use Rattle.std.specs.Prelude.{true}
-use Rattle.std.specs.declared.option.Option.{Option}
 use Rattle.std.proofs.lemmas.List.Sums.{sum_by-append}
-use Rattle.mg_dev.specs.Causes.{Rose}
-use Rattle.mg_dev.specs.Streams.{appended, GrewByPrefix}
 use Rattle.mg_dev.specs.declared.part.Part.{Part}
-use Rattle.mg_dev.specs.declared.part_err.PartErr.TheVariants.{Device, Memory, Bad}
-use Rattle.mg_dev.specs.declared.show_err.ShowErr.TheVariants as show
-use Rattle.mg_reply.specs.declared.serve.ServeErr.{ServeErr}
-use Rattle.mg_reply.specs.declared.serve.ServeErr.TheVariants as serve
-use Rattle.mg_reply.specs.Served.{EndsFor, fault_of_serve}
 use Rattle.mg_defs.specs.CodedText.{TextCode}
-use Rattle.mg_defs.specs.InputLimit.{is_too_much}
-use Rattle.mg_defs.specs.Limits.{input_limit}
 use Rattle.mg_defs.specs.PageBounds.{line_bound, session_bound}
-use Rattle.mg_defs.specs.Replies.{reply, session}
-use Rattle.mg_defs.specs.Session.{Question, questions_of, session_of}
+use Rattle.mg_defs.specs.Replies.{reply}
+use Rattle.mg_defs.specs.Session.{Question, questions_of}
 use Rattle.mg_defs.specs.TextBounds.{line_text_bound, session_text_bound}
 use Rattle.mg_session.specs.Parts.{is_of_text}
 use Rattle.mg_session.specs.SearchLaws.{ask_before}
-use Rattle.mg_session.specs.Searching.{AnswersBy, AskForNoText, Asked, MayStop, Over, Searching}
-use Rattle.mg_session.specs.Serves.{ReadsWithin, Stops}
+use Rattle.mg_session.specs.Searching.{AnswersBy, AskForNoText, Asked, Over, Searching}
+use Rattle.mg_session.specs.Serves.{ReadsWithin}
 
 pub answers_over : (s : Searching) (code : TextCode) (collection : List ℕ) → Over s code collection → AnswersBy s (reply collection)
 answers_over s code collection over = record { code = code; collection = collection; over = over; by_is = refl }

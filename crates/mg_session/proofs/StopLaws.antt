@@ -1,5 +1,5 @@
 -- Why a session stops, by what the calls that it makes answer.
-use Rattle.std.proofs.Common.{arith, ◌+◌, ◌-◌, ◌^◌, min, max, ◌≡◌, ◌≤◌, ◌==◌, ◌⊎◌, inl, inr, ℕ, true, false, cond, List, Option, Some, Err, IsSome, refl, sym, ◌∙◌, ap}
+use Rattle.std.proofs.Common.{arith, ◌+◌, ◌-◌, ◌^◌, min, max, ◌≡◌, ◌≤◌, ◌==◌, ◌⊎◌, inl, inr, ℕ, true, false, cond, List, Option, Some, Err, refl, sym, ◌∙◌, ap}
 use Rattle.std.proofs.lemmas.Bool.Decides.{nat_tests}
 use Rattle.mg_dev.specs.Causes.{Rose}
 use Rattle.mg_dev.specs.Faults.{fault_of_part}

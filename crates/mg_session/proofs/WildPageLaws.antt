@@ -1,15 +1,11 @@
 -- The pages of Post that patterns may read.
-use Rattle.std.proofs.Common.{arith, ◌≡◌, ◌+◌, ◌<◌, ◌≤◌, ◌∙◌, ℕ, List, [], ◌∷◌, ◌++◌, length, get_or, take, drop, refl, sym, ap, subst, sum_by, Some}
+use Rattle.std.proofs.Common.{arith, ◌≡◌, ◌+◌, ◌<◌, ◌≤◌, ◌∙◌, ℕ, List, [], ◌∷◌, ◌++◌, length, get_or, take, drop, sym, ap}
 use Rattle.std.proofs.lemmas.List.{map-append}
 use Rattle.std.proofs.lemmas.List.Sums.{sum_by-append, sum_by-cons}
 use Rattle.std.proofs.lemmas.List.{take-append-drop}
-use Rattle.mg_dev.specs.Files.{Reads}
-use Rattle.mg_dev.specs.declared.part.Part.TheVariants as part
 use Rattle.mg_defs.specs.CodedText.{TextCode}
-use Rattle.mg_defs.specs.Lines.{lines}
 use Rattle.mg_defs.specs.PageBounds.{list_pages, ranked_bound}
-use Rattle.mg_defs.specs.Patterns.{Pattern, PatternLine, bad, matching, pattern_of, sides}
-use Rattle.mg_defs.specs.PlainSession.{plain_questions}
+use Rattle.mg_defs.specs.Patterns.{Pattern, pattern_of, sides}
 use Rattle.mg_defs.specs.Rotations.{matching_numbers}
 use Rattle.mg_defs.specs.Session.{Question, heard_questions}
 use Rattle.mg_defs.specs.Terms.{dictionary}

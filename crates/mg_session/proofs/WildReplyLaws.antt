@@ -1,28 +1,18 @@
 -- The reply to a pattern, and a session of them.
-use Rattle.std.proofs.Common.{◌≡◌, ℕ, true, List, Ok, Err, refl, sym, ◌∙◌, ap, subst}
+use Rattle.std.proofs.Common.{◌≡◌, ℕ, List, Ok, Err, refl, sym, subst}
 use Rattle.std.specs.Prelude.{IfErr}
-use Rattle.std.specs.Option.{ForSome}
 use Rattle.std.specs.declared.option.Option.{Option}
 use Rattle.std.specs.declared.result.Result.{Result}
-use Rattle.mg_dev.specs.Causes.{Rose}
-use Rattle.mg_dev.specs.Streams.{AfterPut, GrewByPrefix, appended}
+use Rattle.mg_dev.specs.Streams.{AfterPut}
 use Rattle.mg_dev.specs.StreamLaws.{grew_nothing}
 use Rattle.mg_dev.specs.declared.part_err.PartErr.TheVariants.{Device, Memory, Bad}
 use Rattle.mg_dev.specs.declared.show_err.ShowErr.{ShowErr}
 use Rattle.mg_dev.specs.declared.show_err.ShowErr.TheVariants as show
-use Rattle.mg_defs.specs.InputLimit.{is_too_much}
-use Rattle.mg_defs.specs.Limits.{input_limit}
 use Rattle.mg_defs.specs.Patterns.{Pattern, bad, pattern_of, sides}
-use Rattle.mg_defs.specs.Session.{heard_session}
-use Rattle.mg_defs.specs.WildSession.{bad_pattern, match_text, wild_reply, wild_session}
-use Rattle.mg_defs.specs.declared.session.Hearing.TheVariants.{Questions}
-use Rattle.mg_laws.proofs.PlainLaws.{plain_heard}
-use Rattle.mg_reply.specs.Served.{EndsFor, PartStops, fault_of_serve}
-use Rattle.mg_reply.specs.declared.serve.ServeErr.{ServeErr}
-use Rattle.mg_reply.specs.declared.serve.ServeErr.TheVariants as serve
+use Rattle.mg_defs.specs.WildSession.{bad_pattern, match_text, wild_reply}
+use Rattle.mg_reply.specs.Served.{PartStops}
 use Rattle.mg_text.specs.Reading.{ShowIsNotBad}
 use Rattle.mg_session.specs.Answering.{HasShowCause}
-use Rattle.mg_session.specs.Serves.{Stops}
 use Rattle.mg_session.specs.WildAnswers.{WildAnswered, WildReplied}
 use Rattle.mg_session.specs.WildSearching.{WildBy, WildMayStop, WildOver, WildState}
 

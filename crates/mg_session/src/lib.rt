@@ -10,18 +10,18 @@
 //! chapter 4.
 #![tactic(auto)]
 
-mod boolean;
+mod boolean_answer;
 mod boolean_line;
-mod candidates;
 mod document_set;
 mod documents;
-mod find;
 mod held_text;
 mod hit;
+mod lookup;
 mod phrase;
+mod phrase_answer;
 mod phrase_line;
 mod phrase_searcher;
-mod ranked;
+mod ranked_answer;
 mod searched;
 mod searcher;
 mod serving;

@@ -12,9 +12,9 @@ ghost use Rattle.mg_session.specs.PhraseSearching.{OnlyReads, PartsFit, PartsOve
 ghost use Rattle.mg_session.specs.PhraseSearching.{PhraseMayStop, PhrasesAsked, PhrasesBy, PhrasesFit};
 ghost use Rattle.mg_session.specs.PhraseSearchLaws.{phrases_later, phrases_more, phrases_none, phrases_stop};
 
-use crate::candidates::answer_phrase;
-use crate::find::find_terms;
 use crate::held_text::HeldText;
+use crate::lookup::find_terms;
+use crate::phrase_answer::answer_phrase;
 use crate::phrase_line::{PhraseLine, read_phrase};
 use mg_defs::Settings;
 use mg_dev::{Fault, ShowErr, Sink, Store};

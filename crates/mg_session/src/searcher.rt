@@ -14,10 +14,10 @@ ghost use Rattle.mg_session.specs.Replying.{AnswersOpened, RepliesTo};
 ghost use Rattle.mg_session.specs.Searching.{AnswersBy, Asked, Fits, MayStop, OpenedOver, SameOpened, SearchFits, Searching, opened_at, state_of};
 ghost use Rattle.mg_session.specs.SearchLaws.{answers_later, asked_more, asked_none, stops_later};
 
-use crate::boolean::answer_query;
+use crate::boolean_answer::answer_query;
 use crate::boolean_line::read_boolean;
-use crate::find::find_terms;
-use crate::ranked::answer_terms;
+use crate::lookup::find_terms;
+use crate::ranked_answer::answer_terms;
 use crate::texts::Texts;
 use mg_defs::Settings;
 use mg_dev::{Fault, ShowErr, Sink, Store};

@@ -1,5 +1,5 @@
 use Rattle.mg_dev.specs.Moments.{store_at}
-use Rattle.mg_session.proofs.OpenLaws.{Loaded, head_loaded, head_missing, head_refused}
+use Rattle.mg_session.proofs.OpenLaws.{head_loaded, head_missing, head_refused}
 use Rattle.mg_session.proofs.serving.load_head.Goals as goal
 
 pub returns-in-Err-clause-opened : goal.returns-in-Err-clause-opened

@@ -1,4 +1,4 @@
-use Rattle.std.proofs.Common.{refl, inl, inr}
+use Rattle.std.proofs.Common.{refl, inr}
 use Rattle.mg_dev.specs.Moments.{store_at}
 use Rattle.mg_dev.specs.declared.fault.Fault.TheVariants.{Memory}
 use Rattle.mg_session.specs.WildServes.{fault_of_rotated}

@@ -3,7 +3,7 @@ use Rattle.mg_query.specs.AllOf.{IsAllOf}
 use Rattle.mg_query.specs.declared.query.Query.{Query}
 use Rattle.mg_session.specs.PhraseSearchLaws.{reads_none}
 use Rattle.mg_session.proofs.PhraseReplyLaws.{none_answered}
-use Rattle.mg_session.proofs.candidates.answer_phrase.Goals as goal
+use Rattle.mg_session.proofs.phrase_answer.answer_phrase.Goals as goal
 
 pub returns-in-Err-clause-answer : goal.returns-in-Err-clause-answer
 returns-in-Err-clause-answer g c = λ collection stands told. none_answered _ collection c.args.phrase.now _ _

@@ -4,7 +4,7 @@ use Rattle.mg_session.specs.Answering.{RowsShown}
 use Rattle.mg_session.specs.SearchLaws.{same_texts, texts_later, texts_then}
 use Rattle.mg_session.proofs.StepLaws.{shown_none, shown_then}
 use Rattle.mg_session.proofs.RankedLaws.{numbered, pages_cut, rows_cut, rows_more, rows_passed, rows_read, rows_start}
-use Rattle.mg_session.proofs.ranked.show_rows.Goals as goal
+use Rattle.mg_session.proofs.ranked_answer.show_rows.Goals as goal
 
 pub loop-place-init : goal.loop-place-init
 loop-place-init g c = record {

@@ -7,7 +7,7 @@ use Rattle.mg_session.proofs.KnownLaws.{known_bound, known_hits, known_told}
 use Rattle.mg_session.proofs.RankedLaws.{are_rows, rows_end, terms_stop}
 use Rattle.mg_session.proofs.ReplyLaws.{none_answered, top_sound}
 use Rattle.mg_session.proofs.StepLaws.{ranked_text, shown_post}
-use Rattle.mg_session.proofs.ranked.answer_terms.Goals as goal
+use Rattle.mg_session.proofs.ranked_answer.answer_terms.Goals as goal
 
 pub returns-in-Err-clause-answer : goal.returns-in-Err-clause-answer
 returns-in-Err-clause-answer g c = λ code collection stands terms told apart. none_answered _ _ _ _ _ _ _

@@ -2,7 +2,7 @@ use Rattle.std.proofs.Common.{arith, ◌∷◌, [], ◌++◌, sym, ◌∙◌, ap
 use Rattle.mg_layout.specs.declared.term_info.TermInfo.{TermInfo}
 use Rattle.std.proofs.Common.{List}
 use Rattle.mg_session.proofs.FindLaws.{known_none, known_some}
-use Rattle.mg_session.proofs.find.known_of.Goals as goal
+use Rattle.mg_session.proofs.lookup.known_of.Goals as goal
 
 pub loop-info-preserved-in_default : goal.loop-info-preserved-in_default
 loop-info-preserved-in_default c = record {

@@ -4,7 +4,7 @@ use Rattle.mg_defs.specs.WithinLimits.{IsWithinLimits}
 use Rattle.mg_front.specs.Reading.{FrontFits, LookedAt, SameParts}
 use Rattle.mg_lex.specs.Reading.{LexStands}
 use Rattle.mg_session.specs.Answering.{FirstInfos}
-use Rattle.mg_session.proofs.find.find_terms.Given as goal
+use Rattle.mg_session.proofs.lookup.find_terms.Given as goal
 
 abbrev pub invariant-loop-term : goal.invariant-loop-term
 invariant-loop-term g l = record {

@@ -1,6 +1,6 @@
 use Rattle.std.proofs.Common.{◌≡◌, ◌≤◌, length, take}
 use Rattle.mg_session.specs.Answering.{known_infos}
-use Rattle.mg_session.proofs.find.known_of.Given as goal
+use Rattle.mg_session.proofs.lookup.known_of.Given as goal
 
 abbrev pub invariant-loop-info : goal.invariant-loop-info
 invariant-loop-info l = record {

@@ -11,8 +11,8 @@ ghost use Rattle.mg_session.specs.Showing.{PassesRows, PutsRanking, ReadsRows};
 ghost use Rattle.mg_session.specs.Texts.{SameTexts, TextsFit};
 
 use crate::documents::Documents;
-use crate::find::known_of;
 use crate::hit::show_doc;
+use crate::lookup::known_of;
 use crate::total::put_total;
 use mg_defs::{Mode, Settings};
 use mg_dev::{PartErr, ShowErr, Sink, Store};

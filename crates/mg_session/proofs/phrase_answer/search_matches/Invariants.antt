@@ -4,7 +4,7 @@ use Rattle.mg_query.specs.QueryOf.{query_of}
 use Rattle.mg_text.specs.Reading.{SameText, TextFits}
 use Rattle.mg_session.specs.PhraseAnswers.{PhraseWalked}
 use Rattle.mg_session.specs.PhraseSearching.{OnlyReads, PhraseSources}
-use Rattle.mg_session.proofs.candidates.search_matches.Given as goal
+use Rattle.mg_session.proofs.phrase_answer.search_matches.Given as goal
 
 abbrev pub invariant-matches : goal.invariant-matches
 invariant-matches g l = record {

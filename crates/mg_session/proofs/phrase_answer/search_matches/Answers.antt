@@ -16,7 +16,7 @@ use Rattle.mg_session.proofs.ReplyLaws.{list_sound, put_sound}
 use Rattle.mg_session.proofs.StepLaws.{cause_after, lists_text}
 use Rattle.mg_session.proofs.TotalLaws.{lack_after}
 use Rattle.mg_session.proofs.WalkLaws.{fit_later}
-use Rattle.mg_session.proofs.candidates.search_matches.Goals as goal
+use Rattle.mg_session.proofs.phrase_answer.search_matches.Goals as goal
 
 pub matches-init : goal.matches-init
 matches-init g c = record {

@@ -12,7 +12,7 @@ use Rattle.mg_session.proofs.StepLaws.{cause_after, lists_step, lists_text, show
 use Rattle.mg_session.proofs.ReplyLaws.{list_sound}
 use Rattle.mg_session.proofs.TotalLaws.{lack_after}
 use Rattle.mg_session.proofs.WalkLaws.{fit_later, walked_cut, walked_end, walked_hit, walked_start, walked_stop}
-use Rattle.mg_session.proofs.boolean.show_matches.Goals as goal
+use Rattle.mg_session.proofs.boolean_answer.show_matches.Goals as goal
 
 pub matches-init : goal.matches-init
 matches-init g c = record {

@@ -5,7 +5,7 @@ use Rattle.mg_session.specs.Answering.{rows_pages}
 use Rattle.mg_session.proofs.RankedLaws.{ranking_cut, ranking_put}
 use Rattle.mg_session.proofs.StepLaws.{cause_after}
 use Rattle.mg_session.proofs.TotalLaws.{lack_after}
-use Rattle.mg_session.proofs.ranked.show_ranked.Goals as goal
+use Rattle.mg_session.proofs.ranked_answer.show_ranked.Goals as goal
 
 pub show_rows-requires-clause-range : goal.show_rows-requires-clause-range
 show_rows-requires-clause-range g c = rw c.rows.ensures c.requires.range

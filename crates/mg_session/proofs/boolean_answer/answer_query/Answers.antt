@@ -5,7 +5,7 @@ use Rattle.mg_query.specs.QueryOf.{query_of}
 use Rattle.mg_query.specs.declared.query.Query.{Query}
 use Rattle.mg_session.specs.Answering.{Answered}
 use Rattle.mg_session.proofs.ReplyLaws.{none_answered}
-use Rattle.mg_session.proofs.boolean.answer_query.Goals as goal
+use Rattle.mg_session.proofs.boolean_answer.answer_query.Goals as goal
 
 pub returns-in-Err-clause-answer : goal.returns-in-Err-clause-answer
 returns-in-Err-clause-answer g c = λ code collection stands told. none_answered _ _ _ _ _ _ _

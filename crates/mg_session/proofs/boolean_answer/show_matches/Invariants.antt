@@ -5,7 +5,7 @@ use Rattle.mg_query.specs.QueryOf.{query_of}
 use Rattle.mg_session.specs.Answering.{AnswersFor, Walked}
 use Rattle.mg_session.specs.Parts.{Stepped}
 use Rattle.mg_session.specs.Texts.{SameTexts, TextsFit}
-use Rattle.mg_session.proofs.boolean.show_matches.Given as goal
+use Rattle.mg_session.proofs.boolean_answer.show_matches.Given as goal
 
 abbrev pub invariant-matches : goal.invariant-matches
 invariant-matches g l = record {

@@ -3,7 +3,7 @@ use Rattle.mg_defs.specs.CodedText.{TextCode}
 use Rattle.mg_session.specs.Answering.{RowsShown}
 use Rattle.mg_session.specs.Parts.{ShownIn}
 use Rattle.mg_session.specs.Texts.{SameTexts, TextsFit, TextsStand}
-use Rattle.mg_session.proofs.ranked.show_rows.Given as goal
+use Rattle.mg_session.proofs.ranked_answer.show_rows.Given as goal
 
 abbrev pub invariant-loop-place : goal.invariant-loop-place
 invariant-loop-place g l = record {

@@ -7,7 +7,7 @@ use Rattle.mg_session.specs.Answering.{FirstInfos}
 use Rattle.mg_session.specs.SearchLaws.{lex_later, parts_then}
 use Rattle.mg_session.proofs.FindLaws.{infos_all, infos_more, told_of}
 use Rattle.mg_session.proofs.StepLaws.{looked_then}
-use Rattle.mg_session.proofs.find.find_terms.Goals as goal
+use Rattle.mg_session.proofs.lookup.find_terms.Goals as goal
 
 pub loop-term-preserved : goal.loop-term-preserved
 loop-term-preserved g c = record {
