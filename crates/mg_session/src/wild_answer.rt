@@ -6,8 +6,9 @@ ghost use Rattle.mg_dev.specs.Moments.{Between};
 ghost use Rattle.mg_dev.specs.PartCauses.{HasPartCause};
 ghost use Rattle.mg_defs.specs.PageBounds.{list_pages, ranked_bound};
 ghost use Rattle.mg_defs.specs.WildSession.{numbers_text, term_row};
+ghost use Rattle.mg_post.specs.Cursor.{CursorFits};
 ghost use Rattle.mg_post.specs.TermLists.{ReadsLists};
-ghost use Rattle.mg_rank.specs.Ranked.{ForTerm, PostWithin};
+ghost use Rattle.mg_rank.specs.Ranked.{ForList, ForTerm, PostWithin};
 ghost use Rattle.mg_reply.specs.Printed.{Passes};
 ghost use Rattle.mg_wild.specs.Patterns.{sides_of};
 ghost use Rattle.mg_session.specs.Answering.{HasShowCause, HasShowLack};
@@ -23,6 +24,39 @@ use mg_post::{Cursor, cursor_pages_are_within};
 use mg_reply::Pending;
 use mg_wild::{Pattern, Rotated};
 use std::alloc::Global;
+
+/// Marks the documents of the list that a cursor stands before.
+fn mark_postings<S: Store>(
+    cursor: &mut Cursor<'_, S>,
+    store: &mut S,
+    all: u32,
+    marked: &mut DocumentSet,
+) -> Result<(), PartErr>
+    requires all { cursor.old.all ≡ all }
+    requires room { marked.old.all ≡ all }
+    requires fits { CursorFits cursor.old (S.files store.old) }
+    ensures room { marked.new.all ≡ all }
+    ensures answer { ForList (S.files store.old) 0 cursor.old
+        (λ base collection t. MarksLists (t ∷ []) marked.old marked.new result collection) }
+    ensures pages { ForList (S.files store.old) 0 cursor.old
+        (λ base collection t. PostWithin S.reads store.old store.new (list_pages collection t)) }
+    ensures reads { ReadsLists (S.reads store.old) (S.reads store.new) }
+    ensures files { S.files store.new ≡ S.files store.old }
+    ensures cause { HasPartCause (S.faults store.old) (S.faults store.new) result }
+{
+    cursor_pages_are_within();
+    let mut last = 0;
+    while last < all {
+        let posting = match cursor.next_behind(store, last) {
+            Ok(Some(posting)) => posting,
+            Ok(None) => return Ok(()),
+            Err(refusal) => return Err(refusal),
+        };
+        marked.mark(posting.doc);
+        last = posting.doc;
+    }
+    Ok(())
+}
 
 /// Marks the documents of a term's list.
 fn mark_list<S: Store>(
@@ -47,18 +81,7 @@ fn mark_list<S: Store>(
         Ok(cursor) => cursor,
         Err(_lack) => return Err(PartErr::Memory),
     };
-    cursor_pages_are_within();
-    let mut last = 0;
-    while last < all {
-        let posting = match cursor.next_behind(store, last) {
-            Ok(Some(posting)) => posting,
-            Ok(None) => return Ok(()),
-            Err(refusal) => return Err(refusal),
-        };
-        marked.mark(posting.doc);
-        last = posting.doc;
-    }
-    Ok(())
+    mark_postings(&mut cursor, store, all, marked)
 }
 
 /// Marks the documents that have one of the terms with these numbers.
