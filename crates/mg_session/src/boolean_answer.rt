@@ -11,14 +11,13 @@ ghost use Rattle.mg_session.specs.Texts.{SameTexts, TextsFit};
 
 use crate::documents::Documents;
 use crate::hit::show_hit;
+use crate::lists::Lists;
+use crate::lookup::Sought;
 use crate::total::put_total;
 use mg_bool::Matches;
 use mg_defs::Settings;
 use mg_dev::{PartErr, ShowErr, Sink, Store};
-use mg_layout::TermInfo;
-use mg_query::Query;
 use mg_reply::Pending;
-use std::alloc::Global;
 
 /// Shows the documents that satisfy a query, of which none was asked for yet: the first of them, and how
 /// many there are.
@@ -59,32 +58,35 @@ fn show_matches<S: Store, D: Documents<S>, O: Sink>(
 }
 
 /// Shows the documents that satisfy a query, rising: the first of them, and how many there are.
-/// `infos` is what the lexicon tells of the query's terms, from left to right; `all` is the number
-/// of documents.
 pub(crate) fn answer_query<S: Store, D: Documents<S>, O: Sink>(
-    alloc: Global,
+    lists: &Lists<'_>,
     store: &mut S,
-    base: &str,
     texts: &mut D,
-    query: &Query,
-    infos: &[Option<TermInfo>],
-    all: u32,
+    sought: &Sought<'_>,
     now: &Settings,
     out: &mut O,
 ) -> Result<(), ShowErr>
-    requires size { length infos.now ≡ length (query_terms (query_of query.now)) }
+    requires size { length sought.now.infos.now
+        ≡ length (query_terms (query_of sought.now.query.now)) }
     requires fits { TextsFit (S.files store.old) (D.texts texts.old) }
-    requires all { (D.texts texts.old).head.documents ≡ all }
+    requires all { (D.texts texts.old).head.documents ≡ lists.now.all }
     ensures fits { TextsFit (S.files store.new) (D.texts texts.new) }
     ensures same { SameTexts (D.texts texts.old) (D.texts texts.new) }
-    ensures answer { AnswersQuery S.Store O.Sink store.old store.new out.old out.new result base.now
-        (D.texts texts.old) all (query_of query.now) infos.now now.now }
+    ensures answer { AnswersQuery S.Store O.Sink store.old store.new out.old out.new result
+        lists.now.base.now (D.texts texts.old) lists.now.all (query_of sought.now.query.now)
+        sought.now.infos.now now.now }
     ensures step { Between S.files S.reads S.faults store.old store.new (Stepped now.now.mode) }
     ensures cause { HasShowCause result (S.faults store.old) (S.faults store.new) (O.faults out.old)
         (O.faults out.new) }
     ensures lack { HasShowLack (O.lacks out.old) (O.lacks out.new) result }
 {
-    let mut matches = match Matches::start(alloc, base, query, infos, all) {
+    let mut matches = match Matches::start(
+        lists.alloc,
+        lists.base,
+        sought.query,
+        sought.infos,
+        lists.all,
+    ) {
         Ok(matches) => matches,
         Err(_) => return Err(ShowErr::Part(PartErr::Memory)),
     };

@@ -16,6 +16,7 @@ mod document_set;
 mod documents;
 mod held_text;
 mod hit;
+mod lists;
 mod lookup;
 mod phrase;
 mod phrase_answer;

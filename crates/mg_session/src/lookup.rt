@@ -12,8 +12,15 @@ ghost use Rattle.mg_session.specs.Sessions.{ForLexicon};
 use mg_dev::{PartErr, Store};
 use mg_layout::TermInfo;
 use mg_lex::Lex;
-use mg_query::Term;
+use mg_query::{Query, Term};
 use std::alloc::{AllocError, Global};
+
+/// A query, and what the lexicon tells of its terms, from left to right.
+#[derive(Drop)]
+pub(crate) struct Sought<'a> {
+    pub(crate) query: &'a Query,
+    pub(crate) infos: &'a [Option<TermInfo>],
+}
 
 /// What the lexicon tells of each of these terms; None for a term that no document has.
 pub(crate) fn find_terms<S: Store>(

@@ -13,14 +13,14 @@ ghost use Rattle.mg_session.specs.PhraseAnswers.{found_at, rows_of};
 ghost use Rattle.mg_session.specs.PhraseSearching.{OnlyReads};
 ghost use Rattle.mg_session.specs.Replying.{AnswersCandidates, AnswersPhrase};
 
+use crate::lists::Lists;
+use crate::lookup::Sought;
 use crate::searched::Searched;
 use crate::total::put_total;
 use mg_bool::Matches;
 use mg_dev::{PartErr, PutErr, ShowErr, Sink, Store};
-use mg_layout::TermInfo;
-use mg_query::{Query, Terms};
+use mg_query::Terms;
 use mg_reply::Pending;
-use std::alloc::Global;
 
 /// Passes on the row of a document in which a phrase has so many places, if it has any.
 #[tactic(auto, unfolding(crate::specs::PhraseAnswers::rows_of))]
@@ -89,37 +89,39 @@ fn search_matches<S: Store, T: Searched<S>, O: Sink>(
 }
 
 /// Shows the documents that have a phrase, rising, each with how often, and how many they are. Only
-/// those that have all its words are decoded.
-///
-/// `query` joins the phrase's words by `&`, and `infos` is what the lexicon tells of them; `all` is the
-/// number of documents.
+/// those that have all its words are decoded, which the query joins by `&`.
 pub(crate) fn answer_phrase<S: Store, T: Searched<S>, O: Sink>(
-    alloc: Global,
+    lists: &Lists<'_>,
     store: &mut S,
-    base: &str,
     text: &mut T,
     phrase: &Terms,
-    query: &Query,
-    infos: &[Option<TermInfo>],
-    all: u32,
+    sought: &Sought<'_>,
     out: &mut O,
 ) -> Result<(), ShowErr>
-    requires size { length infos.now ≡ length (query_terms (query_of query.now)) }
+    requires size { length sought.now.infos.now
+        ≡ length (query_terms (query_of sought.now.query.now)) }
     requires few { length phrase.now ≤ 64 }
-    requires joined { IsAllOf phrase.now (Some query.now) }
+    requires joined { IsAllOf phrase.now (Some sought.now.query.now) }
     requires fits { TextFits (T.text text.old) (S.files store.old) }
-    requires all { (T.text text.old).documents ≡ all }
+    requires all { (T.text text.old).documents ≡ lists.now.all }
     ensures fits { TextFits (T.text text.new) (S.files store.new) }
     ensures same { SameText (T.text text.old) (T.text text.new) }
     ensures most { T.most text.new ≡ T.most text.old }
     ensures answer { AnswersPhrase S.Store O.Sink store.old store.new out.old out.new result
-        base.now (T.text text.old) all (T.most text.old) (query_of query.now) infos.now phrase.now }
+        lists.now.base.now (T.text text.old) lists.now.all (T.most text.old)
+        (query_of sought.now.query.now) sought.now.infos.now phrase.now }
     ensures step { Between S.files S.reads S.faults store.old store.new OnlyReads }
     ensures cause { HasShowCause result (S.faults store.old) (S.faults store.new) (O.faults out.old)
         (O.faults out.new) }
     ensures lack { HasShowLack (O.lacks out.old) (O.lacks out.new) result }
 {
-    let mut matches = match Matches::start(alloc, base, query, infos, all) {
+    let mut matches = match Matches::start(
+        lists.alloc,
+        lists.base,
+        sought.query,
+        sought.infos,
+        lists.all,
+    ) {
         Ok(matches) => matches,
         Err(_) => return Err(ShowErr::Part(PartErr::Memory)),
     };

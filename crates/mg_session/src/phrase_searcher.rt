@@ -13,7 +13,8 @@ ghost use Rattle.mg_session.specs.PhraseSearching.{PhraseMayStop, PhrasesAsked, 
 ghost use Rattle.mg_session.specs.PhraseSearchLaws.{phrases_later, phrases_more, phrases_none, phrases_stop};
 
 use crate::held_text::HeldText;
-use crate::lookup::find_terms;
+use crate::lists::Lists;
+use crate::lookup::{Sought, find_terms};
 use crate::phrase_answer::answer_phrase;
 use crate::phrase_line::{PhraseLine, read_phrase};
 use mg_defs::Settings;
@@ -175,17 +176,16 @@ impl<'a, S: Store> PhraseSearcher<'a, S> {
             Ok(infos) => infos,
             Err(refusal) => return Err(ShowErr::from(refusal)),
         };
-        answer_phrase(
-            self.alloc,
-            store,
-            self.base,
-            &mut self.text,
-            phrase,
+        let lists = Lists {
+            alloc: self.alloc,
+            base: self.base,
+            all: self.all,
+        };
+        let sought = Sought {
             query,
-            &infos,
-            self.all,
-            out,
-        )
+            infos: &infos,
+        };
+        answer_phrase(&lists, store, &mut self.text, phrase, &sought, out)
     }
 }
 

@@ -12,6 +12,7 @@ ghost use Rattle.mg_session.specs.Texts.{SameTexts, TextsFit};
 
 use crate::documents::Documents;
 use crate::hit::show_doc;
+use crate::lists::Lists;
 use crate::lookup::known_of;
 use crate::total::put_total;
 use mg_defs::{Mode, Settings};
@@ -19,7 +20,6 @@ use mg_dev::{PartErr, ShowErr, Sink, Store};
 use mg_layout::TermInfo;
 use mg_rank::{RankRows, Ranked, rank};
 use mg_reply::Pending;
-use std::alloc::Global;
 
 /// Passes on what a reply shows of rows, one after another.
 fn show_rows<S: Store, D: Documents<S>, O: Sink>(
@@ -105,35 +105,33 @@ fn rows_asked(now: &Settings, all: u32) -> u32
 }
 
 /// Shows the documents with any of these terms, the highest score first: the first of them, and how
-/// many there are. `infos` is what the lexicon tells of the terms; `all` is the number of documents.
+/// many there are. `infos` is what the lexicon tells of the terms.
 pub(crate) fn answer_terms<S: Store, D: Documents<S>, O: Sink>(
-    alloc: Global,
+    lists: &Lists<'_>,
     store: &mut S,
-    base: &str,
     texts: &mut D,
     infos: &[Option<TermInfo>],
-    all: u32,
     now: &Settings,
     out: &mut O,
 ) -> Result<(), ShowErr>
     requires few { length infos.now ≤ 64 }
     requires fits { TextsFit (S.files store.old) (D.texts texts.old) }
-    requires all { (D.texts texts.old).head.documents ≡ all }
+    requires all { (D.texts texts.old).head.documents ≡ lists.now.all }
     ensures fits { TextsFit (S.files store.new) (D.texts texts.new) }
     ensures same { SameTexts (D.texts texts.old) (D.texts texts.new) }
-    ensures answer { AnswersTerms S.Store O.Sink store.old store.new out.old out.new result base.now
-        (D.texts texts.old) all infos.now now.now }
+    ensures answer { AnswersTerms S.Store O.Sink store.old store.new out.old out.new result
+        lists.now.base.now (D.texts texts.old) lists.now.all infos.now now.now }
     ensures step { Between S.files S.reads S.faults store.old store.new (Stepped now.now.mode) }
     ensures cause { HasShowCause result (S.faults store.old) (S.faults store.new) (O.faults out.old)
         (O.faults out.new) }
     ensures lack { HasShowLack (O.lacks out.old) (O.lacks out.new) result }
 {
-    let known = match known_of(alloc, infos) {
+    let known = match known_of(lists.alloc, infos) {
         Ok(known) => known,
         Err(_) => return Err(ShowErr::Part(PartErr::Memory)),
     };
-    let most = rows_asked(now, all);
-    let ranked = match rank(alloc, store, base, &known, all, most) {
+    let most = rows_asked(now, lists.all);
+    let ranked = match rank(lists.alloc, store, lists.base, &known, lists.all, most) {
         Ok(ranked) => ranked,
         Err(refusal) => return Err(ShowErr::from(refusal)),
     };

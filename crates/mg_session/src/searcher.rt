@@ -16,7 +16,8 @@ ghost use Rattle.mg_session.specs.SearchLaws.{answers_later, asked_more, asked_n
 
 use crate::boolean_answer::answer_query;
 use crate::boolean_line::read_boolean;
-use crate::lookup::find_terms;
+use crate::lists::Lists;
+use crate::lookup::{Sought, find_terms};
 use crate::ranked_answer::answer_terms;
 use crate::texts::Texts;
 use mg_defs::Settings;
@@ -134,17 +135,16 @@ impl<'a, S: Store> Searcher<'a, S> {
             Ok(infos) => infos,
             Err(refusal) => return Err(ShowErr::from(refusal)),
         };
-        answer_query(
-            self.alloc,
-            store,
-            self.base,
-            &mut self.texts,
+        let lists = Lists {
+            alloc: self.alloc,
+            base: self.base,
+            all: self.all,
+        };
+        let sought = Sought {
             query,
-            &infos,
-            self.all,
-            now,
-            out,
-        )
+            infos: &infos,
+        };
+        answer_query(&lists, store, &mut self.texts, &sought, now, out)
     }
 
     /// Writes the reply to a ranked line.
@@ -198,16 +198,12 @@ impl<'a, S: Store> Searcher<'a, S> {
             Ok(infos) => infos,
             Err(refusal) => return Err(ShowErr::from(refusal)),
         };
-        answer_terms(
-            self.alloc,
-            store,
-            self.base,
-            &mut self.texts,
-            &infos,
-            self.all,
-            now,
-            out,
-        )
+        let lists = Lists {
+            alloc: self.alloc,
+            base: self.base,
+            all: self.all,
+        };
+        answer_terms(&lists, store, &mut self.texts, &infos, now, out)
     }
 
     /// Writes the reply to a query line, ranked or Boolean as the settings say.

@@ -15,9 +15,9 @@ returns-clause-answer g c = λ code collection stands told.
     subst (λ (a : Query). Answered code collection c.args.now.now (satisfying collection (query_of a)) (boolean_bound collection (query_of a))
     (g.O.Sink.written c.args.out.now) (g.O.Sink.written c.show_matches.new.out) (g.S.Store.reads c.args.store.now)
     (g.S.Store.reads c.show_matches.new.store) c.show_matches.result) c.in-Ok.ensures.asks
-    (c.show_matches.ensures.answer c.args.base.now code collection
+    (c.show_matches.ensures.answer c.args.lists.now.base.now code collection
     (record { weights = stands.weights; texts_are = stands.texts_are; all_is = c.in-Ok.ensures.all ∙ stands.all_is })
     (c.in-Ok.ensures.over collection told stands.all_is))
 
 pub show_matches-requires-clause-on : goal.show_matches-requires-clause-on
-show_matches-requires-clause-on g c = (c.args.base.now, c.in-Ok.ensures.fits _)
+show_matches-requires-clause-on g c = (c.args.lists.now.base.now, c.in-Ok.ensures.fits _)

@@ -16,9 +16,9 @@ search_matches-requires-clause-joined g c = subst (λ (q : Query). IsAllOf c.arg
 
 pub returns-clause-answer : goal.returns-clause-answer
 returns-clause-answer g c = λ collection stands told.
-    c.search_matches.ensures.answer c.args.base.now collection
+    c.search_matches.ensures.answer c.args.lists.now.base.now collection
     (record { lists = stands.lists; text_is = stands.text_is; all_is = c.in-Ok.ensures.all ∙ stands.all_is; short = stands.short })
     (c.in-Ok.ensures.over collection told stands.all_is)
 
 pub search_matches-requires-clause-on : goal.search_matches-requires-clause-on
-search_matches-requires-clause-on g c = (c.args.base.now, c.in-Ok.ensures.fits _)
+search_matches-requires-clause-on g c = (c.args.lists.now.base.now, c.in-Ok.ensures.fits _)

@@ -27,7 +27,7 @@ returns-clause-answer g c = λ code collection stands terms told apart.
     let is_told : AreTold collection kept c.deref.result.now = subst (λ (xs : List TermInfo). AreTold collection kept xs)
     (sym (c.deref.ensures.value ∙ c.in-Ok.ensures.known)) (known_told collection terms c.args.infos.now told apart) in
     let top = c.in-Ok-rank.ensures.answer collection kept stands.weights is_told stands.all_is in
-    let are = are_rows collection kept terms c.args.now.now c.args.all c.rows_asked-most.result c.in-Ok-rank.ranked.total c.in-Ok-rank.ranked.rows
+    let are = are_rows collection kept terms c.args.now.now c.args.lists.now.all c.rows_asked-most.result c.in-Ok-rank.ranked.total c.in-Ok-rank.ranked.rows
     (known_hits collection terms c.args.infos.now told) stands.all_is c.rows_asked-most.ensures top.0 top.1 in
     let text = texts_later (g.D.Documents.texts c.args.texts.now) (g.D.Documents.texts c.args.texts.now) _ _ code collection
     (same_texts (g.D.Documents.texts c.args.texts.now)) c.in-Ok-rank.ensures.files stands.texts_are in
