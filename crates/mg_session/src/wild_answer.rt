@@ -18,12 +18,12 @@ ghost use Rattle.mg_session.specs.WildAnswers.{ForLexTerms, ReadsNoOther, WildSo
 ghost use Rattle.mg_session.specs.WildMarks.{MarksLists, MarksTerms, rows_at, terms_at};
 
 use crate::document_set::DocumentSet;
+use crate::lists::Lists;
 use mg_dev::{PartErr, PutErr, ShowErr, Sink, Store};
 use mg_layout::TermInfo;
 use mg_post::{Cursor, cursor_pages_are_within};
 use mg_reply::Pending;
 use mg_wild::{Pattern, Rotated};
-use std::alloc::Global;
 
 /// Marks the documents of the list that a cursor stands before.
 fn mark_postings<S: Store>(
@@ -60,47 +60,45 @@ fn mark_postings<S: Store>(
 
 /// Marks the documents of a term's list.
 fn mark_list<S: Store>(
-    alloc: Global,
+    lists: &Lists<'_>,
     store: &mut S,
-    base: &str,
     info: &TermInfo,
-    all: u32,
     marked: &mut DocumentSet,
 ) -> Result<(), PartErr>
-    requires room { marked.old.all ≡ all }
-    ensures room { marked.new.all ≡ all }
-    ensures answer { ForTerm base.now (S.files store.old) info.now all
+    requires room { marked.old.all ≡ lists.now.all }
+    ensures room { marked.new.all ≡ lists.now.all }
+    ensures answer { ForTerm lists.now.base.now (S.files store.old) info.now lists.now.all
         (λ collection t. MarksLists (t ∷ []) marked.old marked.new result collection) }
-    ensures pages { ForTerm base.now (S.files store.old) info.now all
+    ensures pages { ForTerm lists.now.base.now (S.files store.old) info.now lists.now.all
         (λ collection t. PostWithin S.reads store.old store.new (list_pages collection t)) }
     ensures reads { ReadsLists (S.reads store.old) (S.reads store.new) }
     ensures files { S.files store.new ≡ S.files store.old }
     ensures cause { HasPartCause (S.faults store.old) (S.faults store.new) result }
 {
-    let mut cursor = match Cursor::start(alloc, base, info, all) {
+    let mut cursor = match Cursor::start(lists.alloc, lists.base, info, lists.all) {
         Ok(cursor) => cursor,
         Err(_lack) => return Err(PartErr::Memory),
     };
-    mark_postings(&mut cursor, store, all, marked)
+    mark_postings(&mut cursor, store, lists.all, marked)
 }
 
 /// Marks the documents that have one of the terms with these numbers.
 fn mark_all<S: Store>(
-    alloc: Global,
+    lists: &Lists<'_>,
     store: &mut S,
-    base: &str,
     terms: &Rotated,
     numbers: &[u32],
-    all: u32,
     marked: &mut DocumentSet,
 ) -> Result<(), PartErr>
     requires each { length terms.now.infos ≡ length terms.now.terms }
     requires terms { All (λ n. n < length terms.now.terms) numbers.now }
-    requires room { marked.old.all ≡ all }
-    ensures room { marked.new.all ≡ all }
-    ensures answer { ForEach (WildSources base.now (S.files store.old) terms.now all)
+    requires room { marked.old.all ≡ lists.now.all }
+    ensures room { marked.new.all ≡ lists.now.all }
+    ensures answer { ForEach
+        (WildSources lists.now.base.now (S.files store.old) terms.now lists.now.all)
         (MarksTerms numbers.now marked.old marked.new result) }
-    ensures pages { ForEach (WildSources base.now (S.files store.old) terms.now all)
+    ensures pages { ForEach
+        (WildSources lists.now.base.now (S.files store.old) terms.now lists.now.all)
         (λ collection. PostWithin S.reads store.old store.new
         (ranked_bound collection (terms_at collection numbers.now))) }
     ensures reads { ReadsLists (S.reads store.old) (S.reads store.new) }
@@ -109,7 +107,7 @@ fn mark_all<S: Store>(
 {
     for number in numbers {
         let info = terms.info(*number);
-        match mark_list(alloc, store, base, &info, all, marked) {
+        match mark_list(lists, store, &info, marked) {
             Ok(()) => {}
             Err(refusal) => return Err(refusal),
         }
@@ -195,22 +193,22 @@ fn pass_marked<O: Sink>(
 /// Shows the terms that match a pattern, each with how many documents have it, and then the documents
 /// that have one of them, rising, and how many they are. All lists are read before anything is shown.
 ///
-/// `all` is the number of documents; `marked` has room for them, and is cleared first.
+/// `marked` has room for all documents, and is cleared first.
 pub(crate) fn answer_pattern<S: Store, O: Sink>(
-    alloc: Global,
+    lists: &Lists<'_>,
     store: &mut S,
-    base: &str,
     terms: &Rotated,
     marked: &mut DocumentSet,
     pattern: &Pattern,
-    all: u32,
     out: &mut O,
 ) -> Result<(), ShowErr>
-    requires room { marked.old.all ≡ all }
-    ensures room { marked.new.all ≡ all }
-    ensures answer { ForEach (WildSources base.now (S.files store.old) terms.now all)
+    requires room { marked.old.all ≡ lists.now.all }
+    ensures room { marked.new.all ≡ lists.now.all }
+    ensures answer { ForEach
+        (WildSources lists.now.base.now (S.files store.old) terms.now lists.now.all)
         (AnswersPattern O.written out.old out.new result (sides_of pattern.now)) }
-    ensures pages { ForEach (WildSources base.now (S.files store.old) terms.now all)
+    ensures pages { ForEach
+        (WildSources lists.now.base.now (S.files store.old) terms.now lists.now.all)
         (λ collection. PostWithin S.reads store.old store.new
         (pattern_pages collection (sides_of pattern.now))) }
     ensures step { Between S.files S.reads S.faults store.old store.new ReadsNoOther }
@@ -220,13 +218,13 @@ pub(crate) fn answer_pattern<S: Store, O: Sink>(
 {
     // For the proof: something is told of each term.
     let _ = terms.len();
-    let matching = match terms.matching(alloc, pattern) {
+    let matching = match terms.matching(lists.alloc, pattern) {
         Ok(matching) => matching,
         Err(_) => return Err(ShowErr::Part(PartErr::Memory)),
     };
     let numbers = matching.as_slice();
     marked.clear();
-    match mark_all(alloc, store, base, terms, numbers, all, marked) {
+    match mark_all(lists, store, terms, numbers, marked) {
         Ok(()) => {}
         Err(refusal) => return Err(ShowErr::from(refusal)),
     }

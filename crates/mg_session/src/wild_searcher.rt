@@ -17,6 +17,7 @@ ghost use Rattle.mg_session.specs.WildServes.{CountedBy, TooManyBy, fault_of_rot
 ghost use Rattle.mg_session.specs.WildSearchLaws.{wild_later, wild_more, wild_none, wild_stop};
 
 use crate::document_set::DocumentSet;
+use crate::lists::Lists;
 use crate::wild_answer::answer_pattern;
 use mg_defs::Settings;
 use mg_dev::{Fault, PartErr, PutErr, ShowErr, Sink, Store};
@@ -159,16 +160,12 @@ impl<'a, S: Store> WildSearcher<'a, S> {
             },
             Err(PatternErr::Memory) => return Err(ShowErr::Part(PartErr::Memory)),
         };
-        answer_pattern(
-            self.alloc,
-            store,
-            self.base,
-            &self.terms,
-            &mut self.marked,
-            &pattern,
-            self.all,
-            out,
-        )
+        let lists = Lists {
+            alloc: self.alloc,
+            base: self.base,
+            all: self.all,
+        };
+        answer_pattern(&lists, store, &self.terms, &mut self.marked, &pattern, out)
     }
 }
 

@@ -25,7 +25,7 @@ returns-in-Err-mark_all-clause-step g c = lists_read _ _ _ _ _ _ c.in-Err-mark_a
 
 pub returns-in-Err-pass_terms-clause-answer : goal.returns-in-Err-pass_terms-clause-answer
 returns-in-Err-pass_terms-clause-answer g c = λ collection sources.
-    let m = matched c.args.base.now _ c.args.terms.now c.args.all collection _ _ c.clear.new.self c.mark_all.new.marked sources
+    let m = matched c.args.lists.now.base.now _ c.args.terms.now c.args.lists.now.all collection _ _ c.clear.new.self c.mark_all.new.marked sources
     (c.as_slice-numbers.ensures ∙ c.in-Ok.ensures) c.clear.ensures.none (c.in-Ok-mark_all.ensures.answer collection sources)
     c.in-Ok-mark_all.ensures.room in
     wild_terms_cut collection _ _ c.mark_all.new.marked _ _ _ _ m c.new-pending.ensures
@@ -37,7 +37,7 @@ returns-in-Err-pass_terms-clause-step g c = lists_read _ _ _ _ _ _ c.in-Ok-mark_
 
 pub returns-in-Err-pass_marked-clause-answer : goal.returns-in-Err-pass_marked-clause-answer
 returns-in-Err-pass_marked-clause-answer g c = λ collection sources.
-    let m = matched c.args.base.now _ c.args.terms.now c.args.all collection _ _ c.clear.new.self c.mark_all.new.marked sources
+    let m = matched c.args.lists.now.base.now _ c.args.terms.now c.args.lists.now.all collection _ _ c.clear.new.self c.mark_all.new.marked sources
     (c.as_slice-numbers.ensures ∙ c.in-Ok.ensures) c.clear.ensures.none (c.in-Ok-mark_all.ensures.answer collection sources)
     c.in-Ok-mark_all.ensures.room in
     wild_marked_cut collection _ _ c.mark_all.new.marked _ _ _ _ _ _ m c.new-pending.ensures
@@ -49,7 +49,7 @@ returns-in-Err-pass_marked-clause-step g c = lists_read _ _ _ _ _ _ c.in-Ok-mark
 
 pub returns-in-Ok-flush-clause-answer : goal.returns-in-Ok-flush-clause-answer
 returns-in-Ok-flush-clause-answer g c = λ collection sources.
-    let m = matched c.args.base.now _ c.args.terms.now c.args.all collection _ _ c.clear.new.self c.mark_all.new.marked sources
+    let m = matched c.args.lists.now.base.now _ c.args.terms.now c.args.lists.now.all collection _ _ c.clear.new.self c.mark_all.new.marked sources
     (c.as_slice-numbers.ensures ∙ c.in-Ok.ensures) c.clear.ensures.none (c.in-Ok-mark_all.ensures.answer collection sources)
     c.in-Ok-mark_all.ensures.room in
     wild_end collection _ _ c.mark_all.new.marked _ _ _ _ _ _ _ _ m c.new-pending.ensures
@@ -60,7 +60,7 @@ returns-in-Ok-flush-clause-step g c = lists_read _ _ _ _ _ _ c.in-Ok-mark_all.en
 
 pub returns-clause-answer : goal.returns-clause-answer
 returns-clause-answer g c = λ collection sources.
-    let m = matched c.args.base.now _ c.args.terms.now c.args.all collection _ _ c.clear.new.self c.mark_all.new.marked sources
+    let m = matched c.args.lists.now.base.now _ c.args.terms.now c.args.lists.now.all collection _ _ c.clear.new.self c.mark_all.new.marked sources
     (c.as_slice-numbers.ensures ∙ c.in-Ok.ensures) c.clear.ensures.none (c.in-Ok-mark_all.ensures.answer collection sources)
     c.in-Ok-mark_all.ensures.room in
     wild_end collection _ _ c.mark_all.new.marked _ _ _ _ _ _ _ _ m c.new-pending.ensures

@@ -33,7 +33,7 @@ loop-number-preserved g c =
       };
       faults = omega (arith, inv.faults, c.in-Ok.ensures.cause.later);
       added = λ collection sources.
-          let stand = subst (λ fs. ListsStand c.args.base.now fs collection) (sym inv.files) sources.lists in
+          let stand = subst (λ fs. ListsStand c.args.lists.now.base.now fs collection) (sym inv.files) sources.lists in
           let told = told_info collection c.args.terms.now (get_or c.args.numbers.now c.loop-number.number-index 0) c.info-info.result sources.terms_are
           sources.infos_are (c.requires.terms c.loop-number.number-index 0 c.loop-number-test.true) c.info-info.ensures.info c.info-info.ensures.number in
           let t = get_or (dictionary collection) (get_or c.args.numbers.now c.loop-number.number-index 0) [] in
@@ -43,7 +43,7 @@ loop-number-preserved g c =
           (adds_more collection _ (t ∷ []) c.args.marked.now c.loop-number.marked c.mark_list.new.marked (inv.added collection sources)
           (c.in-Ok.ensures.answer collection t stand told sources.all_is));
       post = λ collection sources.
-          let stand = subst (λ fs. ListsStand c.args.base.now fs collection) (sym inv.files) sources.lists in
+          let stand = subst (λ fs. ListsStand c.args.lists.now.base.now fs collection) (sym inv.files) sources.lists in
           let n = get_or c.args.numbers.now c.loop-number.number-index 0 in
           let told = told_info collection c.args.terms.now n c.info-info.result sources.terms_are sources.infos_are
           (c.requires.terms c.loop-number.number-index 0 c.loop-number-test.true) c.info-info.ensures.info c.info-info.ensures.number in
@@ -58,7 +58,7 @@ loop-number-preserved g c =
 pub returns-in-Err-clause-answer : goal.returns-in-Err-clause-answer
 returns-in-Err-clause-answer g c = λ collection sources.
     let inv = c.loop-number.invariant in
-    let stand = subst (λ fs. ListsStand c.args.base.now fs collection) (sym inv.files) sources.lists in
+    let stand = subst (λ fs. ListsStand c.args.lists.now.base.now fs collection) (sym inv.files) sources.lists in
     let told = told_info collection c.args.terms.now (get_or c.args.numbers.now c.loop-number.number-index 0) c.info-info.result sources.terms_are
     sources.infos_are (c.requires.terms c.loop-number.number-index 0 c.loop-number-test.true) c.info-info.ensures.info c.info-info.ensures.number in
     or_or c.in-Err.refusal _ _ (c.in-Err.ensures.answer collection (get_or (dictionary collection) (get_or c.args.numbers.now c.loop-number.number-index 0) []) stand told sources.all_is)
@@ -71,7 +71,7 @@ returns-clause-answer g c = λ collection sources.
 pub returns-in-Err-clause-pages : goal.returns-in-Err-clause-pages
 returns-in-Err-clause-pages g c = λ collection sources.
     let inv = c.loop-number.invariant in
-    let stand = subst (λ fs. ListsStand c.args.base.now fs collection) (sym inv.files) sources.lists in
+    let stand = subst (λ fs. ListsStand c.args.lists.now.base.now fs collection) (sym inv.files) sources.lists in
     let n = get_or c.args.numbers.now c.loop-number.number-index 0 in
     let told = told_info collection c.args.terms.now n c.info-info.result sources.terms_are sources.infos_are
     (c.requires.terms c.loop-number.number-index 0 c.loop-number-test.true) c.info-info.ensures.info c.info-info.ensures.number in

@@ -8,12 +8,12 @@ use Rattle.mg_session.proofs.wild_answer.mark_all.Given as goal
 
 abbrev pub invariant-loop-number : goal.invariant-loop-number
 invariant-loop-number g l = record {
-  room : l.marked.all ≡ l.all;
+  room : l.marked.all ≡ l.lists.all;
   files : g.S.Store.files l.store ≡ g.S.Store.files l.fn.store;
   reads : ReadsLists (g.S.Store.reads l.fn.store) (g.S.Store.reads l.store);
   faults : g.S.Store.faults l.fn.store ≤ g.S.Store.faults l.store;
-  added : (collection : List ℕ) → WildSources l.base (g.S.Store.files l.fn.store) l.terms l.all collection →
+  added : (collection : List ℕ) → WildSources l.lists.base.now (g.S.Store.files l.fn.store) l.terms l.lists.all collection →
       AddsLists collection (terms_at collection (take l.number-index l.numbers)) l.fn.marked l.marked;
-  post : (collection : List ℕ) → WildSources l.base (g.S.Store.files l.fn.store) l.terms l.all collection →
+  post : (collection : List ℕ) → WildSources l.lists.base.now (g.S.Store.files l.fn.store) l.terms l.lists.all collection →
       PostWithin g.S.Store.reads l.fn.store l.store (ranked_bound collection (terms_at collection (take l.number-index l.numbers)));
 }

@@ -10,8 +10,8 @@ mark_postings-requires-clause-fits g c = c.in-Ok.ensures.fits _
 
 pub returns-clause-answer : goal.returns-clause-answer
 returns-clause-answer g c = λ collection t stand i all_is.
-    c.mark_postings.ensures.answer c.args.base.now collection t stand (c.in-Ok.ensures.term collection (numbers_in (postings collection t)) t 0 i all_is)
+    c.mark_postings.ensures.answer c.args.lists.now.base.now collection t stand (c.in-Ok.ensures.term collection (numbers_in (postings collection t)) t 0 i all_is)
 
 pub returns-clause-pages : goal.returns-clause-pages
 returns-clause-pages g c = λ collection t stand i all_is.
-    c.mark_postings.ensures.pages c.args.base.now collection t stand (c.in-Ok.ensures.term collection (numbers_in (postings collection t)) t 0 i all_is)
+    c.mark_postings.ensures.pages c.args.lists.now.base.now collection t stand (c.in-Ok.ensures.term collection (numbers_in (postings collection t)) t 0 i all_is)
