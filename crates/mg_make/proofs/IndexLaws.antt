@@ -1,14 +1,13 @@
 -- Lists, lexicon, weights and the working parts side by side, and what was inverted of a collection.
-use Rattle.std.proofs.Common.{arith, ◌≡◌, ◌≢◌, ◌<◌, ◌/◌, ℕ, List, [], length, map, get_or, sym, ap, subst, ◌∙◌, Some, is_some}
+use Rattle.std.proofs.Common.{arith, ◌≡◌, ◌≢◌, ◌<◌, ◌/◌, ℕ, List, [], length, map, get_or, sym, ap, subst, ◌∙◌, Some}
 use Rattle.std.specs.Prelude.{replicate}
 use Rattle.std.specs.declared.option.Option.{Option}
 use Rattle.std.proofs.lemmas.List.{get_or-map, get_or_default, length-map, length-replicate, same_lists}
 use Rattle.mg_dev.specs.declared.part.Part.{Part as AnyPart}
 use Rattle.mg_dev.specs.declared.part.Part.TheVariants.{Head, Words, Nonwords, Text, Places, Lex, LexAt, Post, Skip, Weights, Run, MergeA, MergeB, Plain}
-use Rattle.mg_dev.specs.Files.{Files, Reads, bytes_at, file_at}
+use Rattle.mg_dev.specs.Files.{Files, bytes_at, file_at}
 use Rattle.mg_dev.specs.Laws.{same_part_of_name}
 use Rattle.mg_dev.specs.Names.{full_name}
-use Rattle.mg_bits.specs.Writer.{WroteTo}
 use Rattle.mg_defs.specs.Bits.{Bits, filled, as_bytes}
 use Rattle.mg_defs.specs.declared.Posting.{Posting}
 use Rattle.mg_defs.specs.DocCounts.{docs_with}

@@ -8,16 +8,12 @@ use Rattle.mg_dev.specs.declared.fault.Fault.{Fault}
 use Rattle.mg_dev.specs.declared.fault.Fault.TheVariants as fault
 use Rattle.mg_dev.specs.declared.part.Part.{Part as AnyPart}
 use Rattle.mg_dev.specs.declared.part.Part.TheVariants.{Head, Words, Nonwords, Text, Places, Lex, LexAt, Post, Skip, Weights, Run, MergeA, MergeB, Plain}
-use Rattle.mg_dev.specs.declared.part_err.PartErr.{PartErr}
-use Rattle.mg_dev.specs.declared.part_err.PartErr.TheVariants as part_err
 use Rattle.mg_dev.specs.Causes.{HasPutCause, Rose}
-use Rattle.mg_dev.specs.Faults.{IsDamagedPart, fault_of_part, fault_of_store}
+use Rattle.mg_dev.specs.Faults.{fault_of_store}
 use Rattle.mg_dev.specs.Files.{Files, file_at}
 use Rattle.mg_dev.specs.Laws.{same_part_of_name}
 use Rattle.mg_dev.specs.Names.{full_name, number}
-use Rattle.mg_dev.specs.PartCauses.{HasPartCause}
 use Rattle.mg_defs.specs.declared.TermPosting.{TermPosting}
-use Rattle.mg_runs.specs.Cursors.{NoDamage}
 use Rattle.mg_runs.specs.Joins.{IsRunPart}
 use Rattle.mg_runs.specs.Left.{IsMerging, Merging}
 use Rattle.mg_make.specs.Listing.{ListStops, OfPostings, SameMerge}

@@ -1,6 +1,6 @@
 -- What stands before the head is appended, and behind it.
 use Rattle.std.proofs.Common.{arith, ◌≡◌, ◌≤◌, ◌<◌, ◌^◌, ◌⊎◌, ◌∙◌, inl, inr, ℕ, List, length, refl, ap, subst, Ok, Err, IsSome}
-use Rattle.std.specs.Prelude.{IfErr, IfOk, OnOk, Result}
+use Rattle.std.specs.Prelude.{IfErr, OnOk, Result}
 use Rattle.std.specs.declared.option.Option.{Option}
 use Rattle.mg_dev.specs.declared.part.Part.{Part}
 use Rattle.mg_dev.specs.declared.fault.Fault.{Fault}

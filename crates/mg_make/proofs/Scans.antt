@@ -1,5 +1,5 @@
 -- What is met in bytes, one after the other, and that it is what is met first of all bytes that follow.
-use Rattle.std.proofs.Common.{◌≡◌, ◌≢◌, ◌≤◌, ℕ, Bool, true, false, not, cond, List, [], ◌∷◌, ◌++◌, length, refl, sym, ap, subst, ◌∙◌, arith, inl, inr, append_assoc, append-nil}
+use Rattle.std.proofs.Common.{◌≡◌, ◌≢◌, ℕ, Bool, true, false, not, cond, List, [], ◌∷◌, ◌++◌, refl, sym, ap, subst, ◌∙◌, arith, inl, inr, append_assoc, append-nil}
 use Rattle.std.specs.List.{flat_map}
 use Rattle.std.proofs.lemmas.Bool.{cases_eq, ne_eqb}
 use Rattle.mg_defs.specs.declared.Stream.{Stream}
@@ -15,7 +15,7 @@ use Rattle.mg_parse.specs.Offered.{Ends, Fits, Offered}
 use Rattle.mg_parse.specs.Seen.{Seen, StandsFor}
 use Rattle.mg_parse.specs.declared.reader.Offer.{Offer}
 use Rattle.mg_parse.specs.declared.reader.Offer.TheVariants.{Taken, Ended}
-use Rattle.mg_make.specs.Meeting.{Meeting, marks_of, only_if, restarted, with_end, with_other, with_piece}
+use Rattle.mg_make.specs.Meeting.{Meeting, marks_of, only_if, restarted, with_other, with_piece}
 use Rattle.mg_make.specs.Scanning.{HasMet, HasRead, Scanning, closing_marks, joined_marks, kind_after, marks_of_open, marks_of_pieces}
 
 -- ---- pieces in turn

@@ -1,4 +1,4 @@
-use Rattle.std.proofs.Common.{arith, ◌≤◌, ◌∙◌, length, sym, ap, subst}
+use Rattle.std.proofs.Common.{◌∙◌, length, sym, ap, subst}
 use Rattle.std.specs.List.{flat_map}
 use Rattle.mg_make.specs.Index.{IsInverted}
 use Rattle.mg_make.specs.Plans.{Plan}

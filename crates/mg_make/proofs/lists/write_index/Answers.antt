@@ -1,4 +1,4 @@
-use Rattle.std.proofs.Common.{arith, ◌∙◌, ◌≤◌, [], length, refl, sym, ap, subst, is_some}
+use Rattle.std.proofs.Common.{arith, ◌∙◌, [], length, refl, sym, ap, subst, is_some}
 use Rattle.mg_dev.specs.declared.part.Part.TheVariants.{Post, Skip}
 use Rattle.mg_dev.specs.Names.{full_name}
 use Rattle.mg_defs.specs.Lists.{inverted}

@@ -1,4 +1,4 @@
-use Rattle.std.proofs.Common.{arith, ◌≡◌, ◌≤◌, length, subst}
+use Rattle.std.proofs.Common.{arith, ◌≡◌, length, subst}
 use Rattle.std.specs.Prelude.{OnOk}
 use Rattle.mg_make.specs.Listing.{ListsStand}
 use Rattle.mg_make.proofs.CallerLemmas.{rose_behind}

@@ -1,4 +1,4 @@
-use Rattle.std.proofs.Common.{arith, ◌≡◌, ◌∙◌, ◌≤◌, ap, length, refl, rules, ◌^◌}
+use Rattle.std.proofs.Common.{arith, ◌≡◌, ◌∙◌, ap, length, refl, rules}
 use Rattle.std.proofs.lemmas.List.{length-map}
 use Rattle.mg_defs.specs.declared.Stream.TheVariants.{Others, Words}
 use Rattle.mg_defs.specs.CodedText.{text_part}

@@ -1,6 +1,5 @@
 use Rattle.std.proofs.Common.{◌≡◌, ◌∙◌, ap}
 use Rattle.mg_model.specs.Terms.{terms_and_numbers}
-use Rattle.mg_make.specs.Plans.{Plan}
 use Rattle.mg_make.proofs.Planned.{pair_parts}
 use Rattle.mg_make.proofs.plan.Plan.by.Goals as goal
 

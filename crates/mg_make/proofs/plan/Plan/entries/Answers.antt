@@ -1,4 +1,4 @@
-use Rattle.std.proofs.Common.{arith, ◌≡◌, ◌∙◌, ap, length}
+use Rattle.std.proofs.Common.{arith, ◌∙◌, ap, length}
 use Rattle.mg_make.specs.Plans.{Plan}
 use Rattle.mg_make.proofs.plan.Plan.entries.Goals as goal
 
