@@ -110,6 +110,20 @@ rest_after number docs n merge next lists now sums summed f g lt told step rest 
 pub took_between : (lists : Listing) (f : Option Files) (done : List (List Posting)) (ps : List Posting) → lists.pushed ≡ 0 → Took lists f done ps → Took lists f done []
 took_between lists f done ps none took = subst (λ xs. Took lists f done xs) (nil_from_length ps (sym took.pushed ∙ none)) took
 
+pub can_begun : (docs : ℕ) (merge : Merging) (lists now : Listing) (sums : List ℕ) (f g : Option Files) → CanList merge lists sums f → lists.pushed ≡ 0 → g ≡ f →
+    ((done : List (List Posting)) → Took lists f done [] → Took now g done []) → IsBetween lists now docs → SameFiles lists now → CanList merge now sums g
+can_begun docs merge lists now sums f g can none files took between names = record {
+  left = can.left;
+  merging = subst (λ x. IsMerging merge x can.left) (sym files) can.merging;
+  done = can.done;
+  begun = [];
+  took = took can.done (took_between lists f can.done can.begun none can.took);
+  each = can.each ∙ sym names.all;
+  within = omega (arith, between.last);
+  post = names.post ∙ can.post;
+  skip = names.skip ∙ can.skip;
+}
+
 pub at_list_begun : (number docs : ℕ) (merge : Merging) (lists now : Listing) (sums : List ℕ) (f g : Option Files) (done : List (List Posting)) (ps : List Posting) (more : List (List Posting)) →
     IsAtList number merge lists sums f done (ps ∷ more) → g ≡ f → ((done : List (List Posting)) → Took lists f done [] → Took now g done []) → IsBetween lists now docs → SameFiles lists now →
     IsInList number merge now sums g done [] ps (by_terms (number + 1) more)

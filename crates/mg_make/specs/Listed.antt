@@ -69,14 +69,6 @@ ForListLeft docs number merge lists sums files holds =
     IsSome files → (done : List (List Posting)) (ps : List Posting) (more : List (List Posting)) → length ps ≡ docs
     → IsAtList number merge lists sums.items files done (ps ∷ more) → holds done ps more
 
--- where the store tells its files, the next list, of so many postings and of the term of a number, is done
-abbrev pub EndsList : {X T E : Type 0} → ℕ → ℕ → Merging → Merging → Listing → Listing → Vec ℕ Global → Vec ℕ Global →
-    (X → Option Files) → X → X → Result T E → Type 0
-EndsList docs number merge merge_now lists lists_now sums sums_now files store store_now result =
-    ForListLeft docs number merge lists sums (files store)
-    (λ done ps more. OnOk result (IsAtList (number + 1) merge_now lists_now sums_now.items (files store_now)
-    (done ++ ps ∷ []) more))
-
 -- the list begins in Post behind those that are done
 abbrev pub BeginsInPost : {E : Type 0} → ℕ → Result (ℕ × ℕ) E → List (List Posting) → List Posting →
     List (List Posting) → Type 0

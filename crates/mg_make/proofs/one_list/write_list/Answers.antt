@@ -4,7 +4,7 @@ use Rattle.mg_defs.specs.Lists.{lists_bits, lists_entries}
 use Rattle.mg_defs.specs.PostingLists.{by_terms}
 use Rattle.mg_make.specs.Listing.{IsInList}
 use Rattle.mg_make.proofs.ListFrames.{stops_for, store_stops, wrote_lists}
-use Rattle.mg_make.proofs.ListSteps.{at_list_begun, at_list_ended, can_ended, names_more, rest_of_list, whole_taken}
+use Rattle.mg_make.proofs.ListSteps.{at_list_begun, at_list_ended, can_begun, can_ended, names_more, rest_of_list, whole_taken}
 use Rattle.mg_make.proofs.StepLaws.{step_begun, step_lists, step_none, step_then}
 use Rattle.mg_make.proofs.one_list.write_list.Goals as goal
 
@@ -24,6 +24,10 @@ returns-then-docs-eq0 g c = record {
 pub returns-in-Err : goal.returns-in-Err
 returns-in-Err g c = absurd (cc c.in-Err.ensures.sure)
 
+pub take_postings-requires-clause-can : goal.take_postings-requires-clause-can
+take_postings-requires-clause-can g c = can_begun c.args.docs _ _ _ _ _ _ c.requires.can c.requires.between (ap (λ s. g.S.Store.files s) c.begin.ensures.store)
+    c.begin.ensures.took c.begin.ensures.between c.begin.ensures.same
+
 pub returns-in-Err-take_postings : goal.returns-in-Err-take_postings
 returns-in-Err-take_postings g c =
     let files = ap (λ s. g.S.Store.files s) c.begin.ensures.store in
@@ -39,6 +43,11 @@ returns-in-Err-take_postings g c =
           (rest_of_list c.args.number c.args.docs _ _ _ _ _ _ files c.begin.ensures.took c.begin.ensures.between c.begin.ensures.same)
           c.in-Err-take_postings.ensures.refused;
     }
+
+pub end_list-requires-clause-took : goal.end_list-requires-clause-took
+end_list-requires-clause-took g c =
+    let can = c.in-Ok-take_postings.ensures.can in
+    (can.done, can.begun, can.took)
 
 pub returns-in-Ok-end_list : goal.returns-in-Ok-end_list
 returns-in-Ok-end_list g c =
