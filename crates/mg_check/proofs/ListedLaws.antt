@@ -1,6 +1,6 @@
 -- The lists of a range that are written anew, and what the lexicon has of their terms.
 use Rattle.std.proofs.Common.{arith, ◌≡◌, ◌<◌, ◌≤◌, ◌+◌, ◌/◌, ◌^◌, ℕ, List, [], ◌∷◌, ◌++◌, length, take, drop, get_or, refl, sym, ap, subst, ◌∙◌, Some, length-append, length-drop}
-use Rattle.std.specs.Prelude.{IsSome, slice_get, slice_index}
+use Rattle.std.specs.Prelude.{IsSome, slice_get}
 use Rattle.std.specs.declared.option.Option.{Option}
 use Rattle.std.specs.List.{flat_map}
 use Rattle.std.proofs.Math.Seq.{take-add}

@@ -35,7 +35,7 @@ use Rattle.mg_check_text.specs.Refusals.{IfBad, OnBad, Refutes}
 use Rattle.mg_check.specs.Counting.{TermsStand}
 use Rattle.mg_check.specs.Found.{StandsWith}
 use Rattle.mg_check.specs.Listing.{IndexStands, IsIndexOf}
-use Rattle.mg_check.specs.Rest.{AreNumbers, HaveSizes, IsTold, PartsStand, RestStands}
+use Rattle.mg_check.specs.Rest.{AreNumbers, Compares, HaveSizes, IsTold, PartsStand, RestStands}
 use Rattle.mg_check_text.proofs.CallerLemmas.{code-meant, meant-stands, own-docs, stands_on, table_terms, head-few}
 use Rattle.mg_check.proofs.RunSteps.{same_runs}
 
@@ -152,18 +152,26 @@ terms-of-head files base head size collection runs terms = record { weights = te
 
 -- ---- answers
 
-pub refutes-so : (P Q : Type 0) (refusal : PartErr) → (Q → P) → Refutes P refusal → Refutes Q refusal
+refutes-so : (P Q : Type 0) (refusal : PartErr) → (Q → P) → Refutes P refusal → Refutes Q refusal
 refutes-so P Q Device so other = tt
 refutes-so P Q Memory so other = tt
 refutes-so P Q (Bad bad) so other = λ q. other (so q)
 
-pub other-so : (P Q : Type 0) (r : Result (Unit {0}) PartErr) → (Q → P) → IfErr r (Refutes P) → IfErr r (Refutes Q)
+other-so : (P Q : Type 0) (r : Result (Unit {0}) PartErr) → (Q → P) → IfErr r (Refutes P) → IfErr r (Refutes Q)
 other-so P Q (Ok done) so other = tt
 other-so P Q (Err refusal) so other = refutes-so P Q refusal so other
 
-pub ok-so : (P Q : Type 0) (r : Result (Unit {0}) PartErr) → (P → Q) → OnOk r P → OnOk r Q
+ok-so : (P Q : Type 0) (r : Result (Unit {0}) PartErr) → (P → Q) → OnOk r P → OnOk r Q
 ok-so P Q (Ok done) so p = so p
 ok-so P Q (Err refusal) so p = tt
+
+-- what was compared tells something else that is so exactly where it is
+pub compares-so : (P Q : Type 0) (r : Result (Unit {0}) PartErr) → (P → Q) → (Q → P) → Compares P r → Compares Q r
+compares-so P Q r so back is = record { stand = ok-so P Q r so is.stand; other = other-so P Q r back is.other }
+
+-- a refusal tells of what is so only where that is which it refutes
+pub refuted : (P Q : Type 0) (refusal : PartErr) → (Q → P) → Refutes P refusal → Compares {T = Unit {0}} Q (Err refusal)
+refuted P Q refusal back other = record { stand = tt; other = refutes-so P Q refusal back other }
 
 -- what was compared of a head and of the parts is all
 pub rest-of : (files : Option Files) (base : List ℕ) (head : Head) (terms : ℕ) (collection : List ℕ) → terms ≡ length (dictionary collection) →

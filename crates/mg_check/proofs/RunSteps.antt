@@ -14,9 +14,9 @@ use Rattle.mg_defs.specs.Postings.{once, gathered, term_postings}
 use Rattle.mg_defs.specs.Runs.{first_runs, runs_of}
 use Rattle.mg_runs.specs.FinishedRuns.{finished}
 use Rattle.mg_defs.specs.RunBits.{run_part_bits, runs_bits}
-use Rattle.mg_runs.proofs.CallerLemmas.{ceil_is, drop_all, drop_end, entries_of, finished-full, finished-low, finished-room, first_runs-full, first_runs-more, length_end, length_rest, map_end, none_finished, occurrences_drop, occurrences_end, rest_fits, runs_of_last, runs_of_none}
+use Rattle.mg_runs.proofs.CallerLemmas.{drop_all, drop_end, entries_of, finished-full, finished-low, finished-room, first_runs-full, first_runs-more, length_end, length_rest, map_end, none_finished, occurrences_drop, occurrences_end, rest_fits, runs_of_last, runs_of_none}
 use Rattle.mg_runs.specs.Bytes.{AreEntries}
-use Rattle.mg_runs.specs.Fed.{IsOccurrence, AreOccurrences, cap_of}
+use Rattle.mg_runs.specs.Fed.{IsOccurrence, cap_of}
 use Rattle.mg_check.specs.Counting.{HasBegun, HasTaken, RunReading}
 use Rattle.mg_check_text.specs.Refusals.{WhereBad}
 

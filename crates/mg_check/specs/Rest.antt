@@ -44,6 +44,11 @@ pub record RestStands (files : Option Files) (base : List ℕ) (head : Head) (co
   pub terms : TermsStand base files head.cap collection
   pub index : IndexStands files base collection
 
+-- something is compared: it is so, or where a part is told as bad it is not
+pub record Compares {T : Type 0} (holds : Type 0) (result : Result T PartErr) : Type 0 where
+  pub stand : OnOk result holds
+  pub other : IfErr result (Refutes holds)
+
 -- a set is checked, where this is known of it
 pub record SetChecked {T : Type 0} (known : Type 0) (files : Option Files) (base : List ℕ) (head : Head)
     (result : Result T PartErr) : Type 0 where
@@ -55,11 +60,3 @@ pub record SetChecked {T : Type 0} (known : Type 0) (files : Option Files) (base
 -- a refusal tells that Weights and Run are not those of the collection
 abbrev pub RefutesTerms : {T : Type 0} → Option Files → List ℕ → ℕ → Result T PartErr → List ℕ → Type 0
 RefutesTerms files base cap result collection = IfErr result (Refutes (TermsStand base files cap collection))
-
--- a refusal tells that this number or these parts are not
-abbrev pub RefutesParts : {T : Type 0} → Option Files → List ℕ → Head → Result T PartErr → List ℕ → Type 0
-RefutesParts files base head result collection = IfErr result (Refutes (PartsStand files base head collection))
-
--- a refusal tells that these numbers or these parts are not
-abbrev pub RefutesRest : {T : Type 0} → Option Files → List ℕ → Head → Result T PartErr → List ℕ → Type 0
-RefutesRest files base head result collection = IfErr result (Refutes (RestStands files base head collection))

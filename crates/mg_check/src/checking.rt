@@ -1,5 +1,5 @@
 //! A set whose head is known against the one collection that it can stand for.
-ghost use Rattle.std.specs.Prelude.{◌≡◌, ◌<◌, ◌≤◌, ◌^◌, max, IfErr, IsSome, OnOk};
+ghost use Rattle.std.specs.Prelude.{◌≡◌, ◌<◌, ◌≤◌, ◌^◌, max, IfErr, IsSome};
 ghost use Rattle.mg_dev.specs.Moments.{Between};
 ghost use Rattle.mg_defs.specs.Heads.{IsWithin};
 ghost use Rattle.mg_layout.specs.HeadAnswers.{fields_of};
@@ -7,8 +7,9 @@ ghost use Rattle.mg_layout.specs.Stands.{parts_at};
 ghost use Rattle.mg_text.specs.Reading.{TextReading, WhereTextStands};
 ghost use Rattle.mg_check_text.specs.Checking.{HasHead, IsLoaded};
 ghost use Rattle.mg_check_text.specs.Reads.{HasTerms, LooksAtSet, ReadsBy};
-ghost use Rattle.mg_check_text.specs.Refusals.{IsNotDevice, Refutes};
-ghost use Rattle.mg_check.specs.Rest.{HaveSizes, IsTold, PartsStand, RefutesParts, RefutesRest, RestStands, SetChecked};
+ghost use Rattle.mg_check_text.specs.Refusals.{IsNotDevice};
+ghost use Rattle.mg_check.specs.Rest.{Compares, HaveSizes, IsTold, PartsStand, RestStands, SetChecked};
+ghost use Rattle.mg_model.specs.Terms.{terms_and_numbers};
 
 use crate::counting::check_terms;
 use crate::index::check_index;
@@ -40,8 +41,7 @@ fn occurrences_at(version: u8) -> u64 {
 
 // Refuses a number of the head that is another one than was counted.
 fn expect_number(at: u64, counted: u64, found: u64) -> Result<(), PartErr>
-    ensures same { OnOk result (found ≡ counted) }
-    ensures other { IfErr result (Refutes (found ≡ counted)) }
+    ensures number { Compares (found ≡ counted) result }
     ensures own { IfErr result IsNotDevice }
 {
     if found == counted {
@@ -60,9 +60,7 @@ fn expect_number(at: u64, counted: u64, found: u64) -> Result<(), PartErr>
 fn expect_sizes<S: Store>(store: &mut S, base: &str, head: &Head) -> Result<(), PartErr>
     requires entries { head.now.skip_count < 2 ^ 32 }
     ensures sizes { IsSome (S.files store.old) →
-        OnOk result (HaveSizes (parts_at (S.files store.old) base.now) head.now) }
-    ensures other { IsSome (S.files store.old) →
-        IfErr result (Refutes (HaveSizes (parts_at (S.files store.old) base.now) head.now)) }
+        Compares (HaveSizes (parts_at (S.files store.old) base.now) head.now) result }
     ensures looks { Between S.files S.reads S.faults store.old store.new (LooksAtSet result) }
 {
     let post = FileRef {
@@ -100,9 +98,7 @@ fn run_size(head: &Head) -> u32
 fn expect_told<S: Store>(store: &mut S, base: &str, head: &Head, terms: u64) -> Result<(), PartErr>
     requires entries { head.now.skip_count < 2 ^ 32 }
     ensures told { IsSome (S.files store.old) →
-        OnOk result (IsTold (parts_at (S.files store.old) base.now) head.now terms) }
-    ensures other { IsSome (S.files store.old) →
-        IfErr result (Refutes (IsTold (parts_at (S.files store.old) base.now) head.now terms)) }
+        Compares (IsTold (parts_at (S.files store.old) base.now) head.now terms) result }
     ensures looks { Between S.files S.reads S.faults store.old store.new (LooksAtSet result) }
 {
     match expect_number(TERMS_AT, terms, u64::from(head.terms)) {
@@ -124,10 +120,9 @@ fn check_parts<S: Store>(
 ) -> Result<(), PartErr>
     requires reads { ReadsBy reader.old (S.files store.old) head.now }
     requires text { HasTerms reader.old (S.files store.old) table.now head.now.documents }
-    ensures stand { WhereTextStands reader.old (S.files store.old)
-        (λ collection. OnOk result (PartsStand (S.files store.old) base.now head.now collection)) }
-    ensures other { WhereTextStands reader.old (S.files store.old)
-        (RefutesParts (S.files store.old) base.now head.now result) }
+    ensures parts { WhereTextStands reader.old (S.files store.old)
+        (λ collection. Compares (PartsStand (S.files store.old) base.now head.now collection)
+        result) }
     ensures looks { Between S.files S.reads S.faults store.old store.new (LooksAtSet result) }
 {
     let documents = head.documents;
@@ -151,7 +146,31 @@ fn check_parts<S: Store>(
 }
 
 // Sees that the numbers of the head that the text does not tell, and the six parts that tell of terms, are those of the
-// collection whose text is read.
+// collection whose text is read, by the table of its terms.
+fn check_told<S: Store>(
+    alloc: Global,
+    store: &mut S,
+    base: &str,
+    head: &Head,
+    reader: &mut TextReader<'_, S>,
+    table: &TermTable,
+) -> Result<(), PartErr>
+    requires reads { ReadsBy reader.old (S.files store.old) head.now }
+    requires table { table.now ≡ terms_and_numbers reader.old.code.words.pieces }
+    ensures rest { WhereTextStands reader.old (S.files store.old)
+        (λ collection. Compares (RestStands (S.files store.old) base.now head.now collection)
+        result) }
+    ensures looks { Between S.files S.reads S.faults store.old store.new (LooksAtSet result) }
+{
+    let terms = u64::from(table.count());
+    match expect_told(store, base, head, terms) {
+        Ok(()) => {}
+        Err(refusal) => return Err(refusal),
+    }
+    check_parts(alloc, store, base, head, reader, table)
+}
+
+// Sees the same, and makes the table, which is dropped here: so who compares has none of its parts to drop.
 fn check_rest<S: Store>(
     alloc: Global,
     store: &mut S,
@@ -160,22 +179,15 @@ fn check_rest<S: Store>(
     reader: &mut TextReader<'_, S>,
 ) -> Result<(), PartErr>
     requires reads { ReadsBy reader.old (S.files store.old) head.now }
-    ensures stand { WhereTextStands reader.old (S.files store.old)
-        (λ collection. OnOk result (RestStands (S.files store.old) base.now head.now collection)) }
-    ensures other { WhereTextStands reader.old (S.files store.old)
-        (RefutesRest (S.files store.old) base.now head.now result) }
+    ensures rest { WhereTextStands reader.old (S.files store.old)
+        (λ collection. Compares (RestStands (S.files store.old) base.now head.now collection)
+        result) }
     ensures looks { Between S.files S.reads S.faults store.old store.new (LooksAtSet result) }
 {
-    let table = match TermTable::of(alloc, reader.model()) {
-        Ok(table) => table,
-        Err(_) => return Err(PartErr::Memory),
-    };
-    let terms = u64::from(table.count());
-    match expect_told(store, base, head, terms) {
-        Ok(()) => {}
-        Err(refusal) => return Err(refusal),
+    match TermTable::of(alloc, reader.model()) {
+        Ok(table) => check_told(alloc, store, base, head, reader, &table),
+        Err(_) => Err(PartErr::Memory),
     }
-    check_parts(alloc, store, base, head, reader, &table)
 }
 
 // Checks a set whose text can be read: that its parts are those of a collection.

@@ -2,7 +2,7 @@
 //!
 //! The text is read a second time. Of each document the terms are counted, which gives its weight, one more for each of
 //! its terms, and its occurrences for the runs. So one reading tells whether Weights and Run are those of the collection.
-ghost use Rattle.std.specs.Prelude.{◌≡◌, ◌<◌, ◌≤◌, ◌+◌, ◌-◌, ◌^◌, IfOk, OnOk};
+ghost use Rattle.std.specs.Prelude.{◌<◌, ◌≤◌, ◌+◌, ◌-◌, ◌^◌, IfOk, OnOk};
 ghost use Rattle.mg_dev.specs.Moments.{Between};
 ghost use Rattle.mg_text.specs.Reading.{WhereTextStands};
 ghost use Rattle.mg_check_text.specs.Reads.{HasTerms, ReadsText};

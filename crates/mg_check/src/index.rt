@@ -2,7 +2,7 @@
 //!
 //! The text is read once for each range of terms. The range's lists are written anew, and Post and Skip are compared with
 //! them. What is to stand of all terms is held, and at last the lexicon is compared with it.
-ghost use Rattle.std.specs.Prelude.{◌≡◌, ◌<◌, ◌≤◌, ◌+◌, IfErr, IfOk, OnOk, length};
+ghost use Rattle.std.specs.Prelude.{◌≡◌, ◌<◌, ◌+◌, IfErr, IfOk, OnOk, length};
 ghost use Rattle.mg_dev.specs.Bads.{IsNotBad};
 ghost use Rattle.mg_dev.specs.Moments.{Between};
 ghost use Rattle.mg_check_text.specs.Reads.{HasTerms, LooksAtSet, ReadsText};

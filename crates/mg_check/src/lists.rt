@@ -3,9 +3,6 @@
 //! The lists of a range of terms are written into a store in memory, and its bytes are compared with those of Post and
 //! Skip behind what was compared before. On the way the lexicon gets what is to stand of each term.
 ghost use Rattle.std.specs.Prelude.{◌≡◌, ◌<◌, ◌≤◌, ◌+◌, ◌-◌, ◌*◌, ◌/◌, ◌^◌, ◌∷◌, List, [], IfErr, IfOk, IfSome, OnOk, IsSome, codes, length};
-ghost use Rattle.std.specs.Cmp.Lexicographic.{slice_cmp};
-ghost use Rattle.std.specs.List.Sorted.{IsStrictlySortedBy};
-ghost use Rattle.std.specs.Ordering.{nat_cmp};
 ghost use Rattle.mg_dev.specs.Bads.{IsNotBad};
 ghost use Rattle.mg_dev.specs.Names.{full_name};
 ghost use Rattle.mg_dev.specs.Moments.{Between};
@@ -25,7 +22,6 @@ use mg_defs::Posting;
 use mg_dev::{Bad, FileRef, Part, PartErr, Store};
 use mg_layout::TermInfo;
 use mg_mem::SureStore;
-use mg_model::TermTable;
 use mg_post::ListWriter;
 use std::alloc::{AllocError, Global};
 

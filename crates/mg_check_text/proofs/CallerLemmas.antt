@@ -1,5 +1,5 @@
 -- What callers may cite of the text: readers that stay, documents that were read, and the collection that is meant.
-use Rattle.std.proofs.Common.{arith, ◌≡◌, ◌<◌, ◌≤◌, ◌+◌, ◌-◌, ℕ, zero, suc, true, false, Bool, List, [], ◌∷◌, length, get_or, refl, sym, ap, subst, ◌∙◌, inl, inr, is_some, Result, Ok, Err, ◌⊎◌, ◌^◌, ◌==◌, if◌then◌else◌, Contains}
+use Rattle.std.proofs.Common.{arith, ◌≡◌, ◌<◌, ◌≤◌, ◌+◌, ◌-◌, ℕ, zero, suc, true, false, Bool, List, [], ◌∷◌, length, get_or, sym, ap, subst, ◌∙◌, inl, inr, is_some, ◌⊎◌, ◌^◌, ◌==◌, if◌then◌else◌, Contains}
 use Rattle.std.specs.List.{AllByRecursion, flat_map}
 use Rattle.std.specs.declared.option.Option.{Option}
 use Rattle.std.proofs.lemmas.List.{get_or_past}
@@ -12,11 +12,7 @@ use Rattle.mg_defs.proofs.StandDocs.{docs-codable, most}
 use Rattle.mg_defs.proofs.TermLaws.{dictionary-of_words}
 use Rattle.mg_defs.specs.CodedText.{TextCode, IsTextCode, places_part, text_part}
 use Rattle.mg_defs.specs.Means.{IsCodable, docs_bytes}
-use Rattle.mg_dev.specs.Causes.{Rose}
-use Rattle.mg_dev.specs.Files.{Files, file_at, bytes_at, OneRead, Reads, SameReads}
-use Rattle.mg_dev.specs.PartCauses.{HasPartCause}
-use Rattle.mg_dev.specs.declared.part_err.PartErr.{PartErr}
-use Rattle.mg_dev.specs.declared.part_err.PartErr.TheVariants.{Device, Memory, Bad}
+use Rattle.mg_dev.specs.Files.{Files, file_at, bytes_at}
 use Rattle.mg_text.proofs.CallerLemmas.{text_stays}
 use Rattle.mg_model.specs.Terms.{TermNumbers, terms_and_numbers}
 use Rattle.mg_text.specs.Reading.{SameText, TextReading, TextStands}
@@ -37,10 +33,6 @@ use Rattle.mg_check_text.proofs.TextLaws.{all-get, all-others, all-words}
 use Rattle.std.specs.Cmp.Lexicographic.{slice_cmp}
 use Rattle.std.specs.List.Sorted.{IsStrictlySortedBy}
 use Rattle.std.specs.Ordering.{nat_cmp}
-use Rattle.mg_dev.specs.declared.part.Part.{Part}
-use Rattle.mg_dev.specs.declared.part.Part.TheVariants as part
-use Rattle.mg_layout.specs.Contents.{ReadsOnly}
-use Rattle.mg_check_text.specs.Reads.{is_of_set, reads_outside}
 use Rattle.mg_check_text.proofs.CountedTerms as counted
 use Rattle.mg_check_text.proofs.NextLaws as next
 -- readers of the same text

@@ -9,7 +9,7 @@ use Rattle.mg_dev.specs.declared.part_err.PartErr.{PartErr}
 use Rattle.mg_dev.specs.declared.part_err.PartErr.TheVariants.{Device, Memory, Bad}
 use Rattle.mg_model.specs.Terms.{TermNumbers, terms_and_numbers}
 use Rattle.mg_text.specs.Reading.{SameText, TextFits, TextReading}
-use Rattle.mg_check_text.specs.Reads.{HasReadText, HasTerms, LooksAtSet, ReadsText, reads_outside}
+use Rattle.mg_check_text.specs.Reads.{HasTerms, LooksAtSet, ReadsText}
 use Rattle.mg_check_text.specs.Refusals.{IsNotDevice}
 
 -- ---- readers of the same text

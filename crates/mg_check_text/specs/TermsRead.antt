@@ -1,5 +1,5 @@
 -- The terms of a document that was read last, and how often each comes.
-use Rattle.std.specs.Prelude.{◌≡◌, ℕ, ◌+◌, ◌-◌, ◌*◌, ◌<◌, ◌≤◌, ◌^◌, ◌==◌, nat_eq, nat_lt, if◌then◌else◌, List, [], ◌∷◌, All, length, map, filter, sum_by, count_by}
+use Rattle.std.specs.Prelude.{◌≡◌, ℕ, ◌+◌, ◌*◌, ◌<◌, ◌≤◌, ◌^◌, ◌==◌, nat_eq, nat_lt, if◌then◌else◌, List, [], ◌∷◌, All, length, map, filter, sum_by, count_by}
 use Rattle.std.specs.Cmp.Lexicographic.{slice_cmp}
 use Rattle.std.specs.List.{enumerate_from}
 use Rattle.std.specs.List.Sorted.{IsStrictlySortedBy}

@@ -10,11 +10,11 @@ returns-clause-set g c = record {
   stands = λ loaded.
       set-stands (g.S.Store.files c.args.store.now) (g.S.Store.files c.read_text.new.store) c.args.base.now c.args.head.now c.args.reader.now
       c.read_text.new.reader c.check_rest.result c.read_text.ensures.text.looks.files c.read_text.ensures.text.same loaded (c.in-Ok.ensures.found loaded)
-      c.check_rest.ensures.stand;
+      (λ collection stand. (c.check_rest.ensures.rest collection stand).stand);
   none = λ loaded.
       set-none (g.S.Store.files c.args.store.now) (g.S.Store.files c.read_text.new.store) c.args.base.now c.args.head.now c.args.reader.now
       c.read_text.new.reader c.check_rest.result c.read_text.ensures.text.looks.files c.read_text.ensures.text.same loaded (c.in-Ok.ensures.found loaded)
-      c.check_rest.ensures.other;
+      (λ collection stand. (c.check_rest.ensures.rest collection stand).other);
 }
 
 pub check_rest-requires : goal.check_rest-requires

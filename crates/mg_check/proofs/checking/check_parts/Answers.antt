@@ -1,26 +1,25 @@
-use Rattle.std.proofs.Common.{◌≡◌, ◌∙◌, Option, IfErr, OnOk, sym, subst}
+use Rattle.std.proofs.Common.{◌≡◌, ◌∙◌, Option, sym, subst}
 use Rattle.mg_dev.specs.Files.{Files}
 use Rattle.mg_check.specs.Counting.{TermsStand}
 use Rattle.mg_check.specs.Listing.{IndexStands}
-use Rattle.mg_check.specs.Rest.{PartsStand}
-use Rattle.mg_check_text.specs.Refusals.{Refutes}
+use Rattle.mg_check.specs.Rest.{Compares, PartsStand}
 use Rattle.mg_check_text.proofs.CallerLemmas.{looks_bad, looks_err, looks_then, terms_stay}
-use Rattle.mg_check.proofs.RestLaws.{head-runs, index-of, ok-so, other-so, refutes-so, terms-of-head, terms-of-size}
+use Rattle.mg_check.proofs.RestLaws.{compares-so, head-runs, index-of, refuted, terms-of-head, terms-of-size}
 use Rattle.mg_check.proofs.checking.check_parts.Goals as goal
 
-pub returns-in-Err-clause-other : goal.returns-in-Err-clause-other
-returns-in-Err-clause-other g c = λ collection stand.
+pub returns-in-Err-clause-parts : goal.returns-in-Err-clause-parts
+returns-in-Err-clause-parts g c = λ collection stand.
     let size = c.run_size-size.result in
-    refutes-so (TermsStand c.args.base.now (g.S.Store.files c.args.store.now) size collection)
+    refuted (TermsStand c.args.base.now (g.S.Store.files c.args.store.now) size collection)
     (PartsStand (g.S.Store.files c.args.store.now) c.args.base.now c.args.head.now collection) c.in-Err.refusal
     (λ parts. terms-of-size (g.S.Store.files c.args.store.now) c.args.base.now c.args.head.now size collection
     (head-runs c.args.head.now size collection c.run_size-size.ensures.least c.run_size-size.ensures.most c.run_size-size.ensures.enough parts.occurrences_are) parts.terms)
     (c.in-Err.ensures.other collection stand)
 
-pub returns-in-Err-expect_number-clause-other : goal.returns-in-Err-expect_number-clause-other
-returns-in-Err-expect_number-clause-other g c = λ collection stand.
-    refutes-so (c.args.head.now.occurrences ≡ c.in-Ok.counts.occurrences) (PartsStand (g.S.Store.files c.args.store.now) c.args.base.now c.args.head.now collection) c.in-Err-expect_number.refusal
-    (λ parts. parts.occurrences_are ∙ sym ((c.in-Ok.ensures.counted collection stand).occurrences)) c.in-Err-expect_number.ensures.other
+pub returns-in-Err-expect_number-clause-parts : goal.returns-in-Err-expect_number-clause-parts
+returns-in-Err-expect_number-clause-parts g c = λ collection stand.
+    refuted (c.args.head.now.occurrences ≡ c.in-Ok.counts.occurrences) (PartsStand (g.S.Store.files c.args.store.now) c.args.base.now c.args.head.now collection) c.in-Err-expect_number.refusal
+    (λ parts. parts.occurrences_are ∙ sym ((c.in-Ok.ensures.counted collection stand).occurrences)) c.in-Err-expect_number.ensures.number.other
 
 pub returns-in-Err-clause-looks : goal.returns-in-Err-clause-looks
 returns-in-Err-clause-looks g c = looks_err c.in-Err.ensures.text.looks
@@ -34,26 +33,18 @@ check_index-requires g c = record { text = terms_stay c.in-Ok.ensures.text.fits 
 pub returns-clause-looks : goal.returns-clause-looks
 returns-clause-looks g c = looks_then c.in-Ok.ensures.text.looks c.check_index.ensures.text.looks
 
-pub returns-clause-stand : goal.returns-clause-stand
-returns-clause-stand g c = λ collection stand.
-    let same : g.S.Store.files c.check_terms.new.store ≡ g.S.Store.files c.args.store.now = c.in-Ok.ensures.text.looks.files in
-    let index = index-of (g.S.Store.files c.args.store.now) (g.S.Store.files c.check_terms.new.store) c.args.head.now c.args.reader.now c.check_terms.new.reader
+pub returns-clause-parts : goal.returns-clause-parts
+returns-clause-parts g c = λ collection stand.
+    let files = g.S.Store.files c.args.store.now in
+    let same : g.S.Store.files c.check_terms.new.store ≡ files = c.in-Ok.ensures.text.looks.files in
+    let index = index-of files (g.S.Store.files c.check_terms.new.store) c.args.head.now c.args.reader.now c.check_terms.new.reader
     c.args.table.now c.deref.result.now collection same c.in-Ok.ensures.text.same c.requires.text.table_is
     (c.deref.ensures.value ∙ (c.in-Ok.ensures.counted collection stand).docs) c.requires.reads.documents c.requires.reads.within stand in
     let size = c.run_size-size.result in
-    let count = c.in-Ok-expect_number.ensures.same ∙ (c.in-Ok.ensures.counted collection stand).occurrences in
+    let count = c.in-Ok-expect_number.ensures.number.stand ∙ (c.in-Ok.ensures.counted collection stand).occurrences in
     let runs = head-runs c.args.head.now size collection c.run_size-size.ensures.least c.run_size-size.ensures.most c.run_size-size.ensures.enough count in
-    let terms = terms-of-head (g.S.Store.files c.args.store.now) c.args.base.now c.args.head.now size collection runs ((c.in-Ok.ensures.counted collection stand).stand) in
-    ok-so (IndexStands (g.S.Store.files c.args.store.now) c.args.base.now collection) (PartsStand (g.S.Store.files c.args.store.now) c.args.base.now c.args.head.now collection) c.check_index.result
-    (λ stands. record { occurrences_are = count; terms = terms; index = stands })
-    (subst (λ (f : Option Files). OnOk c.check_index.result (IndexStands f c.args.base.now collection)) same (c.check_index.ensures.index.stand collection index))
-
-pub returns-clause-other : goal.returns-clause-other
-returns-clause-other g c = λ collection stand.
-    let same : g.S.Store.files c.check_terms.new.store ≡ g.S.Store.files c.args.store.now = c.in-Ok.ensures.text.looks.files in
-    let index = index-of (g.S.Store.files c.args.store.now) (g.S.Store.files c.check_terms.new.store) c.args.head.now c.args.reader.now c.check_terms.new.reader
-    c.args.table.now c.deref.result.now collection same c.in-Ok.ensures.text.same c.requires.text.table_is
-    (c.deref.ensures.value ∙ (c.in-Ok.ensures.counted collection stand).docs) c.requires.reads.documents c.requires.reads.within stand in
-    other-so (IndexStands (g.S.Store.files c.args.store.now) c.args.base.now collection)
-    (PartsStand (g.S.Store.files c.args.store.now) c.args.base.now c.args.head.now collection) c.check_index.result (λ parts. parts.index)
-    (subst (λ (f : Option Files). IfErr c.check_index.result (Refutes (IndexStands f c.args.base.now collection))) same (c.check_index.ensures.index.other collection index))
+    let terms = terms-of-head files c.args.base.now c.args.head.now size collection runs ((c.in-Ok.ensures.counted collection stand).stand) in
+    compares-so (IndexStands files c.args.base.now collection) (PartsStand files c.args.base.now c.args.head.now collection) c.check_index.result
+    (λ stands. record { occurrences_are = count; terms = terms; index = stands }) (λ parts. parts.index)
+    (subst (λ (f : Option Files). Compares (IndexStands f c.args.base.now collection) c.check_index.result) same
+    (record { stand = c.check_index.ensures.index.stand collection index; other = c.check_index.ensures.index.other collection index }))

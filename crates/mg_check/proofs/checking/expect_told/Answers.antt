@@ -2,13 +2,13 @@ use Rattle.std.proofs.Common.{◌≡◌, ◌∙◌, sym}
 use Rattle.mg_layout.specs.Stands.{parts_at}
 use Rattle.mg_check.specs.Rest.{HaveSizes, IsTold}
 use Rattle.mg_check_text.proofs.CallerLemmas.{looks_own}
-use Rattle.mg_check.proofs.RestLaws.{ok-so, other-so, refutes-so}
+use Rattle.mg_check.proofs.RestLaws.{compares-so, refuted}
 use Rattle.mg_check.proofs.checking.expect_told.Goals as goal
 
-pub returns-in-Err-clause-other : goal.returns-in-Err-clause-other
-returns-in-Err-clause-other g c = λ told.
-    refutes-so (c.from.result ≡ c.args.terms) (IsTold (parts_at (g.S.Store.files c.args.store.now) c.args.base.now) c.args.head.now c.args.terms)
-    c.in-Err.refusal (λ is. c.from.ensures ∙ is.terms_are) c.in-Err.ensures.other
+pub returns-in-Err-clause-told : goal.returns-in-Err-clause-told
+returns-in-Err-clause-told g c = λ told.
+    refuted (c.from.result ≡ c.args.terms) (IsTold (parts_at (g.S.Store.files c.args.store.now) c.args.base.now) c.args.head.now c.args.terms)
+    c.in-Err.refusal (λ is. c.from.ensures ∙ is.terms_are) c.in-Err.ensures.number.other
 
 pub returns-in-Err-clause-looks : goal.returns-in-Err-clause-looks
 returns-in-Err-clause-looks g c = looks_own c.in-Err.refusal _ _ _ c.in-Err.ensures.own
@@ -19,10 +19,5 @@ returns-clause-looks g c = c.expect_sizes.ensures.looks
 pub returns-clause-told : goal.returns-clause-told
 returns-clause-told g c = λ told.
     let parts = parts_at (g.S.Store.files c.args.store.now) c.args.base.now in
-    ok-so (HaveSizes parts c.args.head.now) (IsTold parts c.args.head.now c.args.terms) c.expect_sizes.result
-    (λ sizes. record { terms_are = sym c.from.ensures ∙ c.in-Ok.ensures.same; sizes = sizes }) (c.expect_sizes.ensures.sizes told)
-
-pub returns-clause-other : goal.returns-clause-other
-returns-clause-other g c = λ told.
-    let parts = parts_at (g.S.Store.files c.args.store.now) c.args.base.now in
-    other-so (HaveSizes parts c.args.head.now) (IsTold parts c.args.head.now c.args.terms) c.expect_sizes.result (λ is. is.sizes) (c.expect_sizes.ensures.other told)
+    compares-so (HaveSizes parts c.args.head.now) (IsTold parts c.args.head.now c.args.terms) c.expect_sizes.result
+    (λ sizes. record { terms_are = sym c.from.ensures ∙ c.in-Ok.ensures.number.stand; sizes = sizes }) (λ is. is.sizes) (c.expect_sizes.ensures.sizes told)

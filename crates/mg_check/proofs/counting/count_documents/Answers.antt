@@ -1,4 +1,4 @@
-use Rattle.std.proofs.Common.{arith, Err, ◌≡◌, ◌+◌, ◌∙◌, ℕ, subst}
+use Rattle.std.proofs.Common.{arith, Err, ◌≡◌, ◌+◌, ℕ, subst}
 use Rattle.mg_check.specs.Counting.{AreOwn, TalliedText}
 use Rattle.mg_check.proofs.Comparing.{where_bad}
 use Rattle.mg_check_text.proofs.CallerLemmas.{stands_on, terms_here, text_none, text_then}

@@ -1,4 +1,4 @@
-use Rattle.std.proofs.Common.{arith, ◌∙◌, sym, subst, IsSome}
+use Rattle.std.proofs.Common.{arith, sym, subst, IsSome}
 use Rattle.mg_dev.specs.declared.part_err.PartErr.TheVariants.{Memory}
 use Rattle.mg_check_text.proofs.CallerLemmas.{text_looks, text_own}
 use Rattle.mg_check.proofs.TallyText.{tally_done, tally_other}

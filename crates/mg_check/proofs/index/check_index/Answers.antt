@@ -1,5 +1,5 @@
 use Rattle.std.proofs.Common.{rules, arith, sym, subst}
-use Rattle.mg_dev.specs.declared.part_err.PartErr.TheVariants.{Bad, Memory}
+use Rattle.mg_dev.specs.declared.part_err.PartErr.TheVariants.{Memory}
 use Rattle.mg_check.specs.Listing.{AreSizes}
 use Rattle.mg_check_text.proofs.CallerLemmas.{text_own}
 use Rattle.mg_check.proofs.IndexLaws.{few_documents, sizes_of}

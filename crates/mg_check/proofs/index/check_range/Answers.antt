@@ -1,4 +1,4 @@
-use Rattle.std.proofs.Common.{arith, ◌≡◌, ◌+◌, length, refl, sym, subst, IsSome}
+use Rattle.std.proofs.Common.{arith, ◌≡◌, ◌+◌, length, sym, subst, IsSome}
 use Rattle.mg_check.specs.Listing.{ListsStand}
 use Rattle.mg_check_text.proofs.CallerLemmas.{text_err, text_looks, text_ok}
 use Rattle.mg_check.proofs.ComparedLaws.{not_bad_refutes}

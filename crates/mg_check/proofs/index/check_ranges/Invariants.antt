@@ -1,4 +1,4 @@
-use Rattle.std.proofs.Common.{◌≤◌, ◌-◌, ℕ, List, Some, length}
+use Rattle.std.proofs.Common.{◌≤◌, ◌-◌, ℕ, List, Some}
 use Rattle.mg_dev.specs.Moments.{Between}
 use Rattle.mg_mem.specs.Shelf.{files_of}
 use Rattle.mg_check.specs.Listing.{CanCompare, HasCompared, IsIndexOf}

@@ -1,4 +1,4 @@
-use Rattle.std.proofs.Common.{arith, sym, subst}
+use Rattle.std.proofs.Common.{arith}
 use Rattle.mg_dev.specs.declared.part_err.PartErr.TheVariants.{Memory}
 use Rattle.mg_check_text.proofs.CallerLemmas.{rising_of, text_err, text_ok, text_own}
 use Rattle.mg_check.proofs.IndexLaws.{range_of_index, room_of_docs, rooms_of, rooms_stay}

@@ -3,7 +3,6 @@ use Rattle.mg_check.specs.Counting.{HasBegun, RunReading}
 use Rattle.mg_runs.proofs.CallerLemmas.{some_entries}
 use Rattle.mg_check.proofs.RunSteps.{done_bytes, last_bytes, taken_entries}
 use Rattle.mg_check.proofs.RunPartLaws.{rest_bad}
-use Rattle.mg_check_text.proofs.CallerLemmas.{looks_none}
 use Rattle.mg_check.proofs.run_part.RunPart.compare_rest.Goals as goal
 
 pub compare-requires-clause-entries : goal.compare-requires-clause-entries
