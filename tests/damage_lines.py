@@ -200,6 +200,11 @@ def heads_of_less(suite):
             head = with_digits(sound["head"], 32, size.to_bytes(width, "big"))
             line = f"text at {8 * place}: found {found}, wanted 0 to {left}"
             told(suite, f"a head of version {version} that tells {size} bytes of 39", sound | {"head": head}, line)
+        # A document is shown as far as it may come by itself: of the first, 12 bytes long, `sat` goes beyond 9.
+        write_parts(suite.folder / "set", sound | {"head": with_digits(sound["head"], 32, (9).to_bytes(width, "big"))})
+        status, _, line = suite.run(["query", "set"], b".set mode text\nsat\n")
+        asked = f"mg: damaged: part text at {8 * int.from_bytes(sound['places'][:width], 'big')}: found 11, wanted 0 to 9\n"
+        suite.check(f"a head of version {version} that tells 9 bytes: a shown document", (status, line), (6, asked.encode()))
     remove(suite, "set")
 
 

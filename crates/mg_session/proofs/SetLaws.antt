@@ -73,7 +73,7 @@ opened_over base files now head code collection lex same is lexicon = record {
   limits = is.are.limits;
   weights = weights_later base base files now collection refl same (set_weights base files head code collection is);
   lex = lexicon;
-  texts = set_text base files now head code collection same is;
+  texts = record { text = set_text base files now head code collection same is; size = ap (λ (h : defs.Head). h.collection) is.head_is };
   all = ap (λ (h : defs.Head). h.documents) is.head_is;
 }
 

@@ -74,10 +74,12 @@ lex_later a b files now collection same e is = record {
 
 pub texts_later : (t u : Texting) (files now : Option Files) (code : TextCode) (collection : List ℕ) → SameTexts t u →
     now ≡ files → TextsStand t files code collection → TextsStand u now code collection
-texts_later t u files now code collection same e is =
-    subst (λ f. IsText u.base f u.head code collection) (sym e)
-    (subst (λ b. IsText b files u.head code collection) (sym same.base)
-    (subst (λ (h : Head). IsText t.base files h code collection) (sym same.head) is))
+texts_later t u files now code collection same e is = record {
+  text = subst (λ f. IsText u.base f u.head code collection) (sym e)
+      (subst (λ b. IsText b files u.head code collection) (sym same.base)
+      (subst (λ (h : Head). IsText t.base files h code collection) (sym same.head) is.text));
+  size = ap (λ (h : Head). h.collection) same.head ∙ is.size;
+}
 
 pub weights_later : (base now_base : List ℕ) (files now : Option Files) (collection : List ℕ) → now_base ≡ base →
     now ≡ files → WeightsStand base files collection → WeightsStand now_base now collection

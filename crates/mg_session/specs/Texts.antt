@@ -1,5 +1,5 @@
 -- The text of a base, whose reader is loaded when a document is first shown from it.
-use Rattle.std.specs.Prelude.{◌≡◌, ℕ, ◌≤◌, ◌^◌, List, IfSome}
+use Rattle.std.specs.Prelude.{◌≡◌, ℕ, ◌≤◌, ◌^◌, List, IfSome, length}
 use Rattle.std.specs.declared.option.Option.{Option}
 use Rattle.mg_dev.specs.Files.{Files}
 use Rattle.mg_defs.specs.CodedText.{TextCode}
@@ -32,5 +32,7 @@ pub record SameTexts (old new : Texting) : Type 0 where
   pub head : new.head ≡ old.head
 
 -- it is that of this collection under these codes
-abbrev pub TextsStand : Texting → Option Files → TextCode → List ℕ → Type 0
-TextsStand t files code collection = IsText t.base files t.head code collection
+pub record TextsStand (t : Texting) (files : Option Files) (code : TextCode) (collection : List ℕ) : Type 0 where
+  pub text : IsText t.base files t.head code collection
+  -- the head tells its bytes
+  pub size : t.head.collection ≡ length collection

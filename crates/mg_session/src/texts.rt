@@ -8,6 +8,7 @@ ghost use Rattle.mg_defs.specs.Terms.{document};
 ghost use Rattle.mg_defs.specs.declared.session.Mode.TheVariants as mode;
 ghost use Rattle.mg_dev.specs.Moments.{Between};
 ghost use Rattle.mg_reply.specs.Printed.{Puts};
+ghost use Rattle.mg_text.specs.Decoding.{AddsOf};
 ghost use Rattle.mg_text.specs.Reading.{ShowIsNotBad};
 ghost use Rattle.mg_session.specs.Answering.{HasShowCause, HasShowLack};
 ghost use Rattle.mg_session.specs.Parts.{ShownIn};
@@ -77,12 +78,13 @@ impl<'a, S: Store> Texts<'a, S> {
         ensures cause { HasShowCause result (S.faults store.old) (S.faults store.new)
             (O.faults out.old) (O.faults out.new) }
         ensures lack { HasShowLack (O.lacks out.old) (O.lacks out.new) result }
+        ensures added { AddsOf O.written O.faults O.lacks out.old out.new self.old.head.collection 0 }
     {
         let mut reader = match TextReader::load(self.alloc, store, self.base, &self.head) {
             Ok(reader) => reader,
             Err(refusal) => return Err(ShowErr::Part(refusal)),
         };
-        let shown = reader.doc(store, number, out);
+        let shown = reader.doc_within(store, number, self.head.collection, out);
         keep(&mut self.reader, reader);
         shown
     }
@@ -92,8 +94,9 @@ impl<'a, S: Store> Documents<S> for Texts<'a, S> {
     ghost texts = { λ t. t };
 
     fn doc<O: Sink>(&mut self, store: &mut S, number: u32, out: &mut O) -> Result<(), ShowErr> {
+        let most = self.head.collection;
         match &mut self.reader {
-            Some(reader) => reader.doc(store, number, out),
+            Some(reader) => reader.doc_within(store, number, most, out),
             None => self.load_doc(store, number, out),
         }
     }
