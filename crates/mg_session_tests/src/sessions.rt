@@ -1,11 +1,11 @@
-//! What sessions over a store print and how they end, and the set of three documents.
-use mg_dev::Fault;
-use mg_mem::{MemSink, MemSource, MemStore};
+//! What sessions over the set of three documents print, how they end, and how often parts are read.
+use mg_dev::{Fault, Part, Sink, Source, Store};
+use mg_mem::{SureSink, SureSource, SureStore};
 use mg_session::{serve, serve_phrase, serve_wild};
 use std::alloc::{AllocError, Global};
 
 // The parts of "the cat sat", "the dog" and "Cat, cat & dog!", each document with its line's end.
-const THREE: [(&str, &[u8]); 10] = [
+static THREE: [(&str, &[u8]); 10] = [
     (
         "set.head",
         b"MGROWv2\n\0\0\0\x03\0\0\0\x05\0\0\0\x05\0\0\0\x04\0\x15UU\0\0\0\0\0\0\0\0\0\0\0'\0\0\0\0\0\0\0\x08\0\0\0\x01\0\0\0\0\0\0\0\0\0\0\0\x08\0\0\0\0\0\0\0\x04\0\0\0\0\0\0\0\x04",
@@ -44,22 +44,24 @@ pub(crate) enum Kind {
     Pattern,
 }
 
-/// A store with the three documents.
-pub(crate) fn three(alloc: Global) -> Result<MemStore, AllocError> {
-    let mut store = MemStore::new(alloc);
-    for (name, bytes) in THREE {
-        store.put_file(name, bytes)?;
-    }
-    Ok(store)
+/// Whether a session prints what it is to print, and how often parts were read.
+#[derive(Clone, Copy)]
+pub(crate) struct Seen {
+    pub(crate) printed: bool,
+    pub(crate) head: u64,
+    pub(crate) models: [u64; 2],
+    pub(crate) texts: [u64; 2],
+    pub(crate) weights: u64,
+    pub(crate) run: u64,
 }
 
 /// Serves a session over a set.
-fn serve_kind(
+fn serve_kind<S: Store, I: Source, O: Sink>(
     alloc: Global,
     kind: Kind,
-    store: &mut MemStore,
-    input: &mut MemSource,
-    out: &mut MemSink,
+    store: &mut S,
+    input: &mut I,
+    out: &mut O,
 ) -> Result<(), Fault> {
     match kind {
         Kind::Query => serve(alloc, store, "set", input, out),
@@ -69,15 +71,43 @@ fn serve_kind(
 }
 
 /// Whether a session ends well and prints just this.
-pub(crate) fn prints(
+fn prints<S: Store>(
     alloc: Global,
     kind: Kind,
-    store: &mut MemStore,
+    store: &mut S,
     given: &[u8],
     wanted: &[u8],
 ) -> Result<bool, AllocError> {
-    let mut input = MemSource::new(alloc, given, 7)?;
-    let mut out = MemSink::new(alloc);
+    let mut input = SureSource::new(alloc, given, 7)?;
+    let mut out = SureSink::new(alloc);
     let status = serve_kind(alloc, kind, store, &mut input, &mut out);
     Ok(status.is_ok() && out.bytes() == wanted)
+}
+
+/// A store with the three documents.
+fn three(alloc: Global) -> Result<SureStore, AllocError> {
+    let mut store = SureStore::new(alloc);
+    for (name, bytes) in &THREE {
+        store.put_file(name, bytes)?;
+    }
+    Ok(store)
+}
+
+/// What is seen of a session over them, which is to print just this.
+pub(crate) fn serve_three(
+    alloc: Global,
+    kind: Kind,
+    given: &[u8],
+    wanted: &[u8],
+) -> Result<Seen, AllocError> {
+    let mut store = three(alloc)?;
+    let printed = prints(alloc, kind, &mut store, given, wanted)?;
+    Ok(Seen {
+        printed,
+        head: store.reads_of(Part::Head),
+        models: [store.reads_of(Part::Words), store.reads_of(Part::Nonwords)],
+        texts: [store.reads_of(Part::Text), store.reads_of(Part::Places)],
+        weights: store.reads_of(Part::Weights),
+        run: store.reads_of(Part::Run),
+    })
 }
