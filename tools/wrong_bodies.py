@@ -120,11 +120,12 @@ def copy_repository(room, chosen, folders):
 def is_left_by_gate(name):
     """Whether the gate left the library of a crate, and none of the crate's files is newer."""
     crate = ROOT / "crates" / name
-    library = list((crate / "out" / "rlib" / f"{name}.rlib").rglob("*"))
-    if not library or (crate / "out" / "rlib" / "stamp").exists():
+    library = crate / "out" / "rlib" / f"{name}.rlib"
+    if not library.is_dir() or (crate / "out" / "rlib" / "stamp").exists():
         return False
     sources = [ROOT / "crates.txt", *(path for part in ("src", "specs", "proofs") for path in (crate / part).rglob("*"))]
-    return max(path.stat().st_mtime for path in sources) <= min(path.stat().st_mtime for path in library)
+    # What an earlier run kept is linked with the time of that run, so the folder's own time tells when the gate left it.
+    return max(path.stat().st_mtime for path in sources) <= library.stat().st_mtime
 
 
 def take_kept_work(crate):
