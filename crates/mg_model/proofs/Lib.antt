@@ -10,5 +10,6 @@ mod Walking
 mod Writing
 mod Codes
 mod Standing
+mod Loading
 mod Numbering
 mod Collections

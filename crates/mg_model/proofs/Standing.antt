@@ -18,7 +18,7 @@ use Rattle.mg_defs.proofs.EntryLaws.{entries_rest}
 use Rattle.mg_defs.specs.Means.{IsStreamCode}
 use Rattle.mg_model.specs.Models.{PartsStand}
 use Rattle.mg_model.specs.Damage.{StandFirst, IsBroken, HasMore, IsPart, IsWholePart, IsDamage, AnswersLoad, AnswersStanding, AnswersStream}
-use Rattle.mg_model.proofs.Entries.{code, entries-long}
+use Rattle.mg_model.proofs.Entries.{entries-long}
 use Rattle.mg_defs.proofs.StandCodes.{entries-are, same-lists}
 
 -- ---- one code

@@ -1,5 +1,5 @@
 -- Pieces by entries of sixteen bytes, and the bytes of the longer ones.
-use Rattle.std.specs.Prelude.{◌≡◌, ℕ, ◌+◌, ◌*◌, ◌^◌, ◌<◌, ◌≤◌, nat_le, if◌then◌else◌, List, length, take, drop, slice_index}
+use Rattle.std.specs.Prelude.{ℕ, ◌+◌, ◌*◌, ◌^◌, ◌<◌, ◌≤◌, nat_le, if◌then◌else◌, List, length, take, drop, slice_index}
 use Rattle.std.specs.List.{AllByRecursion}
 use Rattle.mg_defs.specs.Numbers.{four_at}
 

@@ -1,7 +1,12 @@
 -- What reading the pieces of a part and making their code answer.
-use Rattle.std.specs.Prelude.{◌≡◌, ◌≤◌, ◌<◌, ◌+◌, ◌*◌, ◌⊎◌, ℕ, List, length, Result, Ok, Err}
+use Rattle.std.specs.Prelude.{◌≡◌, ◌≤◌, ◌<◌, ◌+◌, ◌*◌, ◌⊎◌, ℕ, List, [], length, None, Result, Ok, Err, IfOk}
 use Rattle.std.specs.Int.{div_ceil}
-use Rattle.mg_dev.specs.Files.{Reads}
+use Rattle.std.specs.Option.{IsSome}
+use Rattle.std.specs.declared.option.Option.{Option}
+use Rattle.mg_dev.specs.Files.{Files, Reads, bytes_at}
+use Rattle.mg_dev.specs.PartCauses.{HasPartCause}
+use Rattle.mg_bits.specs.Pages.{Looked}
+use Rattle.mg_front.specs.Walk.{Gave, Walking}
 use Rattle.mg_dev.specs.declared.part.Part.{Part}
 use Rattle.mg_dev.specs.declared.part.Part.TheVariants as part
 use Rattle.mg_dev.specs.declared.part_err.PartErr.{PartErr}
@@ -53,3 +58,35 @@ ToldUnread before now (Ok value) = Unit {0}
 ToldUnread before now (Err Device) = Unit {0}
 ToldUnread before now (Err Memory) = Unit {0}
 ToldUnread before now (Err (Bad bad)) = bad.part ≡ part.Words → now part.Nonwords ≡ before part.Nonwords
+
+-- no piece was read
+pub record HasNone (read : ReadPieces) : Type 0 where
+  pub pieces : read.pieces ≡ []
+  pub lengths : read.lengths.items ≡ []
+
+-- what was read, where nothing was refused
+abbrev pub read_if : Result (Unit {0}) PartErr → ReadPieces → Result ReadPieces PartErr
+read_if (Ok all) read = Ok read
+read_if (Err refusal) read = Err refusal
+
+-- a walk that has given no entry, and holds no page
+pub record IsAtFirst (walk : Walking) (files : Option Files) : Type 0 where
+  pub gave : Gave walk files []
+  pub held : walk.feed.held ≡ None
+  pub place : walk.place ≡ 0
+  pub width : walk.width ≡ 1
+
+-- reading so many pieces of a part, by the full name of its file
+pub record ReadsPieces (name : List ℕ) (part : Part) (count : ℕ) (result : Result ReadPieces PartErr)
+    (files_before files_now : Option Files) (reads_before reads_now : Reads) (faults_before faults_now : ℕ) : Type 0
+  where
+    -- the pieces with their lengths, or the first damage of the entries
+    pub answer : IsSome files_before → AnswersEntries part count (bytes_at files_before name) result
+    -- each piece has a length
+    pub each : IfOk result (λ read. length read.lengths.items ≡ length read.pieces)
+    -- no file changed, and no other part was read
+    pub looked : Looked part files_before files_now reads_before reads_now faults_before faults_now
+    -- the part was read once
+    pub once : IsSome files_before → ReadOnce part count (bytes_at files_before name) reads_before reads_now result
+    -- a refusal for the device has its cause there
+    pub cause : HasPartCause faults_before faults_now result

@@ -13,6 +13,8 @@
 #![tactic(auto)]
 
 mod block;
+mod dropping;
+mod entry_walk;
 mod laws;
 mod pieces;
 mod reading;

@@ -4,7 +4,7 @@ ghost use Rattle.std.specs.Prelude.{◌≡◌, ◌≢◌, ◌+◌, ◌-◌, ◌*
 ghost use Rattle.mg_dev.specs.Files.{SameReads, file_bytes};
 ghost use Rattle.mg_dev.specs.Moments.{Between};
 ghost use Rattle.mg_dev.specs.PartCauses.{HasPartCause};
-ghost use Rattle.mg_bits.specs.Pages.{Looked};
+ghost use Rattle.mg_dev.specs.Names.{file_name};
 ghost use Rattle.mg_canon.specs.Refusals.{most_bits};
 ghost use Rattle.mg_defs.specs.Front.{is_below, shared};
 ghost use Rattle.mg_defs.specs.CodedText.{piece_entries};
@@ -16,10 +16,11 @@ ghost use Rattle.mg_front.specs.Entries.{entry_of, string_of};
 ghost use Rattle.mg_defs.specs.Canon.{AreGood};
 ghost use Rattle.mg_model.specs.Damage.{AnswersRoom, IsPart};
 ghost use Rattle.mg_model.specs.Sizes.{entry_size, first_sizes};
-ghost use Rattle.mg_model.specs.Loading.{ReadsOnce};
-ghost use Rattle.mg_model.specs.Read.{AnswersEntries, AnswersCode, code_read};
+ghost use Rattle.mg_model.specs.Read.{AnswersCode, HasNone, IsAtFirst, ReadsPieces, code_read, read_if};
 
 use crate::block::PieceBlock;
+use crate::dropping::without;
+use crate::entry_walk::EntryWalk;
 use mg_canon::{Canon, CanonErr};
 use mg_dev::{Bad, FileRef, Part, PartErr, Store};
 use mg_front::{FrontEntry, FrontWalk, shared};
@@ -123,30 +124,70 @@ pub fn read_pieces<S: Store>(
     count: u32,
 ) -> Result<ReadPieces, PartErr>
     requires { count ≤ 2 ^ 22 }
-    ensures answer { IsSome (S.files store.old) →
-        AnswersEntries file.entry.part count (file_bytes file.entry (S.files store.old)) result }
-    ensures each { IfOk result (λ read. length read.lengths.items ≡ length read.pieces) }
-    ensures looked { Between S.files S.reads S.faults store.old store.new (Looked file.entry.part) }
-    ensures once { Between S.files S.reads S.faults store.old store.new
-        (ReadsOnce file.entry.base.now file.entry.part count result) }
-    ensures cause { HasPartCause (S.faults store.old) (S.faults store.new) result }
+    ensures { Between S.files S.reads S.faults store.old store.new
+        (ReadsPieces (file_name file.entry) file.entry.part count result) }
 {
-    let mut read = room_for(alloc, count)?;
-    let mut walk = match FrontWalk::load(alloc, store, file, 1, count) {
-        Ok(walk) => walk,
-        Err(refusal) => return Err(refusal),
-    };
-    let mut entry = FrontEntry::new();
-    while walk.next(store, &mut entry)? {
-        read.push(&entry)?;
+    match FrontWalk::load(alloc, store, file, 1, count) {
+        Ok(walk) => read_by(alloc, store, walk, count),
+        Err(refusal) => Err(refusal),
     }
-    Ok(read)
+}
+
+/// Reads the pieces by a walk over their entries, which is dropped here: so who loads it has none of its
+/// parts to drop.
+fn read_by<S: Store, W: EntryWalk<S> + Drop>(
+    alloc: Global,
+    store: &mut S,
+    walk: W,
+    count: u32,
+) -> Result<ReadPieces, PartErr>
+    requires first { IsAtFirst (W.walking walk) (S.files store.old) }
+    requires few { (W.walking walk).count ≤ 2 ^ 22 }
+    ensures { Between S.files S.reads S.faults store.old store.new
+        (ReadsPieces (W.walking walk).feed.name (W.walking walk).feed.part (W.walking walk).count
+        result) }
+{
+    let mut read = match room_for(alloc, count) {
+        Ok(read) => read,
+        Err(_) => return Err(PartErr::Memory),
+    };
+    let mut walk = walk;
+    match read_entries(store, &mut walk, &mut read) {
+        Ok(()) => Ok(read),
+        Err(refusal) => Err(without(read, refusal)),
+    }
+}
+
+/// Reads the pieces of all entries.
+fn read_entries<S: Store, W: EntryWalk<S>>(
+    store: &mut S,
+    walk: &mut W,
+    read: &mut ReadPieces,
+) -> Result<(), PartErr>
+    requires first { IsAtFirst (W.walking walk.old) (S.files store.old) }
+    requires few { (W.walking walk.old).count ≤ 2 ^ 22 }
+    requires none { HasNone read.old }
+    ensures { Between S.files S.reads S.faults store.old store.new
+        (ReadsPieces (W.walking walk.old).feed.name (W.walking walk.old).feed.part
+        (W.walking walk.old).count (read_if result read.new)) }
+{
+    let mut entry = FrontEntry::new();
+    'entries: loop {
+        match walk.next_entry(store, &mut entry) {
+            Ok(true) => {}
+            Ok(false) => return Ok(()),
+            Err(refusal) => return Err(refusal),
+        }
+        match read.push(&entry) {
+            Ok(()) => {}
+            Err(_) => return Err(PartErr::Memory),
+        }
+    }
 }
 
 /// No pieces, and room for the places and lengths of so many.
 fn room_for(alloc: Global, count: u32) -> Result<ReadPieces, AllocError>
-    ensures pieces { IfOk result (λ read. read.pieces ≡ []) }
-    ensures lengths { IfOk result (λ read. read.lengths.items ≡ []) }
+    ensures { IfOk result HasNone }
 {
     let pieces = PieceBlock::with_capacity(alloc, count)?;
     let lengths = Vec::with_capacity(alloc, count as usize)?;

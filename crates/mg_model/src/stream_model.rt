@@ -1,26 +1,29 @@
 //! The pieces of one stream and their code.
-ghost use Rattle.std.specs.Prelude.{◌≡◌, ◌<◌, ◌≤◌, ◌^◌, IsSome, length, position, slice_get, slice_index, Some, IfOk, IfSome, OnOk};
+ghost use Rattle.std.specs.Prelude.{◌≡◌, ◌≢◌, ◌<◌, ◌≤◌, ◌^◌, ℕ, List, [], IsSome, length, position, slice_get, slice_index, None, Some, Err, IfOk, IfSome, OnOk};
+ghost use Rattle.std.specs.Option.{option_map};
 ghost use Rattle.std.specs.Str.{bytes_eq};
 ghost use Rattle.mg_dev.specs.Causes.{HasPutCause};
-ghost use Rattle.mg_dev.specs.Files.{file_bytes};
+ghost use Rattle.mg_dev.specs.Files.{bytes_at, file_bytes};
 ghost use Rattle.mg_dev.specs.Moments.{Between};
 ghost use Rattle.mg_dev.specs.Names.{full_name};
-ghost use Rattle.mg_dev.specs.PartCauses.{HasPartCause};
-ghost use Rattle.mg_bits.specs.Pages.{Looked};
 ghost use Rattle.mg_bits.specs.Writer.{WroteTo};
 ghost use Rattle.mg_defs.specs.Canon.{AreGood};
 ghost use Rattle.mg_defs.specs.CodedText.{IsHuffman, pieces_part};
 ghost use Rattle.mg_defs.specs.Vocabulary.{sorted_of, counts_of};
 ghost use Rattle.mg_model.specs.Blocks.{short_piece};
-ghost use Rattle.mg_model.specs.Damage.{AnswersStream};
+ghost use Rattle.mg_model.specs.Damage.{AnswersStream, IsPart};
 ghost use Rattle.mg_defs.specs.Means.{IsStreamCode};
-ghost use Rattle.mg_model.specs.Loading.{ReadsOnce, SkipsIfShort};
+ghost use Rattle.mg_front.specs.Fronting.{Took};
+ghost use Rattle.mg_model.specs.Loading.{LoadsStream};
+ghost use Rattle.mg_model.specs.Read.{code_read};
+ghost use Rattle.mg_model.specs.Vocabularies.{pieces_of};
 
 use crate::Vocab;
+use crate::dropping::without;
 use crate::pieces::Pieces;
 use crate::reading::{ReadPieces, checked_code, expect_room, read_pieces};
 use mg_canon::Canon;
-use mg_dev::{Bad, FileRef, PartErr, PutErr, Store};
+use mg_dev::{Bad, FileRef, Part, PartErr, PutErr, Store};
 use mg_front::FrontWriter;
 use std::alloc::{AllocError, Global};
 use std::marker::Model;
@@ -59,22 +62,37 @@ fn canon_of(alloc: Global, lengths: &[u8]) -> Result<Canon, AllocError>
     }
 }
 
+// Sorts the counted pieces, and answers the lengths of their codewords and the code of these.
+fn sorted_code(alloc: Global, vocab: &mut Vocab) -> Result<(Vec<u8>, Canon), AllocError>
+    ensures pieces { OnOk result (pieces_of vocab.new ≡ sorted_of vocab.old) }
+    ensures lengths { IfOk result (λ code. IsHuffman (counts_of vocab.old) code.0.items) }
+    ensures code { IfOk result (λ code.
+        IsStreamCode (record { pieces = pieces_of vocab.new; lengths = code.0.items })) }
+    ensures canon { IfOk result (λ code. code.1 ≡ code.0.items) }
+{
+    vocab.sort()?;
+    let counts = vocab.counts()?;
+    let mut lengths = Vec::new(alloc);
+    mg_huff::lengths(alloc, &counts, &mut lengths)?;
+    let canon = canon_of(alloc, &lengths)?;
+    Ok((lengths, canon))
+}
+
 impl StreamModel {
     /// The model of counted pieces.
-    pub fn of(alloc: Global, mut vocab: Vocab) -> Result<Self, AllocError>
+    pub fn of(alloc: Global, vocab: Vocab) -> Result<Self, AllocError>
         ensures pieces { IfOk result (λ model. model.pieces ≡ sorted_of vocab) }
         ensures lengths { IfOk result (λ model. IsHuffman (counts_of vocab) model.lengths) }
     {
-        vocab.sort()?;
-        let counts = vocab.counts()?;
-        let mut lengths = Vec::new(alloc);
-        mg_huff::lengths(alloc, &counts, &mut lengths)?;
-        let canon = canon_of(alloc, &lengths)?;
-        Ok(StreamModel {
-            pieces: Pieces::Counted(vocab),
-            lengths,
-            canon,
-        })
+        let mut vocab = vocab;
+        match sorted_code(alloc, &mut vocab) {
+            Ok((lengths, canon)) => Ok(StreamModel {
+                pieces: Pieces::Counted(vocab),
+                lengths,
+                canon,
+            }),
+            Err(refusal) => Err(without(vocab, refusal)),
+        }
     }
 
     /// Writes the pieces and their lengths into a part.
@@ -91,7 +109,28 @@ impl StreamModel {
             (S.reads store.old) (S.reads store.new) }
         ensures cause { HasPutCause (S.faults store.old) (S.faults store.new) result }
     {
-        let mut writer = FrontWriter::start(alloc, store, file, None, 1)?;
+        let mut writer = match FrontWriter::start(alloc, store, file, None, 1) {
+            Ok(writer) => writer,
+            Err(refusal) => return Err(refusal),
+        };
+        self.write_entries(store, &mut writer)
+    }
+
+    // Writes the pieces and their lengths through a writer that took no entry.
+    fn write_entries<S: Store>(
+        &self,
+        store: &mut S,
+        writer: &mut FrontWriter<'_>,
+    ) -> Result<(), PutErr>
+        requires took { Took writer.old (S.files store.old) [] }
+        requires width { writer.old.width ≡ 1 }
+        requires alone { option_map (λ places. places.name) writer.old.places ≡ None }
+        ensures bytes { OnOk result (IsSome (S.files store.old) →
+            bytes_at (S.files store.new) writer.old.strings.name ≡ pieces_part self.now) }
+        ensures wrote { WroteTo writer.old.strings.name (S.files store.old) (S.files store.new)
+            (S.reads store.old) (S.reads store.new) }
+        ensures cause { HasPutCause (S.faults store.old) (S.faults store.new) result }
+    {
         for symbol in 0..self.lengths.len() {
             let piece = self.pieces.piece(symbol as u32);
             writer.push(store, piece, &[self.lengths[symbol]])?;
@@ -101,8 +140,7 @@ impl StreamModel {
 
     /// Reads the model of so many pieces from a part. Memory is wanted, and the part is read, only
     /// where it has two bytes for each. It reads no page twice, and one behind the part's end only
-    /// where the device fails or the entries are damaged. That the pieces rise is tested again, for
-    /// the walk promises it only over a store that tells its files.
+    /// where the device fails or the entries are damaged.
     pub fn load<S: Store>(
         alloc: Global,
         store: &mut S,
@@ -110,41 +148,59 @@ impl StreamModel {
         count: u32,
     ) -> Result<Self, PartErr>
         requires { count ≤ 2 ^ 22 }
-        ensures answer { IsSome (S.files store.old) →
-            AnswersStream file.entry.part count (file_bytes file.entry (S.files store.old)) result }
-        ensures looked { Between S.files S.reads S.faults store.old store.new
-            (Looked file.entry.part) }
-        ensures once { Between S.files S.reads S.faults store.old store.new
-            (ReadsOnce file.entry.base.now file.entry.part count result) }
-        ensures unread { Between S.files S.reads S.faults store.old store.new
-            (SkipsIfShort file.entry.base.now file.entry.part count) }
-        ensures cause { HasPartCause (S.faults store.old) (S.faults store.new) result }
+        ensures { Between S.files S.reads S.faults store.old store.new
+            (LoadsStream file.entry.base.now file.entry.part count result) }
     {
         match expect_room(store, &file, count) {
             Ok(()) => {}
             Err(refusal) => return Err(refusal),
         }
-        let read = read_pieces(alloc, store, file, count)?;
+        match read_pieces(alloc, store, file, count) {
+            Ok(read) => Self::of_read(alloc, file.part, read),
+            Err(refusal) => Err(refusal),
+        }
+    }
+
+    // The model of pieces that were read. That they rise is tested again, for the walk promises it only
+    // over a store that tells its files.
+    fn of_read(alloc: Global, part: Part, read: ReadPieces) -> Result<Self, PartErr>
+        requires each { length read.lengths.items ≡ length read.pieces }
+        ensures answer { (count : ℕ) (bytes : List ℕ) → IsPart count bytes (code_read read) →
+            AnswersStream part count bytes result }
+        ensures device { result ≢ Err PartErr.Device }
+    {
         if !read.rises() {
-            return Err(PartErr::Bad(Bad {
-                part: file.part,
+            let bad = Bad {
+                part,
                 at: 0,
                 low: 1,
                 high: 1,
                 found: 0,
-            }));
+            };
+            return Err(without(read, PartErr::Bad(bad)));
         }
-        let canon = checked_code(alloc, file.part, &read)?;
+        match checked_code(alloc, part, &read) {
+            Ok(canon) => Ok(Self::of_code(read, canon)),
+            Err(refusal) => Err(without(read, refusal)),
+        }
+    }
+
+    // The model of pieces that were read, and of the code of their lengths.
+    fn of_code(read: ReadPieces, canon: Canon) -> Self
+        requires code { IsStreamCode (code_read read) }
+        requires canon { canon ≡ read.lengths.items }
+        ensures { result ≡ code_read read }
+    {
         let ReadPieces {
             mut pieces,
             lengths,
         } = read;
         pieces.shrink();
-        Ok(StreamModel {
+        StreamModel {
             pieces: Pieces::Loaded(pieces),
             lengths,
             canon,
-        })
+        }
     }
 
     /// The symbol of a piece.

@@ -13,9 +13,10 @@ ghost use Rattle.mg_model.specs.Damage.{AnswersStanding};
 ghost use Rattle.mg_defs.specs.Marks.{code_of};
 ghost use Rattle.mg_defs.specs.Means.{IsStreamCode};
 ghost use Rattle.mg_model.specs.Models.{PartsHold, PartsStand};
-ghost use Rattle.mg_model.specs.Loading.{AnswersModel, OnlyModelChanges, ReadsOnce, ReadsWordsFirst, SkipsIfShort};
+ghost use Rattle.mg_model.specs.Loading.{AnswersModel, LoadsModel, OnlyModelChanges, ReadsOnce, ReadsWordsFirst, SkipsIfShort};
 ghost use Rattle.mg_model.specs.Read.{ToldUnread};
 
+use crate::dropping::without;
 use crate::stream_model::StreamModel;
 use crate::{Stream, Vocab};
 use mg_canon::Canon;
@@ -54,9 +55,14 @@ impl TextModel {
         ensures other_lengths { IfOk result
             (λ model. IsHuffman (counts_of others) model.others.lengths) }
     {
-        let words = StreamModel::of(alloc, words)?;
-        let others = StreamModel::of(alloc, others)?;
-        Ok(TextModel { words, others })
+        let words = match StreamModel::of(alloc, words) {
+            Ok(words) => words,
+            Err(refusal) => return Err(without(others, refusal)),
+        };
+        match StreamModel::of(alloc, others) {
+            Ok(others) => Ok(TextModel { words, others }),
+            Err(refusal) => Err(without(words, refusal)),
+        }
     }
 
     /// Writes the parts Words and Nonwords (docs/FORMAT.md).
@@ -132,23 +138,8 @@ impl TextModel {
     ) -> Result<Self, PartErr>
         requires words { words ≤ 2 ^ 22 }
         requires others { others ≤ 2 ^ 22 }
-        ensures answer { IsSome (S.files store.old) →
-            AnswersModel base.now words others (S.files store.old) result }
-        ensures looked { Between S.files S.reads S.faults store.old store.new
-            (LookedAt Part.Words Part.Nonwords) }
-        ensures words_once { Between S.files S.reads S.faults store.old store.new
-            (ReadsOnce base.now Part.Words words result) }
-        ensures others_once { Between S.files S.reads S.faults store.old store.new
-            (ReadsOnce base.now Part.Nonwords others result) }
-        ensures words_unread { Between S.files S.reads S.faults store.old store.new
-            (SkipsIfShort base.now Part.Words words) }
-        ensures others_unread { Between S.files S.reads S.faults store.old store.new
-            (SkipsIfShort base.now Part.Nonwords others) }
-        ensures words_first { Between S.files S.reads S.faults store.old store.new
-            (ReadsWordsFirst base.now words) }
-        ensures words_told { IsSome (S.files store.old) →
-            ToldUnread (S.reads store.old) (S.reads store.new) result }
-        ensures cause { HasPartCause (S.faults store.old) (S.faults store.new) result }
+        ensures { Between S.files S.reads S.faults store.old store.new
+            (LoadsModel base.now words others result) }
     {
         let word_part = FileRef {
             base,
@@ -162,11 +153,10 @@ impl TextModel {
             Ok(words) => words,
             Err(refusal) => return Err(refusal),
         };
-        let others = match StreamModel::load(alloc, store, other_part, others) {
-            Ok(others) => others,
-            Err(refusal) => return Err(refusal),
-        };
-        Ok(TextModel { words, others })
+        match StreamModel::load(alloc, store, other_part, others) {
+            Ok(others) => Ok(TextModel { words, others }),
+            Err(refusal) => Err(without(words, refusal)),
+        }
     }
 
     fn stream(&self, stream: Stream) -> &StreamModel

@@ -1,14 +1,11 @@
-use Rattle.std.proofs.Common.{sym, subst, IsSome, Err}
-use Rattle.mg_dev.specs.Files.{bytes_at}
-use Rattle.mg_dev.specs.Names.{full_name}
-use Rattle.mg_dev.specs.declared.part.Part.TheVariants.{Nonwords}
-use Rattle.mg_model.specs.Damage.{AnswersStream}
-use Rattle.mg_model.proofs.Standing.{second-damage}
+use Rattle.mg_model.proofs.Loading.{both-loaded, others-refused, words-refused}
 use Rattle.mg_model.proofs.text_model.TextModel.load_parts.Goals as goal
 
-pub returns-in-Err-load-clause-answer : goal.returns-in-Err-load-clause-answer
-returns-in-Err-load-clause-answer g c = λ told.
-    let same = c.in-Ok.ensures.looked.files in
-    let here : IsSome (g.S.Store.files c.load.new.store) = subst (λ f. IsSome f) (sym same) told in
-    let there = subst (λ f. AnswersStream Nonwords c.args.others (bytes_at f (full_name c.args.base.now Nonwords)) (Err c.in-Err-load.refusal)) same (c.in-Err-load.ensures.answer here) in
-    second-damage c.args.words c.args.others _ _ c.in-Ok.words c.in-Err-load.refusal (c.in-Ok.ensures.answer told) there
+pub returns-in-Err : goal.returns-in-Err
+returns-in-Err g c = words-refused c.in-Err.ensures
+
+pub returns-in-Err-load : goal.returns-in-Err-load
+returns-in-Err-load g c = rw c.without.ensures (others-refused c.in-Ok.ensures c.in-Err-load.ensures)
+
+pub returns-in-Ok-load : goal.returns-in-Ok-load
+returns-in-Ok-load g c = both-loaded c.in-Ok.ensures c.in-Ok-load.ensures
