@@ -1,5 +1,5 @@
 //! The numbers of terms.
-ghost use Rattle.std.specs.Prelude.{◌≡◌, ◌-◌, ◌<◌, ◌≤◌, ◌^◌, length, take, slice_get, Some, IfOk, OnOk};
+ghost use Rattle.std.specs.Prelude.{◌≡◌, ◌-◌, ◌<◌, ◌≤◌, ◌^◌, [], length, take, slice_get, Some, IfOk, OnOk};
 ghost use Rattle.std.specs.List.Sorted.{IsStrictlySortedBy};
 ghost use Rattle.std.specs.Ordering.{nat_cmp};
 ghost use Rattle.std.specs.Cmp.Lexicographic.{slice_cmp};
@@ -8,6 +8,7 @@ ghost use Rattle.mg_defs.specs.Vocabulary.{total};
 ghost use Rattle.mg_model.specs.Terms.{counted_term, place_in, terms_and_numbers};
 ghost use Rattle.mg_model.specs.Vocabularies.{pieces_of};
 
+use crate::dropping::without;
 use crate::{Stream, TextModel, Vocab};
 use mg_parse::{PIECE_BYTES, fold};
 use std::alloc::{AllocError, Global};
@@ -91,9 +92,14 @@ impl TermTable {
     pub fn of(alloc: Global, model: &TextModel) -> Result<Self, AllocError>
         ensures { IfOk result (λ table. table ≡ terms_and_numbers model.now.words.pieces) }
     {
-        let terms = sorted_terms(alloc, model)?;
-        let numbers = term_numbers(alloc, model, &terms)?;
-        Ok(TermTable { terms, numbers })
+        let terms = match sorted_terms(alloc, model) {
+            Ok(terms) => terms,
+            Err(refusal) => return Err(refusal),
+        };
+        match term_numbers(alloc, model, &terms) {
+            Ok(numbers) => Ok(TermTable { terms, numbers }),
+            Err(refusal) => Err(without(terms, refusal)),
+        }
     }
 
     /// The number of terms, at most 2^22. They are distinct, and rise by their bytes.
@@ -128,13 +134,27 @@ fn sorted_terms(alloc: Global, model: &TextModel) -> Result<Vocab, AllocError>
     ensures { IfOk result (λ terms. pieces_of terms
         ≡ (terms_and_numbers model.now.words.pieces).terms) }
 {
-    let words = model.canon(Stream::Words).count();
     let mut terms = Vocab::new(alloc);
-    for symbol in 0..words {
-        count_term(&mut terms, model.piece(Stream::Words, symbol))?;
+    match count_terms(&mut terms, model) {
+        Ok(()) => Ok(terms),
+        Err(refusal) => Err(without(terms, refusal)),
     }
-    terms.sort()?;
-    Ok(terms)
+}
+
+/// Counts the terms of a model's words, and sorts them.
+fn count_terms(terms: &mut Vocab, model: &TextModel) -> Result<(), AllocError>
+    requires none { terms.old ≡ [] }
+    ensures { OnOk result (pieces_of terms.new
+        ≡ (terms_and_numbers model.now.words.pieces).terms) }
+{
+    let words = model.canon(Stream::Words).count();
+    for symbol in 0..words {
+        match count_term(terms, model.piece(Stream::Words, symbol)) {
+            Ok(()) => {}
+            Err(refusal) => return Err(refusal),
+        }
+    }
+    terms.sort()
 }
 
 /// The number of the term of each of a model's words.

@@ -7,4 +7,4 @@ use Rattle.mg_defs.proofs.SortedLaws.{sorted-rising}
 use Rattle.mg_model.proofs.term_table.TermTable.of.Goals as goal
 
 pub invariant_of-result : goal.invariant_of-result
-invariant_of-result c = subst (IsStrictlySortedBy (slice_cmp nat_cmp)) (sym c.in_ok-terms.ensures) (sorted-rising (terms_of_words c.args.model.now.words.pieces))
+invariant_of-result c = subst (IsStrictlySortedBy (slice_cmp nat_cmp)) (sym c.in-Ok.ensures) (sorted-rising (terms_of_words c.args.model.now.words.pieces))
