@@ -122,14 +122,14 @@ not-found piece (e ∷ es) is = by (bytes_eq piece e.0.items) is (not-found piec
     by true is later = absurd cc
     by false is later = later is
 
--- a piece that was not found is put in last
-pub counted-new : (piece : List ℕ) (es : List (Vec ℕ Global × ℕ)) (key : Vec ℕ Global) → lookup (sought piece) es ≡ None → key.items ≡ piece →
+-- a piece that is not there is put in last
+pub counted-new : (piece : List ℕ) (es : List (Vec ℕ Global × ℕ)) (key : Vec ℕ Global) → has_piece (entries_of es) piece ≡ false → key.items ≡ piece →
     entries_of (insert_entry same_bytes es key 1) ≡ counted piece (entries_of es)
 counted-new piece [] key is same = ap (λ p. (p, 1) ∷ []) same
 counted-new piece (e ∷ es) key is same = by (bytes_eq piece e.0.items) refl is (λ h. counted-new piece es key h same)
   where
-    by : (b : Bool) → bytes_eq piece e.0.items ≡ b → cond b (Some e.1) (lookup (sought piece) es) ≡ None
-        → (lookup (sought piece) es ≡ None → entries_of (insert_entry same_bytes es key 1) ≡ counted piece (entries_of es))
+    by : (b : Bool) → bytes_eq piece e.0.items ≡ b → (b || has_piece (entries_of es) piece) ≡ false
+        → (has_piece (entries_of es) piece ≡ false → entries_of (insert_entry same_bytes es key 1) ≡ counted piece (entries_of es))
         → entries_of (insert_entry same_bytes (e ∷ es) key 1) ≡ counted piece (entries_of (e ∷ es))
     by true here is later = absurd cc
     by false other is later =

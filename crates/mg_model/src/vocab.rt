@@ -72,6 +72,18 @@ impl Vocab {
             *count += 1;
             return Ok(());
         }
+        self.add(piece)
+    }
+
+    // Adds a piece that is not there, last.
+    fn add(&mut self, piece: &[u8]) -> Result<(), VocabErr>
+        requires absent { has_piece self.old piece.now ≡ false }
+        requires total { total self.old < 2 ^ 32 - 1 }
+        requires short { length piece.now ≤ 255 }
+        ensures counted { OnOk result (self.new ≡ counted piece.now self.old) }
+        ensures full { IsErrOf result VocabErr.TooMany ↔ (length self.old ≡ 2 ^ 22) }
+        ensures err { OnErr result (self.new ≡ self.old) }
+    {
         if self.counts.len() >= MOST_PIECES {
             return Err(VocabErr::TooMany);
         }
