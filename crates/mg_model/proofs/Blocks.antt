@@ -1,5 +1,5 @@
 -- Pieces by entries of sixteen bytes.
-use Rattle.std.proofs.Common.{◌≡◌, ℕ, suc, ◌+◌, ◌<◌, ◌≤◌, ◌⊎◌, inl, inr, true, false, leb, List, [], ◌∷◌, ◌++◌, length, take, drop, map, get_or, refl, sym, ap, ◌∙◌, arith, length-take}
+use Rattle.std.proofs.Common.{◌≡◌, ℕ, zero, suc, ◌+◌, ◌<◌, ◌≤◌, ◌⊎◌, inl, inr, true, false, leb, List, [], ◌∷◌, ◌++◌, length, take, drop, map, get_or, slice_get, Some, refl, sym, ap, ◌∙◌, arith, length-take}
 use Rattle.std.specs.List.{AllByRecursion}
 use Rattle.std.proofs.lemmas.Bool.Decides.{leb_tells, nat_tests}
 use Rattle.std.proofs.lemmas.Grind.{common_steps}
@@ -72,3 +72,15 @@ length-pieces long (entry ∷ entries) = ap suc (length-pieces long entries)
 pub pieces-short : (size : ℕ) (long : List ℕ) (entries : List (List ℕ)) → AllByRecursion (IsPieceEntry size) entries → AllByRecursion (λ (p : List ℕ). length p ≤ 255) (map (piece_of long) entries)
 pieces-short size long [] all = tt
 pieces-short size long (entry ∷ entries) all = (piece-short size long entry all.0, pieces-short size long entries all.1)
+
+-- ---- the piece at a place
+
+pub piece-there : (long : List ℕ) (entries : List (List ℕ)) (place : ℕ) → place < length entries → slice_get (map (piece_of long) entries) place ≡ Some (piece_of long (get_or entries place []))
+piece-there long [] place low = absurd (omega arith)
+piece-there long (entry ∷ entries) zero low = refl
+piece-there long (entry ∷ entries) (suc place) low = piece-there long entries place (omega arith)
+
+pub entry-is : (size : ℕ) (entries : List (List ℕ)) (place : ℕ) → AllByRecursion (IsPieceEntry size) entries → place < length entries → IsPieceEntry size (get_or entries place [])
+entry-is size [] place all low = absurd (omega arith)
+entry-is size (entry ∷ entries) zero all low = all.0
+entry-is size (entry ∷ entries) (suc place) all low = entry-is size entries place all.1 (omega arith)
