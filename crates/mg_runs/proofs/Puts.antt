@@ -24,7 +24,8 @@ wrote_more : {T : Type 0} (u v w : BitWriting) (f g h : Option Files) (one two :
 wrote_more u v w f g h one two (Ok x) told first second = bits_more f g h u v w one two told first second
 wrote_more u v w f g h one two (Err e) told first second = tt
 
-cause_more : {T : Type 0} {l m n : ℕ} (result : Result T PutErr) → l ≤ m → HasPutCause m n result → HasPutCause l n result
+-- a cause behind calls that were done
+pub cause_more : {T : Type 0} {l m n : ℕ} (result : Result T PutErr) → l ≤ m → HasPutCause m n result → HasPutCause l n result
 cause_more result le cause = record { later = omega (arith, le, cause.later); failed = λ e. let rose = cause.failed e in omega arith }
 
 -- bits behind others

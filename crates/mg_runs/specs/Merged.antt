@@ -80,6 +80,25 @@ pub record EndsRun {T : Type 0} (pool_old pool_new : Pooled) (old new : BitWriti
   -- a refusal has a cause
   pub cause : HasPutCause faults_before faults_now result
 
+-- what was taken is all in runs, and their part is ended
+pub record RunsClosed {T : Type 0} (old new : Inverting) (result : Result T PutErr) (files_before files_now : Option Files)
+    (reads_before reads_now : Reads) (faults_before faults_now : ℕ) : Type 0 where
+  -- Run has them, and bytes
+  pub run : IsSome files_before → ForFed old files_before (λ fed. OnOk result (HasRunBits old files_now fed))
+  pub bytes : IsSome files_before → OnOk result (AreBytes (bytes_at files_now (full_name old.base Run)))
+  -- where they begin
+  pub places : ForFed old files_before (λ fed. OnOk result (new.places ≡ starts 0 (runs_of (cap_of old.pool) fed)))
+  -- the pool is empty, and what it may hold and held is as before
+  pub entries : OnOk result (new.pool.entries ≡ [])
+  pub limit : new.pool.limit ≡ old.pool.limit
+  pub peak : new.pool.peak ≡ old.pool.peak
+  -- the base stays
+  pub base : new.base ≡ old.base
+  -- nothing else was written
+  pub wrote : WroteTo (full_name old.base Run) files_before files_now reads_before reads_now
+  -- a refusal has a cause
+  pub cause : HasPutCause faults_before faults_now result
+
 -- what was taken is all in runs of Run
 pub record RunsFinished (old : Inverting) (result : Result Round PartErr) (files_before files_now : Option Files)
     (reads_before reads_now : Reads) (faults_before faults_now : ℕ) : Type 0 where

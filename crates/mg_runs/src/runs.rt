@@ -19,7 +19,7 @@ ghost use Rattle.mg_runs.specs.Fed.{IsFed, cap_of, starts, ForFed, TookOne, HasR
 ghost use Rattle.mg_runs.specs.Joins.{Worked};
 ghost use Rattle.mg_runs.specs.Left.{IsMerging, postings_left};
 ghost use Rattle.mg_runs.specs.Stays.{SameButRuns};
-ghost use Rattle.mg_runs.specs.Merged.{EndsRun, MayEnd, RunsFinished, RunsMerged};
+ghost use Rattle.mg_runs.specs.Merged.{EndsRun, MayEnd, RunsClosed, RunsFinished, RunsMerged};
 ghost use Rattle.mg_dev.specs.Moments.{Between};
 
 use crate::join::refused;
@@ -184,30 +184,37 @@ impl<'a> Runs<'a> {
 
     /// Writes the rest of the occurrences as the last run, and ends the part. No occurrence at all
     /// gives no run.
+    fn close<S: Store>(&mut self, store: &mut S) -> Result<(), PutErr>
+        requires fed { (fed : List (ℕ × ℕ)) × IsFed self.old (S.files store.old) fed }
+        ensures { Between S.files S.reads S.faults store.old store.new
+            (RunsClosed self.old self.new result) }
+    {
+        if self.pool.used() > 0 {
+            match end_run(&mut self.pool, &mut self.writer, &mut self.places, store) {
+                Ok(()) => {}
+                Err(refusal) => return Err(refusal),
+            }
+        }
+        match self.writer.finish(store) {
+            Ok(()) => {}
+            Err(refusal) => return Err(refusal),
+        }
+        Ok(())
+    }
+
+    /// The runs of all occurrences, in a part that is ended.
     fn finish<S: Store>(self, store: &mut S) -> Result<Round<'a>, PartErr>
         requires fed { (fed : List (ℕ × ℕ)) × IsFed self (S.files store.old) fed }
         ensures { Between S.files S.reads S.faults store.old store.new
             (RunsFinished self.entry result) }
     {
-        let Runs {
-            mut pool,
-            mut writer,
-            mut places,
-            base,
-            ..
-        } = self;
-        if pool.used() > 0 {
-            match end_run(&mut pool, &mut writer, &mut places, store) {
-                Ok(()) => {}
-                Err(refusal) => return Err(refused(refusal)),
-            }
-        }
-        match writer.finish(store) {
+        let mut runs = self;
+        match runs.close(store) {
             Ok(()) => Ok(Round {
-                pool,
-                places,
+                pool: runs.pool,
+                places: runs.places,
                 file: FileRef {
-                    base,
+                    base: runs.base,
                     part: Part::Run,
                 },
             }),
