@@ -10,7 +10,7 @@ use Rattle.mg_dev.specs.PartCauses.{HasPartCause}
 use Rattle.mg_dev.specs.declared.part_err.PartErr.{PartErr}
 use Rattle.mg_defs.specs.Bits.{Bits, digits, filled, to_byte}
 use Rattle.mg_defs.specs.Codes.{gamma}
-use Rattle.mg_defs.specs.Postings.{IsBefore, AllAfter}
+use Rattle.mg_defs.specs.Postings.{IsBefore, AllAfter, merged}
 use Rattle.mg_defs.specs.RunBits.{before_first, run_posting_bits, postings_bits, run_bits}
 use Rattle.mg_defs.specs.declared.TermPosting.{TermPosting}
 use Rattle.mg_bits.specs.Pages.{Looked}
@@ -18,7 +18,8 @@ use Rattle.mg_bits.specs.Writer.{WroteTo}
 use Rattle.mg_bits.specs.BitWriting.{BitWriting, WroteBits, bits_put}
 use Rattle.mg_bits.proofs.CallerLemmas.{bits_more, bits_none}
 use Rattle.mg_runs.specs.Cursors.{IsRun}
-use Rattle.mg_runs.specs.Merging.{first, AreLeft}
+use Rattle.mg_runs.specs.Merging.{first, AreLeft, AreRuns, StandFor}
+use Rattle.mg_runs.specs.Rounds.{IsGroupAt}
 use Rattle.mg_runs.specs.Joins.{IsCounting, IsPutting, Passed}
 use Rattle.mg_runs.specs.declared.cursor.Cursor.{Cursor}
 use Rattle.mg_runs.proofs.CursorLaws.{after_start}
@@ -169,3 +170,12 @@ run_written {f0 = f0} {f1 = f1} {f2 = f2} {f3 = f3} {w0 = w0} {w1 = w1} {w2 = w2
     let p : w2.place ≡ w0.place + length (run_bits xs) = run.place in
     let q : to_byte w2.place ≡ to_byte (length (run_bits xs)) = ap (λ k. to_byte k) p ∙ to_byte_same w0.place (length (run_bits xs)) whole in
     bits_more f0 f2 f3 w0 w2 w3 (run_bits xs) (digits (to_byte (length (run_bits xs))) 0) (t2 ∙ t1) run (subst (λ k. WroteBits w2 w3 f2 f3 (digits k 0)) q d)
+
+-- what cursors have left of runs, merged
+pub merged_left : {slots : List (List ℕ)} {cursors : List Cursor} {file : List ℕ} {runs : List (List TermPosting)} →
+    StandFor slots cursors file runs → AreRuns runs → AreLeft slots cursors file (merged runs)
+merged_left {runs = runs} stand are = record { lefts = runs; stand = stand; are = are; same = refl }
+
+-- behind its number of postings a run has room
+pub merged_room : {runs : List (List TermPosting)} {place : ℕ} → IsGroupAt runs place → place + 66 + 256 * length (merged runs) ≤ 2 ^ 61
+merged_room is = omega (arith, is.few, is.below)

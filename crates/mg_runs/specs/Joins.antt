@@ -92,15 +92,16 @@ abbrev pub WrotePostings : {X : Type 0} → (X → Option Files) → X → X →
     Type 0
 WrotePostings files before now old new xs = WroteBits old new (files before) (files now) (postings_bits before_first xs)
 
--- these runs, merged into one that ends at a byte, were written
-abbrev pub WroteRun : {X : Type 0} → (X → Option Files) → X → X → BitWriting → BitWriting → List (List TermPosting) →
-    Type 0
-WroteRun files before now old new runs = WroteBits old new (files before) (files now) (filled (run_bits (merged runs)))
+-- at `Ok` these postings were written as a run that ends at a byte
+abbrev pub WritesPostings : {X T E : Type 0} → (X → Option Files) → X → X → BitWriting → BitWriting → Result T E →
+    List TermPosting → Type 0
+WritesPostings files before now old new result xs =
+    OnOk result (WroteBits old new (files before) (files now) (filled (run_bits xs)))
 
--- at `Ok` these runs were written as that one
+-- at `Ok` these runs were written as one, merged
 abbrev pub WritesRun : {X T E : Type 0} → (X → Option Files) → X → X → BitWriting → BitWriting → Result T E →
     List (List TermPosting) → Type 0
-WritesRun files before now old new result runs = OnOk result (WroteRun files before now old new runs)
+WritesRun files before now old new result runs = WritesPostings files before now old new result (merged runs)
 
 -- so many postings were counted as these runs have, merged
 abbrev pub Counts : Counted → List (List TermPosting) → Type 0

@@ -10,7 +10,7 @@ ghost use Rattle.mg_runs.specs.Cursors.{NoDamage};
 ghost use Rattle.mg_runs.specs.Damages.{NamesItsPart, NamesPart};
 ghost use Rattle.mg_runs.specs.Merging.{AreRuns, left_together};
 ghost use Rattle.mg_runs.specs.PostingOrder.{Follows};
-ghost use Rattle.mg_runs.specs.Joins.{WrotePostings, WritesRun, Counts};
+ghost use Rattle.mg_runs.specs.Joins.{WrotePostings, WritesPostings, WritesRun, Counts};
 ghost use Rattle.mg_runs.specs.Reading.{ForCounted, ForRuns, ForGroup, ForLeft, ForLeftRun, ForPutting, GroupShaped, PutSince};
 ghost use Rattle.mg_runs.specs.Steps.{GroupLook, GroupWrite, HasSlots, LookStep, MayWrite, PoolBack, RunStep};
 
@@ -180,9 +180,46 @@ fn count_runs<S: Store>(
     }
 }
 
-/// Writes the postings of the runs that begin at these bit places of a file, which are so many, as
-/// one run, which ends at a byte.
+/// Writes the postings of the runs, which are so many, as one run, which ends at a byte.
 fn put_run<S: Store>(
+    group: &mut Group<'_>,
+    store: &mut S,
+    w: &mut BitWriter<'_>,
+    count: u64,
+) -> Result<(), PartErr>
+    requires shape { GroupShaped group.old }
+    requires writer { MayWrite group.old.file w.old (S.files store.old) }
+    requires count_some { 1 ≤ count }
+    requires count_few { count < 2 ^ 32 }
+    requires whole { w.old.place % 8 ≡ 0 }
+    requires place { w.old.place ≤ 2 ^ 61 }
+    ensures told { ForLeftRun group.old (S.files store.old) (w.old.place + 66) (λ left.
+        count ≡ length left →
+        WritesPostings S.files store.old store.new w.old w.new result left) }
+    ensures undamaged { ForLeftRun group.old (S.files store.old) (w.old.place + 66)
+        (λ _. NoDamage result) }
+    ensures place { OnOk result (w.new.place ≤ 2 ^ 61 + 264) }
+    ensures whole { OnOk result (w.new.place % 8 ≡ 0) }
+    ensures step { Between S.files S.reads S.faults store.old store.new
+        (GroupWrite group.old group.new w.old w.new result) }
+{
+    match put_number(w, store, count) {
+        Ok(()) => {}
+        Err(refusal) => return Err(refused(refusal)),
+    }
+    match put_postings(group, store, w) {
+        Ok(()) => {}
+        Err(refusal) => return Err(refusal),
+    }
+    match w.align(store) {
+        Ok(()) => Ok(()),
+        Err(refusal) => Err(refused(refusal)),
+    }
+}
+
+/// Joins the runs that begin at these bit places of a file, which have so many postings, into one
+/// run, which ends at a byte.
+fn join_counted<S: Store>(
     alloc: Global,
     store: &mut S,
     counted: Counted,
@@ -209,17 +246,9 @@ fn put_run<S: Store>(
         Ok(group) => group,
         Err(refusal) => return Err(refusal),
     };
-    match put_number(w, store, count) {
-        Ok(()) => {}
-        Err(refusal) => return Err(refused(refusal)),
-    }
-    match put_postings(&mut group, store, w) {
-        Ok(()) => {}
-        Err(refusal) => return Err(refusal),
-    }
-    match w.align(store) {
+    match put_run(&mut group, store, w, count) {
         Ok(()) => Ok(group.into_pool()),
-        Err(refusal) => Err(refused(refusal)),
+        Err(refusal) => Err(refusal),
     }
 }
 
@@ -251,5 +280,5 @@ pub fn join<S: Store>(
     if counted.count == 0 || w.place() > MOST_BITS {
         return Err(damage(file.part, 0));
     }
-    put_run(alloc, store, counted, file, places, w)
+    join_counted(alloc, store, counted, file, places, w)
 }

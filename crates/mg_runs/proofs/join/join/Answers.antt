@@ -9,14 +9,14 @@ pub returns-then-counted-eq0-clause-step : goal.returns-then-counted-eq0-clause-
 returns-then-counted-eq0-clause-step g c =
     run_err (writer_bad c.damage.result (writer_look c.requires.writer.holds c.in-Ok.ensures.read) c.damage.ensures.caused c.damage.ensures.names)
 
-pub put_run-requires-clause-slots : goal.put_run-requires-clause-slots
-put_run-requires-clause-slots g c = slots_back c.requires.slots c.in-Ok.ensures.pool
+pub join_counted-requires-clause-slots : goal.join_counted-requires-clause-slots
+join_counted-requires-clause-slots g c = slots_back c.requires.slots c.in-Ok.ensures.pool
 
-pub put_run-requires-clause-writer : goal.put_run-requires-clause-writer
-put_run-requires-clause-writer g c = record { holds = search rules; apart = c.requires.writer.apart }
+pub join_counted-requires-clause-writer : goal.join_counted-requires-clause-writer
+join_counted-requires-clause-writer g c = record { holds = search rules; apart = c.requires.writer.apart }
 
 pub returns-clause-pool : goal.returns-clause-pool
-returns-clause-pool g c = back_then c.put_run.result c.in-Ok.ensures.pool c.put_run.ensures.pool
+returns-clause-pool g c = back_then c.join_counted.result c.in-Ok.ensures.pool c.join_counted.ensures.pool
 
 pub returns-clause-step : goal.returns-clause-step
-returns-clause-step g c = run_then (writer_look c.requires.writer.holds c.in-Ok.ensures.read) c.put_run.ensures.step
+returns-clause-step g c = run_then (writer_look c.requires.writer.holds c.in-Ok.ensures.read) c.join_counted.ensures.step
