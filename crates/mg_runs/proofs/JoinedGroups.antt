@@ -1,15 +1,15 @@
 -- Groups of runs, joined one after the other.
-use Rattle.std.proofs.Common.{◌≡◌, ℕ, Bool, ◌+◌, ◌-◌, ◌<◌, ◌≤◌, List, [], ◌∷◌, ◌++◌, length, sym, ap, ◌∙◌, subst, arith, take, drop, min, is_some, IsSome, ◌≢◌, ◌%◌}
+use Rattle.std.proofs.Common.{◌≡◌, ℕ, Bool, ◌+◌, ◌-◌, ◌<◌, ◌≤◌, List, [], ◌∷◌, ◌++◌, length, refl, sym, ap, ◌∙◌, subst, arith, take, drop, min, is_some, IsSome, ◌≢◌, ◌%◌}
 use Rattle.std.specs.declared.option.Option.{Option}
 use Rattle.mg_dev.specs.Files.{Files}
 use Rattle.mg_dev.specs.Names.{full_name}
 use Rattle.mg_dev.specs.declared.part.Part.{Part}
 use Rattle.mg_dev.specs.declared.part.Part.TheVariants.{Run, MergeA, MergeB}
-use Rattle.mg_defs.specs.Bits.{bits_of, digits, filled, to_byte}
+use Rattle.mg_defs.specs.Bits.{Bits, bits_of, digits, filled, to_byte}
 use Rattle.mg_defs.specs.Postings.{merged}
 use Rattle.mg_defs.specs.RunBits.{run_bits, runs_bits}
 use Rattle.mg_defs.specs.declared.TermPosting.{TermPosting}
-use Rattle.mg_bits.specs.BitWriting.{BitWriting, WroteBits, bits_put}
+use Rattle.mg_bits.specs.BitWriting.{BitWriting, Holds, WroteBits, bits_put}
 use Rattle.mg_bits.proofs.CallerLemmas.{bits_more, bits_none}
 use Rattle.mg_runs.specs.Merging.{AreRunsAt}
 use Rattle.mg_runs.specs.Rounds.{AreJoined, AreStored, IsGroupAt, joined_runs}
@@ -71,10 +71,19 @@ other_apart base MergeA is = apart base MergeA MergeB (λ e. omega arith)
 other_apart base MergeB is = apart base MergeB MergeA (λ e. omega arith)
 other_apart base part is = absurd (omega (arith, is.low, is.high))
 
+-- nothing was put by a writer that stands at the first bit
+nothing_put : (w : BitWriting) (f : Option Files) → IsSome f → Holds w f → w.place ≡ 0 → bits_put w f ≡ []
+nothing_put w f told holds zero = empty (bits_put w f) (holds.count told ∙ zero)
+  where
+    empty : (bits : Bits) → length bits ≡ 0 → bits ≡ []
+    empty [] h = refl
+    empty (b ∷ bits) h = absurd (omega arith)
+
 -- the runs that a round leaves
 pub round_stored : (file places : List ℕ) (whole : List TermPosting) (width : ℕ) (next made : List ℕ) (f0 f1 : Option Files) (w0 w1 : BitWriting) (is : AreStored file places whole) →
-    IsJoined width is.runs made f0 f1 w0 w1 → IsSome f0 → bits_put w0 f0 ≡ [] → w1.place % 8 ≡ 0 →
+    IsJoined width is.runs made f0 f1 w0 w1 → IsSome f0 → Holds w0 f0 → w0.place ≡ 0 → w1.place % 8 ≡ 0 →
     bits_of next ≡ bits_put w1 f1 ++ digits (to_byte w1.place) 0 → 1 ≤ width → width < length places → AreStored next made whole
-round_stored file places whole width next made f0 f1 w0 w1 is joined told empty aligned bits some more =
+round_stored file places whole width next made f0 f1 w0 w1 is joined told holds zero aligned bits some more =
+    let empty = nothing_put w0 f0 told holds zero in
     let put : bits_put w1 f1 ≡ runs_bits (joined_runs width is.runs) = joined.wrote.told told ∙ ap (λ b. b ++ runs_bits (joined_runs width is.runs)) empty in
     stored_next file places next made whole width is some more (bits ∙ finished_bits w1.place (bits_put w1 f1) aligned ∙ put) joined.stand

@@ -2,7 +2,7 @@
 use Rattle.std.specs.Prelude.{◌≡◌, ◌≢◌, ◌≤◌, ◌+◌, ◌-◌, ◌*◌, ◌/◌, ◌%◌, ◌^◌, ℕ, List, [], length, max, OnOk, IfOk, IfErr}
 use Rattle.std.specs.declared.option.Option.{Option}
 use Rattle.std.specs.declared.result.Result.{Result}
-use Rattle.mg_dev.specs.Files.{Files, Reads}
+use Rattle.mg_dev.specs.Files.{Files, Reads, bytes_at}
 use Rattle.mg_dev.specs.Names.{full_name}
 use Rattle.mg_dev.specs.PartCauses.{HasPartCause, IsCaused}
 use Rattle.mg_dev.specs.declared.file_ref.FileRef.{FileRef}
@@ -17,9 +17,11 @@ use Rattle.mg_runs.specs.Joins.{IsRunPart, Passed, Worked, other}
 use Rattle.mg_runs.specs.Merging.{left_together}
 use Rattle.mg_runs.specs.Pooled.{Pooled, SamePool}
 use Rattle.mg_runs.specs.Reading.{ForRound, ForRuns, GroupShaped, GroupStands, RoundHas, next_name, peak_with}
+use Rattle.mg_runs.specs.Rounds.{AreStored}
 use Rattle.mg_runs.specs.Slots.{ChangesOneSlot}
 use Rattle.mg_runs.specs.Stays.{SamePart}
 use Rattle.mg_runs.specs.declared.group.Group.{Group}
+use Rattle.mg_runs.specs.declared.round.Joined.{Joined}
 use Rattle.mg_runs.specs.declared.round.Round.{Round}
 
 -- ---- what a step starts from
@@ -177,6 +179,24 @@ pub record WorkStep {T : Type 0} (base : List ℕ) (result : Result T PartErr) (
   pub names : IfErr result NamesItsPart
 
 -- ---- rounds
+
+-- the runs of a round, so many at a time, are joined into runs of the file of this name, which is ended
+pub record RoundWritten (width : ℕ) (old : Round) (name : List ℕ) (result : Result Joined PartErr)
+    (files_before files_now : Option Files)
+    (reads_before reads_now : Reads) (faults_before faults_now : ℕ) : Type 0 where
+  -- they are the same postings
+  pub told : ForRound old files_before (λ whole.
+      IfOk result (λ made. AreStored (bytes_at files_now name) made.places.items whole))
+  -- where the file has such runs, there is no damage
+  pub undamaged : ForRound old files_before (λ _. NoDamage result)
+  -- how many runs these are
+  pub count : IfOk result
+      (λ made. length made.places.items ≡ (length old.places.items + width - 1) / width)
+  -- the pool
+  pub pool : IfOk result (λ made. PoolBack width old.pool made.pool)
+  -- nothing else was read or written
+  pub step : PassStep old.file.part name result files_before files_now reads_before reads_now
+      faults_before faults_now
 
 -- the runs of a round, so many at a time, are joined into the runs of the next one
 pub record RoundJoined (width : ℕ) (old : Round) (result : Result Round PartErr) (files_before files_now : Option Files)

@@ -4,7 +4,7 @@ ghost use Rattle.mg_dev.specs.Moments.{Between};
 ghost use Rattle.mg_runs.specs.Cursors.{NoDamage};
 ghost use Rattle.mg_runs.specs.Joins.{IsRunPart, other, GroupsJoined};
 ghost use Rattle.mg_runs.specs.Reading.{ForStored};
-ghost use Rattle.mg_runs.specs.Steps.{HasSlots, MayWrite, PoolBack, RoundJoined, RoundsDone, RunStep};
+ghost use Rattle.mg_runs.specs.Steps.{HasSlots, MayWrite, PoolBack, RoundJoined, RoundWritten, RoundsDone, RunStep};
 
 use crate::Pool;
 use crate::join::{join, refused};
@@ -18,6 +18,13 @@ pub struct Round<'a> {
     pub pool: Pool,
     pub places: Vec<u64>,
     pub file: FileRef<'a>,
+}
+
+/// Runs of a file, which begin at these bit places.
+#[derive(Clone, Copy)]
+struct Stored<'a> {
+    file: FileRef<'a>,
+    places: &'a [u64],
 }
 
 /// A pool, and where runs begin that were joined through it.
@@ -43,24 +50,25 @@ fn join_groups<S: Store>(
     alloc: Global,
     store: &mut S,
     mut pool: Pool,
-    file: FileRef<'_>,
-    places: &[u64],
+    runs: Stored<'_>,
     width: usize,
     w: &mut BitWriter<'_>,
 ) -> Result<Joined, PartErr>
     requires slots { HasSlots pool width }
-    requires more { width < length places.now }
-    requires writer { MayWrite file w.old (S.files store.old) }
+    requires more { width < length runs.places.now }
+    requires writer { MayWrite runs.file w.old (S.files store.old) }
     requires place { w.old.place ≡ 0 }
-    ensures told { ForStored file.entry (S.files store.old) places.now
+    ensures told { ForStored runs.entry.file (S.files store.old) runs.entry.places.now
         (λ runs. IfOk result (GroupsJoined width runs S.files store.old store.new w.old w.new)) }
-    ensures undamaged { ForStored file.entry (S.files store.old) places.now (λ _. NoDamage result) }
+    ensures undamaged { ForStored runs.entry.file (S.files store.old) runs.entry.places.now
+        (λ _. NoDamage result) }
     ensures count { IfOk result (λ made. length made.places.items
-        ≡ (length places.now + width - 1) / width) }
+        ≡ (length runs.entry.places.now + width - 1) / width) }
     ensures pool { IfOk result (λ made. PoolBack width pool made.pool) }
     ensures step { Between S.files S.reads S.faults store.old store.new
-        (RunStep file.entry.part w.old w.new result) }
+        (RunStep runs.entry.file.part w.old w.new result) }
 {
+    let Stored { file, places } = runs;
     let mut made = match Vec::with_capacity(alloc, places.len() / width + 1) {
         Ok(made) => made,
         Err(_) => return Err(PartErr::Memory),
@@ -82,6 +90,36 @@ fn join_groups<S: Store>(
 }
 
 impl<'a> Round<'a> {
+    /// Joins the runs, so many at a time, into a file to which its writer has put nothing yet, and
+    /// ends the file.
+    fn join_into<S: Store>(
+        self,
+        alloc: Global,
+        store: &mut S,
+        width: usize,
+        w: &mut BitWriter<'_>,
+    ) -> Result<Joined, PartErr>
+        requires slots { HasSlots self.pool width }
+        requires more { width < length self.places.items }
+        requires writer { MayWrite self.file w.old (S.files store.old) }
+        requires place { w.old.place ≡ 0 }
+        ensures { Between S.files S.reads S.faults store.old store.new
+            (RoundWritten width self.entry w.old.name result) }
+    {
+        let Round { pool, places, file } = self;
+        let runs = Stored {
+            file,
+            places: &places,
+        };
+        match join_groups(alloc, store, pool, runs, width, w) {
+            Ok(made) => match w.finish(store) {
+                Ok(()) => Ok(made),
+                Err(refusal) => Err(refused(refusal)),
+            },
+            Err(refusal) => Err(refusal),
+        }
+    }
+
     /// The runs, so many at a time, joined into runs of another merge part, which held nothing
     /// that is still needed.
     fn joined<S: Store>(
@@ -96,24 +134,20 @@ impl<'a> Round<'a> {
         ensures { Between S.files S.reads S.faults store.old store.new
             (RoundJoined width self.entry result) }
     {
-        let Round { pool, places, file } = self;
         let to = FileRef {
-            base: file.base,
-            part: other_part(file.part),
+            base: self.file.base,
+            part: other_part(self.file.part),
         };
         let mut w = match BitWriter::start(alloc, store, to) {
             Ok(w) => w,
             Err(refusal) => return Err(refused(refusal)),
         };
-        match join_groups(alloc, store, pool, file, &places, width, &mut w) {
-            Ok(made) => match w.finish(store) {
-                Ok(()) => Ok(Round {
-                    pool: made.pool,
-                    places: made.places,
-                    file: to,
-                }),
-                Err(refusal) => Err(refused(refusal)),
-            },
+        match self.join_into(alloc, store, width, &mut w) {
+            Ok(made) => Ok(Round {
+                pool: made.pool,
+                places: made.places,
+                file: to,
+            }),
             Err(refusal) => Err(refusal),
         }
     }
