@@ -1,9 +1,9 @@
 //! Rounds: the runs of one part, joined into fewer runs of another.
-ghost use Rattle.std.specs.Prelude.{◌≡◌, ◌≤◌, ◌<◌, ◌+◌, ◌-◌, ◌/◌, [], IfOk, length};
+ghost use Rattle.std.specs.Prelude.{◌≡◌, ◌≤◌, ◌<◌, ◌+◌, ◌-◌, ◌/◌, ◌%◌, ◌++◌, [], ◌∷◌, IfOk, length};
 ghost use Rattle.mg_dev.specs.Moments.{Between};
 ghost use Rattle.mg_runs.specs.Cursors.{NoDamage};
-ghost use Rattle.mg_runs.specs.Joins.{IsRunPart, other, GroupsJoined};
-ghost use Rattle.mg_runs.specs.Reading.{ForStored};
+ghost use Rattle.mg_runs.specs.Joins.{IsRunPart, WritesRun, other, GroupsJoined};
+ghost use Rattle.mg_runs.specs.Reading.{ForGroup, ForStored};
 ghost use Rattle.mg_runs.specs.Steps.{HasSlots, MayWrite, PoolBack, RoundJoined, RoundWritten, RoundsDone, RunStep};
 
 use crate::Pool;
@@ -44,12 +44,48 @@ fn other_part(part: Part) -> Part
     }
 }
 
+/// Joins the runs that begin at these bit places of a file behind those that were joined before,
+/// and keeps where the new run begins.
+fn join_next<S: Store>(
+    alloc: Global,
+    store: &mut S,
+    mut made: Joined,
+    file: FileRef<'_>,
+    places: &[u64],
+    w: &mut BitWriter<'_>,
+) -> Result<Joined, PartErr>
+    requires slots { HasSlots made.pool (length places.now) }
+    requires writer { MayWrite file w.old (S.files store.old) }
+    requires whole { w.old.place % 8 ≡ 0 }
+    ensures told { ForGroup file.entry (S.files store.old) places.now w.old.place
+        (WritesRun S.files store.old store.new w.old w.new result) }
+    ensures undamaged { ForGroup file.entry (S.files store.old) places.now w.old.place
+        (λ _. NoDamage result) }
+    ensures pool { IfOk result (λ next. PoolBack (length places.now) made.pool next.pool) }
+    ensures places { IfOk result (λ next. next.places.items
+        ≡ made.places.items ++ w.old.place ∷ []) }
+    ensures step { Between S.files S.reads S.faults store.old store.new
+        (RunStep file.entry.part w.old w.new result) }
+{
+    match made.places.push(w.place()) {
+        Ok(()) => {}
+        Err(_) => return Err(PartErr::Memory),
+    }
+    match join(alloc, store, made.pool, file, places, w) {
+        Ok(pool) => Ok(Joined {
+            pool,
+            places: made.places,
+        }),
+        Err(refusal) => Err(refusal),
+    }
+}
+
 /// Joins runs, so many at a time, into runs that follow one another, and answers where these
 /// begin.
 fn join_groups<S: Store>(
     alloc: Global,
     store: &mut S,
-    mut pool: Pool,
+    pool: Pool,
     runs: Stored<'_>,
     width: usize,
     w: &mut BitWriter<'_>,
@@ -69,24 +105,24 @@ fn join_groups<S: Store>(
         (RunStep runs.entry.file.part w.old w.new result) }
 {
     let Stored { file, places } = runs;
-    let mut made = match Vec::with_capacity(alloc, places.len() / width + 1) {
-        Ok(made) => made,
+    let starts = match Vec::with_capacity(alloc, places.len() / width + 1) {
+        Ok(starts) => starts,
         Err(_) => return Err(PartErr::Memory),
+    };
+    let mut made = Joined {
+        pool,
+        places: starts,
     };
     let mut at = 0;
     while at < places.len() {
         let end = at + width.min(places.len() - at);
-        match made.push(w.place()) {
-            Ok(()) => {}
-            Err(_) => return Err(PartErr::Memory),
-        }
-        match join(alloc, store, pool, file, &places[at..end], w) {
-            Ok(left) => pool = left,
+        match join_next(alloc, store, made, file, &places[at..end], w) {
+            Ok(next) => made = next,
             Err(refusal) => return Err(refusal),
         }
         at = end;
     }
-    Ok(Joined { pool, places: made })
+    Ok(made)
 }
 
 impl<'a> Round<'a> {

@@ -1,26 +1,23 @@
 use Rattle.std.proofs.Common.{rules, ◌≡◌, ◌+◌, ◌-◌, ◌*◌, ◌<◌, ◌++◌, ◌∷◌, [], ℕ, length, length-append, take, drop, sym, ◌∙◌, ap, subst, arith, min, max}
 use Rattle.mg_runs.specs.Rounds.{AreCounted}
-use Rattle.mg_runs.specs.declared.pool.Pool.{Pool}
-use Rattle.mg_runs.specs.declared.round.Joined.{Joined}
 use Rattle.mg_runs.proofs.RoundsLoop.{counted_more, length_slice, peak_group}
 use Rattle.mg_dev.specs.declared.part_err.PartErr.TheVariants.{Memory}
 use Rattle.mg_runs.proofs.Joins.{passed_bytes}
 use Rattle.mg_runs.proofs.StepLaws.{run_err, run_none, run_ok, run_then, writer_bad, writer_err, writer_none, writer_then}
 use Rattle.mg_runs.specs.Joins.{IsJoining}
 use Rattle.mg_runs.proofs.JoinedGroups.{joining_none, joining_next, joining_more, joining_end}
-use Rattle.mg_runs.proofs.Steps.{undamaged_as}
 use Rattle.mg_runs.proofs.round.join_groups.Goals as goal
 
-pub returns-in-Err-join-clause-undamaged : goal.returns-in-Err-join-clause-undamaged
-returns-in-Err-join-clause-undamaged g c = λ told whole is.
+pub returns-in-Err-join_next-clause-undamaged : goal.returns-in-Err-join_next-clause-undamaged
+returns-in-Err-join_next-clause-undamaged g c = λ told whole is.
     let inv = c.loop-at.invariant in
     let joining = inv.told told whole is in
     let same = passed_bytes inv.step.writer.pass.passed c.requires.writer.apart in
     let group
     = joining_next _ c.args.runs.places.now whole c.args.width c.loop-at.at (c.loop-at.at + c.min.result) _ _ _ _ _ is joining c.requires.place c.requires.slots.some
     c.requires.more c.loop-at-test.true (omega (arith, c.min.ensures)) in
-    let next = rw same at c.in-Err-join.ensures.undamaged in
-    undamaged_as Pool Joined c.in-Err-join.refusal (next (inv.step.writer.pass.passed.told ∙ told) _ group.0 group.1)
+    let next = rw same at c.in-Err-join_next.ensures.undamaged in
+    next (inv.step.writer.pass.passed.told ∙ told) _ group.0 group.1
 
 pub loop-at-init : goal.loop-at-init
 loop-at-init g c = record {
@@ -45,22 +42,23 @@ loop-at-preserved g c =
     let e : end ≡ at + min c.args.width (n - at) = omega (arith, c.min.ensures) in
     let up : end ≡ min (at + c.args.width) n = omega arith in
     let size : length (take (end - at) (drop at c.args.runs.places.now)) ≡ end - at = length_slice at end c.args.runs.places.now (omega arith) in
-    let push : c.push.new.self.items ≡ c.loop-at.made.items ++ c.loop-at.w.place ∷ [] = c.in-Ok-push.ensures.items ∙ ap (λ p. c.loop-at.made.items ++ p ∷ []) c.place.ensures in
-    let more : length c.push.new.self.items ≡ length c.loop-at.made.items + 1 = ap (λ l. length l) push ∙ length-append c.loop-at.made.items (c.loop-at.w.place ∷ []) in
-    let top = c.in-Ok-join.ensures.pool.peak in
+    let push : c.in-Ok-join_next.next.places.items ≡ c.loop-at.made.places.items ++ c.loop-at.w.place ∷ [] = c.in-Ok-join_next.ensures.places in
+    let more : length c.in-Ok-join_next.next.places.items ≡ length c.loop-at.made.places.items + 1
+    = ap (λ l. length l) push ∙ length-append c.loop-at.made.places.items (c.loop-at.w.place ∷ []) in
+    let top = c.in-Ok-join_next.ensures.pool.peak in
     record {
       within = omega arith;
-      entries = c.in-Ok-join.ensures.pool.entries;
-      limit = c.in-Ok-join.ensures.pool.limit ∙ inv.limit;
+      entries = c.in-Ok-join_next.ensures.pool.entries;
+      limit = c.in-Ok-join_next.ensures.pool.limit ∙ inv.limit;
       count = subst (λ k. AreCounted c.args.width n end k) (sym more) (counted_more c.args.width n at end _ inv.count less up);
-      peak = peak_group c.args.width (length c.loop-at.made.items) n at end c.args.pool.peak c.loop-at.pool.peak _ inv.count.next less up inv.peak
-          (top ∙ ap (λ k. max c.loop-at.pool.peak (64 * k)) size);
-      step = run_ok (run_then inv.step.writer c.in-Ok-join.ensures.step);
+      peak = peak_group c.args.width (length c.loop-at.made.places.items) n at end c.args.pool.peak c.loop-at.made.pool.peak _ inv.count.next less up inv.peak
+          (top ∙ ap (λ k. max c.loop-at.made.pool.peak (64 * k)) size);
+      step = run_ok (run_then inv.step.writer c.in-Ok-join_next.ensures.step);
       told = λ told whole is.
           let joining = inv.told told whole is in
           let same = passed_bytes inv.step.writer.pass.passed c.requires.writer.apart in
           let group = joining_next _ c.args.runs.places.now whole c.args.width at end _ _ _ _ _ is joining c.requires.place c.requires.slots.some c.requires.more less e in
-          let next = rw same at c.in-Ok-join.ensures.told in
+          let next = rw same at c.in-Ok-join_next.ensures.told in
           let wrote = next (inv.step.writer.pass.passed.told ∙ told) _ group.0 group.1 in
           joining_more is joining c.requires.place less e inv.step.writer.pass.passed.told wrote push;
     }
@@ -69,22 +67,19 @@ pub returns-clause-told : goal.returns-clause-told
 returns-clause-told g c = λ told whole is.
     joining_end _ c.args.runs.places.now whole c.args.width c.loop-at.at _ _ _ _ _ is (c.loop-at.invariant.told told whole is) c.requires.slots.some c.loop-at-test.false
 
-pub join-requires-clause-slots : goal.join-requires-clause-slots
-join-requires-clause-slots g c = record { some = search rules; room = search rules; limit = search rules; entries = search rules }
+pub join_next-requires-clause-slots : goal.join_next-requires-clause-slots
+join_next-requires-clause-slots g c = record { some = search rules; room = search rules; limit = search rules; entries = search rules }
 
-pub join-requires-clause-writer : goal.join-requires-clause-writer
-join-requires-clause-writer g c =
+pub join_next-requires-clause-writer : goal.join_next-requires-clause-writer
+join_next-requires-clause-writer g c =
     let inv = c.loop-at.invariant in
     record { holds = inv.step.writer.holds; apart = λ e. c.requires.writer.apart (e ∙ inv.step.writer.name) }
 
 pub returns-in-Err-clause-step : goal.returns-in-Err-clause-step
 returns-in-Err-clause-step g c = run_err (writer_bad {T = Unit {0}} {x = tt} Memory (writer_none _ _ _ c.requires.writer.holds) (λ f g. tt) tt)
 
-pub returns-in-Err-push-clause-step : goal.returns-in-Err-push-clause-step
-returns-in-Err-push-clause-step g c = run_err (writer_bad Memory c.loop-at.invariant.step.writer (λ f g. tt) tt)
-
-pub returns-in-Err-join-clause-step : goal.returns-in-Err-join-clause-step
-returns-in-Err-join-clause-step g c = run_err (writer_err (writer_then c.loop-at.invariant.step.writer c.in-Err-join.ensures.step.writer))
+pub returns-in-Err-join_next-clause-step : goal.returns-in-Err-join_next-clause-step
+returns-in-Err-join_next-clause-step g c = run_err (writer_err (writer_then c.loop-at.invariant.step.writer c.in-Err-join_next.ensures.step.writer))
 
 pub returns-clause-pool : goal.returns-clause-pool
 returns-clause-pool g c =
