@@ -38,6 +38,11 @@ pub record MayWrite (file : FileRef) (writer : BitWriting) (files : Option Files
   pub holds : Holds writer files
   pub apart : full_name file.base.now file.part ≢ writer.name
 
+-- each cursor of a group has its slot and its key, and the writer stands for another file than the group's
+pub record MayPut (group : Group) (writer : BitWriting) (files : Option Files) : Type 0 where
+  pub shape : GroupShaped group
+  pub apart : MayWrite group.file writer files
+
 -- ---- what it reads
 
 -- a step that reads this part alone, and writes nothing

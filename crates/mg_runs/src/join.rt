@@ -12,7 +12,7 @@ ghost use Rattle.mg_runs.specs.Merging.{AreRuns, left_together};
 ghost use Rattle.mg_runs.specs.PostingOrder.{Follows};
 ghost use Rattle.mg_runs.specs.Joins.{WrotePostings, WritesPostings, WritesRun, Counts};
 ghost use Rattle.mg_runs.specs.Reading.{ForCounted, ForRuns, ForGroup, ForLeft, ForLeftRun, ForPutting, GroupShaped, PutSince};
-ghost use Rattle.mg_runs.specs.Steps.{GroupLook, GroupWrite, HasSlots, LookStep, MayWrite, PoolBack, RunStep};
+ghost use Rattle.mg_runs.specs.Steps.{GroupLook, GroupWrite, HasSlots, LookStep, MayPut, MayWrite, PoolBack, RunStep};
 
 use crate::Pool;
 use crate::decode::MOST_LEFT;
@@ -83,8 +83,7 @@ fn put_next<S: Store>(
     w: &mut BitWriter<'_>,
     last: &TermPosting,
 ) -> Result<Option<TermPosting>, PartErr>
-    requires shape { GroupShaped group.old }
-    requires writer { MayWrite group.old.file w.old (S.files store.old) }
+    requires ready { MayPut group.old w.old (S.files store.old) }
     ensures shape { OnOk result (GroupShaped group.new) }
     ensures told { ForPutting last.now group.old (S.files store.old) w.old
         (λ from. IfOk result (PutSince from group.new (S.files store.new) w.new)) }
@@ -117,8 +116,7 @@ fn put_postings<S: Store>(
     store: &mut S,
     w: &mut BitWriter<'_>,
 ) -> Result<(), PartErr>
-    requires shape { GroupShaped group.old }
-    requires writer { MayWrite group.old.file w.old (S.files store.old) }
+    requires ready { MayPut group.old w.old (S.files store.old) }
     requires place { w.old.place ≤ 2 ^ 61 + 256 }
     ensures told { ForLeftRun group.old (S.files store.old) w.old.place
         (λ left. OnOk result (WrotePostings S.files store.old store.new w.old w.new left)) }
@@ -187,8 +185,7 @@ fn put_run<S: Store>(
     w: &mut BitWriter<'_>,
     count: u64,
 ) -> Result<(), PartErr>
-    requires shape { GroupShaped group.old }
-    requires writer { MayWrite group.old.file w.old (S.files store.old) }
+    requires ready { MayPut group.old w.old (S.files store.old) }
     requires count_some { 1 ≤ count }
     requires count_few { count < 2 ^ 32 }
     requires whole { w.old.place % 8 ≡ 0 }

@@ -11,10 +11,13 @@ use Rattle.mg_runs.proofs.join.join_counted.Goals as goal
 pub returns-in-Err-clause-step : goal.returns-in-Err-clause-step
 returns-in-Err-clause-step g c = run_err (writer_look_err c.in-Err.ensures.read)
 
-pub put_run-requires-clause-writer : goal.put_run-requires-clause-writer
-put_run-requires-clause-writer g c = record {
-  holds = rw c.load.ensures.read.looked.files c.requires.writer.holds;
-  apart = λ e. c.requires.writer.apart (ap (λ d. full_name d.base.now d.part) (sym c.in-Ok.ensures.file) ∙ e);
+pub put_run-requires-clause-ready : goal.put_run-requires-clause-ready
+put_run-requires-clause-ready g c = record {
+  shape = c.in-Ok.ensures.shape;
+  apart = record {
+    holds = rw c.load.ensures.read.looked.files c.requires.writer.holds;
+    apart = λ e. c.requires.writer.apart (ap (λ d. full_name d.base.now d.part) (sym c.in-Ok.ensures.file) ∙ e);
+  };
 }
 
 pub returns-in-Ok-put_run-clause-told : goal.returns-in-Ok-put_run-clause-told

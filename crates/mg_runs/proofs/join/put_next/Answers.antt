@@ -21,7 +21,7 @@ returns-then-place-gt-MOST_BITS-clause-undamaged g c = λ told files before bits
 
 pub returns-then-place-gt-MOST_BITS-clause-step : goal.returns-then-place-gt-MOST_BITS-clause-step
 returns-then-place-gt-MOST_BITS-clause-step g c =
-    write_bad c.damage.result (write_look c.requires.writer.holds c.in-Ok-Some.ensures.step.read) c.damage.ensures.caused c.damage.ensures.names
+    write_bad c.damage.result (write_look c.requires.ready.apart.holds c.in-Ok-Some.ensures.step.read) c.damage.ensures.caused c.damage.ensures.names
 
 pub returns-in-Ok-clause-told : goal.returns-in-Ok-clause-told
 returns-in-Ok-clause-told g c = λ told files before bits is.
@@ -32,12 +32,12 @@ returns-in-Ok-clause-told g c = λ told files before bits is.
 
 pub returns-in-Ok-clause-step : goal.returns-in-Ok-clause-step
 returns-in-Ok-clause-step g c =
-    write_more (write_look c.requires.writer.holds c.in-Ok-Some.ensures.step.read)
+    write_more (write_look c.requires.ready.apart.holds c.in-Ok-Some.ensures.step.read)
     (writer_wrote c.in-Ok.ensures.puts.holds c.put_posting.ensures.puts.name c.put_posting.ensures.puts.wrote c.put_posting.ensures.puts.cause.later)
 
 pub returns-in-Err-put_posting-clause-step : goal.returns-in-Err-put_posting-clause-step
 returns-in-Err-put_posting-clause-step g c =
-    write_more (write_look c.requires.writer.holds c.in-Ok-Some.ensures.step.read)
+    write_more (write_look c.requires.ready.apart.holds c.in-Ok-Some.ensures.step.read)
     (writer_refused {T = ℕ} c.put_posting.ensures.puts.name c.put_posting.ensures.puts.wrote
     (c.refused.ensures.cause _ _ (put_as (Unit {0}) ℕ _ _ _ c.in-Err-put_posting.ensures.puts.cause)) c.refused.ensures.names)
 
@@ -52,7 +52,7 @@ returns-in-Err-clause-undamaged g c = λ told files before bits is.
     c.in-Err.ensures.undamaged told _ is.has
 
 pub returns-in-Ok-None-clause-step : goal.returns-in-Ok-None-clause-step
-returns-in-Ok-None-clause-step g c = write_ok (write_look c.requires.writer.holds c.in-Ok-None.ensures.step.read)
+returns-in-Ok-None-clause-step g c = write_ok (write_look c.requires.ready.apart.holds c.in-Ok-None.ensures.step.read)
 
 pub returns-in-Err-clause-step : goal.returns-in-Err-clause-step
 returns-in-Err-clause-step g c = write_look_err c.in-Err.ensures.step.read

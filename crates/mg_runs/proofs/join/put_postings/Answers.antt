@@ -6,18 +6,23 @@ use Rattle.mg_runs.proofs.join.put_postings.Goals as goal
 
 pub loop-posting-init : goal.loop-posting-init
 loop-posting-init g c = record {
-  shape = c.requires.shape;
+  shape = c.requires.ready.shape;
   place = c.requires.place;
-  step = write_none {T = Unit {0}} c.args.group.now _ _ _ c.requires.writer.holds;
+  step = write_none {T = Unit {0}} c.args.group.now _ _ _ c.requires.ready.apart.holds;
   told = λ told left has run room. put_start _ _ _ _ _ left has run room;
 }
 
-pub put_next-requires-clause-writer : goal.put_next-requires-clause-writer
-put_next-requires-clause-writer g c =
+pub put_next-requires : goal.put_next-requires
+put_next-requires g c =
     let inv = c.loop-posting.invariant in
     record {
-      holds = inv.step.writer.holds;
-      apart = λ e. c.requires.writer.apart (ap (λ d. full_name d.base.now d.part) (sym inv.step.file) ∙ e ∙ inv.step.writer.name);
+      ready = record {
+        shape = inv.shape;
+        apart = record {
+          holds = inv.step.writer.holds;
+          apart = λ e. c.requires.ready.apart.apart (ap (λ d. full_name d.base.now d.part) (sym inv.step.file) ∙ e ∙ inv.step.writer.name);
+        };
+      };
     }
 
 pub loop-posting-preserved : goal.loop-posting-preserved
@@ -29,7 +34,7 @@ loop-posting-preserved g c =
       place = c.in-Ok-Some.ensures.place inv.place;
       step = write_ok (write_then inv.step c.in-Ok-Some.ensures.step);
       told = λ told left has run room.
-          let same = passed_bytes passed c.requires.writer.apart in
+          let same = passed_bytes passed c.requires.ready.apart.apart in
           let next = rw (inv.step.file, same) at c.in-Ok-Some.ensures.told in
           rw c.in-Ok-Some.field-0-is at (next (passed.told ∙ told) _ _ _ (inv.told told left has run room));
     }

@@ -9,21 +9,24 @@ use Rattle.mg_runs.proofs.join.put_run.Goals as goal
 
 pub returns-in-Err-clause-step : goal.returns-in-Err-clause-step
 returns-in-Err-clause-step g c =
-    write_more (write_none {T = Unit {0}} {x = tt} c.args.group.now _ _ _ c.requires.writer.holds)
+    write_more (write_none {T = Unit {0}} {x = tt} c.args.group.now _ _ _ c.requires.ready.apart.holds)
     (writer_refused {T = ℕ} c.put_number.ensures.puts.name c.put_number.ensures.puts.wrote
     (c.refused.ensures.cause _ _ (put_as (Unit {0}) ℕ _ _ _ c.in-Err.ensures.puts.cause)) c.refused.ensures.names)
 
-pub put_postings-requires-clause-writer : goal.put_postings-requires-clause-writer
-put_postings-requires-clause-writer g c = record {
-  holds = c.in-Ok.ensures.puts.holds;
-  apart = λ e. c.requires.writer.apart (e ∙ c.put_number.ensures.puts.name);
+pub put_postings-requires-clause-ready : goal.put_postings-requires-clause-ready
+put_postings-requires-clause-ready g c = record {
+  shape = c.requires.ready.shape;
+  apart = record {
+    holds = c.in-Ok.ensures.puts.holds;
+    apart = λ e. c.requires.ready.apart.apart (e ∙ c.put_number.ensures.puts.name);
+  };
 }
 
 pub returns-in-Err-put_postings-clause-undamaged : goal.returns-in-Err-put_postings-clause-undamaged
 returns-in-Err-put_postings-clause-undamaged g c = λ told left has run room.
     let name = full_name c.args.group.now.file.base.now c.args.group.now.file.part in
     let wrote = c.put_number.ensures.puts.wrote in
-    let bytes : bytes_at (g.S.Store.files c.put_number.new.store) name ≡ bytes_at (g.S.Store.files c.args.store.now) name = ap (λ b. unwrap_or b []) (wrote.others name c.requires.writer.apart) in
+    let bytes : bytes_at (g.S.Store.files c.put_number.new.store) name ≡ bytes_at (g.S.Store.files c.args.store.now) name = ap (λ b. unwrap_or b []) (wrote.others name c.requires.ready.apart.apart) in
     let next = rw bytes at c.in-Err-put_postings.ensures.undamaged in
     let p = c.in-Ok.ensures.place in
     let after : c.put_number.new.w.place + 256 * length left ≤ 2 ^ 61 = omega arith in
@@ -32,13 +35,13 @@ returns-in-Err-put_postings-clause-undamaged g c = λ told left has run room.
 pub returns-in-Err-put_postings-clause-step : goal.returns-in-Err-put_postings-clause-step
 returns-in-Err-put_postings-clause-step g c =
     let number = writer_wrote {T = Unit {0}} {x = tt} c.in-Ok.ensures.puts.holds c.put_number.ensures.puts.name c.put_number.ensures.puts.wrote c.put_number.ensures.puts.cause.later in
-    write_then (write_more (write_none {T = Unit {0}} {x = tt} c.args.group.now _ _ _ c.requires.writer.holds) number) c.in-Err-put_postings.ensures.step
+    write_then (write_more (write_none {T = Unit {0}} {x = tt} c.args.group.now _ _ _ c.requires.ready.apart.holds) number) c.in-Err-put_postings.ensures.step
 
 pub returns-in-Ok-align-clause-told : goal.returns-in-Ok-align-clause-told
 returns-in-Ok-align-clause-told g c = λ told left has run room count.
     let name = full_name c.args.group.now.file.base.now c.args.group.now.file.part in
     let wrote = c.put_number.ensures.puts.wrote in
-    let bytes : bytes_at (g.S.Store.files c.put_number.new.store) name ≡ bytes_at (g.S.Store.files c.args.store.now) name = ap (λ b. unwrap_or b []) (wrote.others name c.requires.writer.apart) in
+    let bytes : bytes_at (g.S.Store.files c.put_number.new.store) name ≡ bytes_at (g.S.Store.files c.args.store.now) name = ap (λ b. unwrap_or b []) (wrote.others name c.requires.ready.apart.apart) in
     let next = rw bytes at c.in-Ok-put_postings.ensures.told in
     let p = c.in-Ok.ensures.place in
     let after : c.put_number.new.w.place + 256 * length left ≤ 2 ^ 61 = omega arith in
@@ -55,7 +58,7 @@ pub returns-in-Ok-align-clause-step : goal.returns-in-Ok-align-clause-step
 returns-in-Ok-align-clause-step g c =
     let number = writer_wrote {T = Unit {0}} {x = tt} c.in-Ok.ensures.puts.holds c.put_number.ensures.puts.name c.put_number.ensures.puts.wrote c.put_number.ensures.puts.cause.later in
     let aligned = writer_wrote {T = Unit {0}} {x = tt} c.in-Ok-align.ensures.holds c.align.ensures.name c.align.ensures.wrote c.align.ensures.cause.later in
-    write_more (write_then (write_more (write_none {T = Unit {0}} {x = tt} c.args.group.now _ _ _ c.requires.writer.holds) number) c.in-Ok-put_postings.ensures.step) aligned
+    write_more (write_then (write_more (write_none {T = Unit {0}} {x = tt} c.args.group.now _ _ _ c.requires.ready.apart.holds) number) c.in-Ok-put_postings.ensures.step) aligned
 
 pub returns-in-Err-align-clause-step : goal.returns-in-Err-align-clause-step
 returns-in-Err-align-clause-step g c =
@@ -63,4 +66,4 @@ returns-in-Err-align-clause-step g c =
     let refused
     = writer_refused {T = ℕ} c.align.ensures.name c.align.ensures.wrote
     (c.refused-in-Err-align.ensures.cause _ _ (put_as (Unit {0}) ℕ _ _ _ c.in-Err-align.ensures.cause)) c.refused-in-Err-align.ensures.names in
-    write_more (write_then (write_more (write_none {T = Unit {0}} {x = tt} c.args.group.now _ _ _ c.requires.writer.holds) number) c.in-Ok-put_postings.ensures.step) refused
+    write_more (write_then (write_more (write_none {T = Unit {0}} {x = tt} c.args.group.now _ _ _ c.requires.ready.apart.holds) number) c.in-Ok-put_postings.ensures.step) refused
