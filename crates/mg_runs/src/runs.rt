@@ -141,8 +141,14 @@ impl<'a> Runs<'a> {
         ensures cause { HasPutCause (S.faults store.old) (S.faults store.new) result }
     {
         let _ = pool.limit();
-        reset_part(store, base, Part::MergeA)?;
-        reset_part(store, base, Part::MergeB)?;
+        match reset_part(store, base, Part::MergeA) {
+            Ok(()) => {}
+            Err(refusal) => return Err(refusal),
+        }
+        match reset_part(store, base, Part::MergeB) {
+            Ok(()) => {}
+            Err(refusal) => return Err(refusal),
+        }
         let file = FileRef {
             base,
             part: Part::Run,
