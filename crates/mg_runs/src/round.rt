@@ -86,25 +86,25 @@ fn join_groups<S: Store>(
     alloc: Global,
     store: &mut S,
     pool: Pool,
-    runs: Stored<'_>,
+    stored: Stored<'_>,
     width: usize,
     w: &mut BitWriter<'_>,
 ) -> Result<Joined, PartErr>
     requires slots { HasSlots pool width }
-    requires more { width < length runs.places.now }
-    requires writer { MayWrite runs.file w.old (S.files store.old) }
+    requires more { width < length stored.places.now }
+    requires writer { MayWrite stored.file w.old (S.files store.old) }
     requires place { w.old.place ≡ 0 }
-    ensures told { ForStored runs.entry.file (S.files store.old) runs.entry.places.now
+    ensures told { ForStored stored.entry.file (S.files store.old) stored.entry.places.now
         (λ runs. IfOk result (GroupsJoined width runs S.files store.old store.new w.old w.new)) }
-    ensures undamaged { ForStored runs.entry.file (S.files store.old) runs.entry.places.now
+    ensures undamaged { ForStored stored.entry.file (S.files store.old) stored.entry.places.now
         (λ _. NoDamage result) }
     ensures count { IfOk result (λ made. length made.places.items
-        ≡ (length runs.entry.places.now + width - 1) / width) }
+        ≡ (length stored.entry.places.now + width - 1) / width) }
     ensures pool { IfOk result (λ made. PoolBack width pool made.pool) }
     ensures step { Between S.files S.reads S.faults store.old store.new
-        (RunStep runs.entry.file.part w.old w.new result) }
+        (RunStep stored.entry.file.part w.old w.new result) }
 {
-    let Stored { file, places } = runs;
+    let Stored { file, places } = stored;
     let starts = match Vec::with_capacity(alloc, places.len() / width + 1) {
         Ok(starts) => starts,
         Err(_) => return Err(PartErr::Memory),
@@ -143,11 +143,11 @@ impl<'a> Round<'a> {
             (RoundWritten width self.entry w.old.name result) }
     {
         let Round { pool, places, file } = self;
-        let runs = Stored {
+        let stored = Stored {
             file,
             places: &places,
         };
-        match join_groups(alloc, store, pool, runs, width, w) {
+        match join_groups(alloc, store, pool, stored, width, w) {
             Ok(made) => match w.finish(store) {
                 Ok(()) => Ok(made),
                 Err(refusal) => Err(refused(refusal)),

@@ -14,7 +14,7 @@ returns-in-Err-join_next-clause-undamaged g c = λ told whole is.
     let joining = inv.told told whole is in
     let same = passed_bytes inv.step.writer.pass.passed c.requires.writer.apart in
     let group
-    = joining_next _ c.args.runs.places.now whole c.args.width c.loop-at.at (c.loop-at.at + c.min.result) _ _ _ _ _ is joining c.requires.place c.requires.slots.some
+    = joining_next _ c.args.stored.places.now whole c.args.width c.loop-at.at (c.loop-at.at + c.min.result) _ _ _ _ _ is joining c.requires.place c.requires.slots.some
     c.requires.more c.loop-at-test.true (omega (arith, c.min.ensures)) in
     let next = rw same at c.in-Err-join_next.ensures.undamaged in
     next (inv.step.writer.pass.passed.told ∙ told) _ group.0 group.1
@@ -37,11 +37,11 @@ loop-at-preserved g c =
     let inv = c.loop-at.invariant in
     let at : ℕ = c.loop-at.at in
     let end : ℕ = c.loop-at.at + c.min.result in
-    let n : ℕ = length c.args.runs.places.now in
+    let n : ℕ = length c.args.stored.places.now in
     let less : at < n = c.loop-at-test.true in
     let e : end ≡ at + min c.args.width (n - at) = omega (arith, c.min.ensures) in
     let up : end ≡ min (at + c.args.width) n = omega arith in
-    let size : length (take (end - at) (drop at c.args.runs.places.now)) ≡ end - at = length_slice at end c.args.runs.places.now (omega arith) in
+    let size : length (take (end - at) (drop at c.args.stored.places.now)) ≡ end - at = length_slice at end c.args.stored.places.now (omega arith) in
     let push : c.in-Ok-join_next.next.places.items ≡ c.loop-at.made.places.items ++ c.loop-at.w.place ∷ [] = c.in-Ok-join_next.ensures.places in
     let more : length c.in-Ok-join_next.next.places.items ≡ length c.loop-at.made.places.items + 1
     = ap (λ l. length l) push ∙ length-append c.loop-at.made.places.items (c.loop-at.w.place ∷ []) in
@@ -57,7 +57,7 @@ loop-at-preserved g c =
       told = λ told whole is.
           let joining = inv.told told whole is in
           let same = passed_bytes inv.step.writer.pass.passed c.requires.writer.apart in
-          let group = joining_next _ c.args.runs.places.now whole c.args.width at end _ _ _ _ _ is joining c.requires.place c.requires.slots.some c.requires.more less e in
+          let group = joining_next _ c.args.stored.places.now whole c.args.width at end _ _ _ _ _ is joining c.requires.place c.requires.slots.some c.requires.more less e in
           let next = rw same at c.in-Ok-join_next.ensures.told in
           let wrote = next (inv.step.writer.pass.passed.told ∙ told) _ group.0 group.1 in
           joining_more is joining c.requires.place less e inv.step.writer.pass.passed.told wrote push;
@@ -65,7 +65,7 @@ loop-at-preserved g c =
 
 pub returns-clause-told : goal.returns-clause-told
 returns-clause-told g c = λ told whole is.
-    joining_end _ c.args.runs.places.now whole c.args.width c.loop-at.at _ _ _ _ _ is (c.loop-at.invariant.told told whole is) c.requires.slots.some c.loop-at-test.false
+    joining_end _ c.args.stored.places.now whole c.args.width c.loop-at.at _ _ _ _ _ is (c.loop-at.invariant.told told whole is) c.requires.slots.some c.loop-at-test.false
 
 pub join_next-requires-clause-slots : goal.join_next-requires-clause-slots
 join_next-requires-clause-slots g c = record { some = search rules; room = search rules; limit = search rules; entries = search rules }

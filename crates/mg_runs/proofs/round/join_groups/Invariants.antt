@@ -14,7 +14,8 @@ invariant-loop-at g l = record {
   peak : l.made.pool.peak ≡ max l.initial.made.pool.peak (64 * min l.at l.width);
   step : RunStep {T = Unit {0}} l.file.part l.initial.w l.w (Ok tt) (g.S.Store.files l.initial.store) (g.S.Store.files l.store)
       (g.S.Store.reads l.initial.store) (g.S.Store.reads l.store) (g.S.Store.faults l.initial.store) (g.S.Store.faults l.store);
-  told : ForStored l.file (g.S.Store.files l.initial.store) l.places (λ runs. IsJoining l.width runs l.at l.made.places.items (g.S.Store.files l.initial.store) (g.S.Store.files l.store) l.initial.w l.w);
+  told : ForStored l.file (g.S.Store.files l.initial.store) l.places
+      (λ runs. IsJoining l.width runs l.at l.made.places.items (g.S.Store.files l.initial.store) (g.S.Store.files l.store) l.initial.w l.w);
 }
 
 abbrev pub decreases-loop-at : goal.decreases-loop-at
