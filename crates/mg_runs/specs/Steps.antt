@@ -38,6 +38,13 @@ pub record MayWrite (file : FileRef) (writer : BitWriting) (files : Option Files
   pub holds : Holds writer files
   pub apart : full_name file.base.now file.part ≢ writer.name
 
+-- the pool has a slot for each run that begins at these places of a file, and the writer stands at a byte of another file
+pub record MayJoin (pool : Pooled) (file : FileRef) (places : List ℕ) (w : BitWriting) (files : Option Files) : Type 0
+  where
+    pub slots : HasSlots pool (length places)
+    pub writer : MayWrite file w files
+    pub whole : w.place % 8 ≡ 0
+
 -- each cursor of a group has its slot and its key, and the writer stands for another file than the group's
 pub record MayPut (group : Group) (writer : BitWriting) (files : Option Files) : Type 0 where
   pub shape : GroupShaped group

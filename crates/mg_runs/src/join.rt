@@ -12,7 +12,7 @@ ghost use Rattle.mg_runs.specs.Merging.{AreRuns, left_together};
 ghost use Rattle.mg_runs.specs.PostingOrder.{Follows};
 ghost use Rattle.mg_runs.specs.Joins.{WrotePostings, WritesPostings, WritesRun, Counts};
 ghost use Rattle.mg_runs.specs.Reading.{ForCounted, ForRuns, ForGroup, ForLeft, ForLeftRun, ForPutting, GroupShaped, PutSince};
-ghost use Rattle.mg_runs.specs.Steps.{GroupLook, GroupWrite, HasSlots, LookStep, MayPut, MayWrite, PoolBack, RunStep};
+ghost use Rattle.mg_runs.specs.Steps.{GroupLook, GroupWrite, HasSlots, LookStep, MayJoin, MayPut, PoolBack, RunStep};
 
 use crate::Pool;
 use crate::decode::MOST_LEFT;
@@ -224,11 +224,9 @@ fn join_counted<S: Store>(
     places: &[u64],
     w: &mut BitWriter<'_>,
 ) -> Result<Pool, PartErr>
-    requires slots { HasSlots counted.pool (length places.now) }
+    requires ready { MayJoin counted.pool file places.now w.old (S.files store.old) }
     requires count_some { 1 ≤ counted.count }
     requires count_few { counted.count < 2 ^ 32 }
-    requires writer { MayWrite file w.old (S.files store.old) }
-    requires whole { w.old.place % 8 ≡ 0 }
     requires place { w.old.place ≤ 2 ^ 61 }
     ensures told { ForCounted counted file.entry (S.files store.old) places.now w.old.place
         (WritesRun S.files store.old store.new w.old w.new result) }
@@ -259,9 +257,7 @@ pub fn join<S: Store>(
     places: &[u64],
     w: &mut BitWriter<'_>,
 ) -> Result<Pool, PartErr>
-    requires slots { HasSlots pool (length places.now) }
-    requires writer { MayWrite file w.old (S.files store.old) }
-    requires whole { w.old.place % 8 ≡ 0 }
+    requires ready { MayJoin pool file places.now w.old (S.files store.old) }
     ensures told { ForGroup file.entry (S.files store.old) places.now w.old.place
         (WritesRun S.files store.old store.new w.old w.new result) }
     ensures undamaged { ForGroup file.entry (S.files store.old) places.now w.old.place

@@ -1,10 +1,10 @@
 //! Rounds: the runs of one part, joined into fewer runs of another.
-ghost use Rattle.std.specs.Prelude.{◌≡◌, ◌≤◌, ◌<◌, ◌+◌, ◌-◌, ◌/◌, ◌%◌, ◌++◌, [], ◌∷◌, IfOk, length};
+ghost use Rattle.std.specs.Prelude.{◌≡◌, ◌≤◌, ◌<◌, ◌+◌, ◌-◌, ◌/◌, ◌++◌, [], ◌∷◌, IfOk, length};
 ghost use Rattle.mg_dev.specs.Moments.{Between};
 ghost use Rattle.mg_runs.specs.Cursors.{NoDamage};
 ghost use Rattle.mg_runs.specs.Joins.{IsRunPart, WritesRun, other, GroupsJoined};
 ghost use Rattle.mg_runs.specs.Reading.{ForGroup, ForStored};
-ghost use Rattle.mg_runs.specs.Steps.{HasSlots, MayWrite, PoolBack, RoundJoined, RoundWritten, RoundsDone, RunStep};
+ghost use Rattle.mg_runs.specs.Steps.{HasSlots, MayJoin, MayWrite, PoolBack, RoundJoined, RoundWritten, RoundsDone, RunStep};
 
 use crate::Pool;
 use crate::join::{join, refused};
@@ -54,9 +54,7 @@ fn join_next<S: Store>(
     places: &[u64],
     w: &mut BitWriter<'_>,
 ) -> Result<Joined, PartErr>
-    requires slots { HasSlots made.pool (length places.now) }
-    requires writer { MayWrite file w.old (S.files store.old) }
-    requires whole { w.old.place % 8 ≡ 0 }
+    requires ready { MayJoin made.pool file places.now w.old (S.files store.old) }
     ensures told { ForGroup file.entry (S.files store.old) places.now w.old.place
         (WritesRun S.files store.old store.new w.old w.new result) }
     ensures undamaged { ForGroup file.entry (S.files store.old) places.now w.old.place

@@ -11,12 +11,18 @@ use Rattle.mg_runs.proofs.join.join_counted.Goals as goal
 pub returns-in-Err-clause-step : goal.returns-in-Err-clause-step
 returns-in-Err-clause-step g c = run_err (writer_look_err c.in-Err.ensures.read)
 
+pub load-requires : goal.load-requires
+load-requires g c = record { slots = c.requires.ready.slots }
+
+pub put_run-requires-clause-whole : goal.put_run-requires-clause-whole
+put_run-requires-clause-whole g c = c.requires.ready.whole
+
 pub put_run-requires-clause-ready : goal.put_run-requires-clause-ready
 put_run-requires-clause-ready g c = record {
   shape = c.in-Ok.ensures.shape;
   apart = record {
-    holds = rw c.load.ensures.read.looked.files c.requires.writer.holds;
-    apart = λ e. c.requires.writer.apart (ap (λ d. full_name d.base.now d.part) (sym c.in-Ok.ensures.file) ∙ e);
+    holds = rw c.load.ensures.read.looked.files c.requires.ready.writer.holds;
+    apart = λ e. c.requires.ready.writer.apart (ap (λ d. full_name d.base.now d.part) (sym c.in-Ok.ensures.file) ∙ e);
   };
 }
 
@@ -33,7 +39,7 @@ pub returns-in-Ok-put_run-clause-step : goal.returns-in-Ok-put_run-clause-step
 returns-in-Ok-put_run-clause-step g c = record {
   place = c.in-Ok-put_run.ensures.place;
   whole = c.in-Ok-put_run.ensures.whole;
-  writer = writer_ok (writer_then (writer_look c.requires.writer.holds c.in-Ok.ensures.read) (writer_of c.in-Ok.ensures.file c.in-Ok-put_run.ensures.step));
+  writer = writer_ok (writer_then (writer_look c.requires.ready.writer.holds c.in-Ok.ensures.read) (writer_of c.in-Ok.ensures.file c.in-Ok-put_run.ensures.step));
 }
 
 pub returns-in-Err-put_run-clause-undamaged : goal.returns-in-Err-put_run-clause-undamaged
@@ -44,4 +50,4 @@ returns-in-Err-put_run-clause-undamaged g c = λ told runs at is.
 
 pub returns-in-Err-put_run-clause-step : goal.returns-in-Err-put_run-clause-step
 returns-in-Err-put_run-clause-step g c =
-    run_err (writer_err (writer_then (writer_look c.requires.writer.holds c.in-Ok.ensures.read) (writer_of c.in-Ok.ensures.file c.in-Err-put_run.ensures.step)))
+    run_err (writer_err (writer_then (writer_look c.requires.ready.writer.holds c.in-Ok.ensures.read) (writer_of c.in-Ok.ensures.file c.in-Err-put_run.ensures.step)))

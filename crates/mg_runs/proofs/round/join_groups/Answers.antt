@@ -67,13 +67,16 @@ pub returns-clause-told : goal.returns-clause-told
 returns-clause-told g c = λ told whole is.
     joining_end _ c.args.stored.places.now whole c.args.width c.loop-at.at _ _ _ _ _ is (c.loop-at.invariant.told told whole is) c.requires.slots.some c.loop-at-test.false
 
-pub join_next-requires-clause-slots : goal.join_next-requires-clause-slots
-join_next-requires-clause-slots g c = record { some = search rules; room = search rules; limit = search rules; entries = search rules }
-
-pub join_next-requires-clause-writer : goal.join_next-requires-clause-writer
-join_next-requires-clause-writer g c =
+pub join_next-requires : goal.join_next-requires
+join_next-requires g c =
     let inv = c.loop-at.invariant in
-    record { holds = inv.step.writer.holds; apart = λ e. c.requires.writer.apart (e ∙ inv.step.writer.name) }
+    record {
+      ready = record {
+        slots = record { some = search rules; room = search rules; limit = search rules; entries = search rules };
+        writer = record { holds = inv.step.writer.holds; apart = λ e. c.requires.writer.apart (e ∙ inv.step.writer.name) };
+        whole = inv.step.whole;
+      };
+    }
 
 pub returns-in-Err-clause-step : goal.returns-in-Err-clause-step
 returns-in-Err-clause-step g c = run_err (writer_bad {T = Unit {0}} {x = tt} Memory (writer_none _ _ _ c.requires.writer.holds) (λ f g. tt) tt)

@@ -6,13 +6,22 @@ use Rattle.mg_runs.proofs.StepLaws.{run_err, run_ok, writer_bad, writer_err, wri
 use Rattle.mg_runs.proofs.Steps.{undamaged_as}
 use Rattle.mg_runs.proofs.round.join_next.Goals as goal
 
+pub join-requires : goal.join-requires
+join-requires g c = record {
+  ready = record {
+    slots = c.requires.ready.slots;
+    writer = c.requires.ready.writer;
+    whole = c.requires.ready.whole;
+  };
+}
+
 pub returns-in-Err : goal.returns-in-Err
 returns-in-Err g c = record {
   told = λ told runs at is. tt;
   undamaged = λ told runs at is. tt;
   pool = tt;
   places = tt;
-  step = run_err (writer_bad {T = Unit {0}} {x = tt} Memory (writer_none _ _ _ c.requires.writer.holds) (λ f g. tt) tt);
+  step = run_err (writer_bad {T = Unit {0}} {x = tt} Memory (writer_none _ _ _ c.requires.ready.writer.holds) (λ f g. tt) tt);
 }
 
 pub returns-in-Ok-join : goal.returns-in-Ok-join
