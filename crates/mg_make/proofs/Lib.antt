@@ -16,12 +16,15 @@ pub mod Taking
 pub mod PassLaws
 pub mod StepLaws
 pub mod Scans
+pub mod ReadingOn
+pub mod Slices
 pub mod Counted
 pub mod Planned
 pub mod Fed
 pub mod DocsCounted
 pub mod SetFrames
 pub mod PutSteps
+pub mod SliceSteps
 pub mod EndSteps
 pub mod Handing
 pub mod RestSteps

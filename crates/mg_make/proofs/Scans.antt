@@ -42,7 +42,7 @@ marks-of_document doc told rest h =
 
 -- ---- a byte of a document
 
-read-taken : (old new : OpenPiece) (byte : ℕ) (told : List (List ℕ)) (doc : List ℕ) → Fits old byte →
+pub read-taken : (old new : OpenPiece) (byte : ℕ) (told : List (List ℕ)) (doc : List ℕ) → Fits old byte →
     new ≡ record { kind = old.kind; piece = old.piece ++ byte ∷ [] } → Reads old told doc (byte ∷ []) → Reads new told (doc ++ byte ∷ []) []
 read-taken old new byte told doc fits is h = subst (λ (r : OpenPiece). Reads r told (doc ++ byte ∷ []) []) (sym is) (reads_taken old told doc byte fits.kind fits.room h)
 

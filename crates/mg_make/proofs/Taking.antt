@@ -44,7 +44,7 @@ same_none s = record { base = refl; plan = refl; limit = refl }
 pub same_both : (s t u : Inversion) → SamePass s t → SamePass t u → SamePass s u
 same_both s t u a b = record { base = b.base ∙ a.base; plan = b.plan ∙ a.plan; limit = b.limit ∙ a.limit }
 
-stops_more : (rose now same : Type 0) (fault : Fault) → (rose → now) → SecondStops rose same fault → SecondStops now same fault
+pub stops_more : (rose now same : Type 0) (fault : Fault) → (rose → now) → SecondStops rose same fault → SecondStops now same fault
 stops_more rose now same StoreFault more stops = more stops
 stops_more rose now same Memory more stops = tt
 stops_more rose now same (Changed what first second) more stops = stops

@@ -1,5 +1,5 @@
 -- The first pass: the pieces of both streams and the pairs of each document, counted.
-use Rattle.std.specs.Prelude.{◌≡◌, ◌<◌, ◌^◌, ℕ, Bool, false, List, [], ◌∷◌, ◌++◌, length}
+use Rattle.std.specs.Prelude.{◌≡◌, ◌<◌, ◌+◌, ◌^◌, ℕ, Bool, false, List, [], ◌∷◌, ◌++◌, length, take}
 use Rattle.mg_dev.specs.declared.fault.Fault.{Fault}
 use Rattle.mg_dev.specs.declared.fault.Fault.TheVariants.{Memory, TooManyDocuments, TooManyPieces}
 use Rattle.mg_defs.specs.declared.Stream.{Stream}
@@ -85,6 +85,17 @@ CountStops fed TooManyDocuments = PassWith fed start
 CountStops fed (TooManyPieces stream) = (bytes : List ℕ) × PassWith fed (piece stream bytes)
 CountStops fed Memory = Unit {0}
 CountStops fed _ = ⊥
+
+-- counting stops at one of these bytes, which come behind those that were counted
+pub record CountStopsAmong (old : FirstPass) (bytes : List ℕ) (fault : Fault) : Type 0 where
+  -- so many of them are taken before it
+  pub taken : ℕ
+  pub within : taken < length bytes
+  -- and counted
+  pub middle : FirstPass
+  pub counted : (fed : List ℕ) → HasCounted old fed → HasCounted middle (fed ++ take taken bytes)
+  -- it is why counting stops
+  pub stops : (fed : List ℕ) → HasCounted old fed → CountStops (fed ++ take (taken + 1) bytes) fault
 
 -- why it stops at their end
 abbrev pub EndStops : List ℕ → Fault → Type 0

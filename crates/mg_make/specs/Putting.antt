@@ -24,7 +24,7 @@ use Rattle.mg_layout.specs.Stands.{Stands, StandsForNone}
 use Rattle.mg_layout.specs.declared.head.Head.{Head}
 use Rattle.mg_model.specs.Models.{PartsHold}
 use Rattle.mg_make.specs.Finishing.{EndsWith, budget_of}
-use Rattle.mg_make.specs.Index.{IndexStands, WroteIndex}
+use Rattle.mg_make.specs.Index.{IndexStands}
 use Rattle.mg_make.specs.Listing.{ListStops}
 use Rattle.mg_make.specs.Plans.{IsPlanOf, Plan}
 use Rattle.mg_make.specs.Scanning.{HasMet, Scanning}

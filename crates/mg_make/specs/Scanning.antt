@@ -4,7 +4,7 @@ use Rattle.mg_defs.specs.declared.Stream.{Stream}
 use Rattle.mg_defs.specs.declared.Stream.TheVariants.{Words}
 use Rattle.mg_defs.specs.Marks.{Mark, marks_of_document, piece, start, stop}
 use Rattle.mg_defs.specs.Pieces.{OpenPiece, Reads, left_at_end, other_kind}
-use Rattle.mg_defs.specs.Split.{closed_documents, has_open_end, open_part}
+use Rattle.mg_defs.specs.Split.{IsDocument, closed_documents, has_open_end, open_part}
 use Rattle.mg_parse.specs.Seen.{Seen, StandsFor}
 use Rattle.mg_make.specs.Meeting.{Meeting, only_if}
 
@@ -45,6 +45,13 @@ pub record HasRead (old new : OpenPiece) (byte : ℕ) (ended : List (List ℕ)) 
   pub kind : new.kind ≡ kind_after old.kind ended
   pub reads : (told : List (List ℕ)) (doc : List ℕ) → Reads old told doc [] →
       Reads new (told ++ ended) (doc ++ byte ∷ []) []
+
+-- These bytes were read on into the piece that is read: no piece ended before any of them.
+pub record HasReadOn (old new : OpenPiece) (run : List ℕ) : Type 0 where
+  pub kind : new.kind ≡ old.kind
+  -- none of them closes a document
+  pub within : IsDocument run
+  pub reads : (told : List (List ℕ)) (doc : List ℕ) → Reads old told doc [] → Reads new told (doc ++ run) []
 
 -- what is met with a byte of a document, before which these pieces ended
 abbrev pub joined_marks : Bool → Stream → List (List ℕ) → List Mark

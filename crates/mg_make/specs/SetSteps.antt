@@ -1,5 +1,5 @@
 -- What one step of a writer of a set does, told of the moments before it and after it.
-use Rattle.std.specs.Prelude.{◌≡◌, ◌<◌, ◌≤◌, ◌^◌, ◌++◌, ◌∷◌, ℕ, List, [], length, sum, IfErr, IfOk, OnOk, Some}
+use Rattle.std.specs.Prelude.{◌≡◌, ◌<◌, ◌≤◌, ◌^◌, ◌+◌, ◌++◌, ◌∷◌, ℕ, List, [], length, sum, take, IfErr, IfOk, OnOk, Some}
 use Rattle.std.specs.Option.{IsSome}
 use Rattle.std.specs.declared.option.Option.{Option}
 use Rattle.std.specs.declared.result.Result.{Result}
@@ -44,6 +44,50 @@ pub record ByteStep (old new : Putting) (byte : ℕ) (result : Result (Unit {0})
   pub refused : IfErr result (λ fault. (fed more : List ℕ) → HasPut old files_before fed →
       length (fed ++ byte ∷ more) < 2 ^ 32
       → SecondStops (Rose faults_before faults_now) (IsPlanOf old.plan (fed ++ byte ∷ more)) fault)
+
+-- bytes that go on the piece that is read stand behind all that were put, and no file is written
+pub record WentOn (old new : Putting) (run : List ℕ) : Type 0 where
+  pub put : (files : Option Files) (fed : List ℕ) → HasPut old files fed → HasPut new files (fed ++ run)
+  -- the base, the plan and the size of the pool stay
+  pub base : new.base ≡ old.base
+  pub plan : new.plan ≡ old.plan
+  pub limit : new.limit ≡ old.limit
+
+-- one of these bytes, which come behind those that were put, is refused
+pub record PutStopsAmong (old : Putting) (bytes : List ℕ) (files : Option Files) (store_rose : Type 0) (fault : Fault) :
+    Type 0 where
+  -- so many of them are put before it
+  pub taken : ℕ
+  pub within : taken < length bytes
+  -- and stand
+  pub middle : Putting
+  pub files_then : Option Files
+  pub put : (fed : List ℕ) → HasPut old files fed → HasPut middle files_then (fed ++ take taken bytes)
+  -- it is refused, whatever follows it
+  pub stops : (fed more : List ℕ) → HasPut old files fed →
+      length (fed ++ (take (taken + 1) bytes ++ more)) < 2 ^ 32
+      → SecondStops store_rose (IsPlanOf old.plan (fed ++ (take (taken + 1) bytes ++ more))) fault
+
+-- more bytes are put, or why one of them is not
+pub record SliceStep (old new : Putting) (bytes : List ℕ) (result : Result (Unit {0}) Fault)
+    (files_before files_now : Option Files)
+    (reads_before reads_now : Reads) (faults_before faults_now : ℕ) : Type 0 where
+  -- when it is done, the bytes stand behind all that were put before
+  pub put : OnOk result ((fed : List ℕ) → HasPut old files_before fed → HasPut new files_now (fed ++ bytes))
+  -- the base, the plan and the size of the pool stay
+  pub base : new.base ≡ old.base
+  pub plan : new.plan ≡ old.plan
+  pub limit : new.limit ≡ old.limit
+  -- the head is there and empty
+  pub head : IsSome files_before → file_at files_now (full_name old.base part.Head) ≡ Some []
+  -- files that are no part of the set stay
+  pub others : OthersSame old.base files_before files_now
+  -- no part was read
+  pub reads : SameReads reads_before reads_now
+  -- the faults never fall
+  pub later : faults_before ≤ faults_now
+  -- why it stops
+  pub refused : IfErr result (PutStopsAmong old bytes files_before (Rose faults_before faults_now))
 
 -- what follows the pass is written, with the head that belongs to it, or why it is not
 pub record RestStep (plan : Plan) (limit size : ℕ) (base : List ℕ) (inverted : Inverted)

@@ -1,7 +1,7 @@
 //! The first pass over the bytes of a collection.
-ghost use Rattle.std.specs.Prelude.{◌<◌, ◌≤◌, ◌-◌, ◌^◌, ◌++◌, ◌∷◌, ℕ, List, [], length, IfErr, IfOk, OnOk};
+ghost use Rattle.std.specs.Prelude.{◌<◌, ◌≤◌, ◌+◌, ◌-◌, ◌^◌, ◌++◌, ◌∷◌, ℕ, List, [], length, take, IfErr, IfOk, OnOk};
 ghost use Rattle.mg_defs.specs.Marks.{Mark, marks};
-ghost use Rattle.mg_make.specs.Counting.{AreFew, CountStops, EndStops, HasCounted, IsCountOf};
+ghost use Rattle.mg_make.specs.Counting.{AreFew, CountStops, EndStops, HasCounted, IsCountOf, CountStopsAmong};
 ghost use Rattle.mg_make.specs.Plans.{IsPlan, IsPlanOf, IsRoomFor};
 ghost use Rattle.mg_make.specs.Scanning.{HasMet, Scanning};
 
@@ -13,7 +13,8 @@ use mg_laws::{few_of_each, marks_add_up, marks_have_all};
 use std::alloc::Global;
 use std::marker::Model;
 
-/// Counts the pieces and the pairs in the bytes of a collection, which are given one by one.
+/// Counts the pieces and the pairs in the bytes of a collection, which are given one by one or many at
+/// a time.
 ///
 /// It keeps no byte but those of the distinct pieces and the one that is read. After a refusal nothing
 /// more is to be given to it.
@@ -68,6 +69,40 @@ impl Count {
             return Ok(());
         }
         self.take_other(byte)
+    }
+
+    /// Takes the next bytes, so that all are at most 2^32 - 1. It stops at the first of them that `take`
+    /// refuses, and for its cause.
+    pub fn take_all(&mut self, bytes: &[u8]) -> Result<(), Fault>
+        requires given { (fed : List ℕ) × HasCounted self.old fed
+            × (length fed + length bytes.now < 2 ^ 32) }
+        ensures given { OnOk result ((fed : List ℕ) → HasCounted self.old fed →
+            HasCounted self.new (fed ++ bytes.now)) }
+        ensures refused { IfErr result (CountStopsAmong self.old bytes.now) }
+    {
+        let mut taken = 0;
+        while taken < bytes.len() {
+            taken += self.go_on(&bytes[taken..]);
+            if taken == bytes.len() {
+                return Ok(());
+            }
+            match self.take_other(bytes[taken]) {
+                Ok(()) => {}
+                Err(refusal) => return Err(refusal),
+            }
+            taken += 1;
+        }
+        Ok(())
+    }
+
+    /// Takes the first bytes as far as they go on the piece that is read; answers how many.
+    #[inline]
+    fn go_on(&mut self, bytes: &[u8]) -> usize
+        ensures within { result ≤ length bytes.now }
+        ensures given { (fed : List ℕ) → HasCounted self.old fed →
+            HasCounted self.new (fed ++ take result bytes.now) }
+    {
+        self.scanner.go_on(bytes)
     }
 
     /// Takes the next byte where it may end a piece, or begin or end a document.

@@ -1,7 +1,7 @@
 //! A set of files from the bytes of a collection, given twice: first they are counted, then they are
 //! written.
 //!
-//! What comes here is a byte at a time, whatever it comes from: the collection's own file for a build,
+//! What comes here is bytes, whatever they come from: the pages of the collection's own file for a build,
 //! two texts for a merge. Nothing here reads a collection.
 #![tactic(auto)]
 

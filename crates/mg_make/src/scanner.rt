@@ -1,11 +1,11 @@
 //! What is met in a collection, byte by byte.
-ghost use Rattle.std.specs.Prelude.{◌≡◌, ◌<◌, ◌++◌, ◌∷◌, ◌^◌, ℕ, List, [], true, false, length};
+ghost use Rattle.std.specs.Prelude.{◌≡◌, ◌<◌, ◌≤◌, ◌++◌, ◌∷◌, ◌^◌, ℕ, List, [], true, false, length, take};
 ghost use Rattle.mg_defs.specs.declared.Stream.TheVariants.{Words};
 ghost use Rattle.mg_defs.specs.Marks.{Mark, marks};
 ghost use Rattle.mg_defs.specs.Pieces.{left_at_end};
 ghost use Rattle.mg_defs.specs.Split.{has_open_end};
 ghost use Rattle.mg_make.specs.Meeting.{marks_of};
-ghost use Rattle.mg_make.specs.Scanning.{HasMet, HasRead, closing_marks, joined_marks};
+ghost use Rattle.mg_make.specs.Scanning.{HasMet, HasRead, HasReadOn, closing_marks, joined_marks};
 
 use crate::met::Met;
 use mg_parse::{CLOSE, Offer, PieceReader, SplitEvent, Splitter};
@@ -51,6 +51,24 @@ fn read_byte(reader: &mut PieceReader, byte: u8, met: &mut Met, begins: bool)
     met.tell_other();
     reader.turn();
     let _ = reader.offer(byte);
+}
+
+/// Reads the first bytes on into the piece that is read, as far as they are of it; answers how many.
+#[inline]
+fn read_on(reader: &mut PieceReader, bytes: &[u8]) -> usize
+    ensures within { result ≤ length bytes.now }
+    ensures read { HasReadOn reader.old reader.new (take result bytes.now) }
+{
+    for (count, byte) in bytes.iter().enumerate() {
+        if *byte == CLOSE {
+            return count;
+        }
+        match reader.offer(*byte) {
+            Offer::Taken => {}
+            Offer::Ended => return count,
+        }
+    }
+    bytes.len()
 }
 
 /// Tells the pieces that are left at a document's end.
@@ -112,6 +130,20 @@ impl Scanner {
         }
         let _ = self.splitter.feed(byte);
         true
+    }
+
+    /// Takes the first bytes as far as they go on the piece that is read: nothing is met with them.
+    /// Answers how many.
+    #[inline]
+    pub(crate) fn go_on(&mut self, bytes: &[u8]) -> usize
+        ensures within { result ≤ length bytes.now }
+        ensures met { (fed : List ℕ) (met : List Mark) → HasMet self.old fed met →
+            HasMet self.new (fed ++ take result bytes.now) met }
+    {
+        if !self.is_open {
+            return 0;
+        }
+        read_on(&mut self.reader, bytes)
     }
 
     /// Takes the next byte, of fewer than 2^32 in all before it.

@@ -3,7 +3,7 @@
 //! The head is emptied first and appended last, so that whatever stops in between, the files stand for no
 //! collection. The other parts are written as the bytes come: the models at once, text and runs byte by
 //! byte, lists, lexicon and weights behind the last.
-ghost use Rattle.std.specs.Prelude.{◌≡◌, ◌<◌, ◌≤◌, ◌-◌, ◌^◌, ◌++◌, ◌∷◌, ℕ, List, [], length, IfOk, OnOk, Option, Some};
+ghost use Rattle.std.specs.Prelude.{◌≡◌, ◌<◌, ◌≤◌, ◌+◌, ◌-◌, ◌^◌, ◌++◌, ◌∷◌, ℕ, List, [], length, take, IfOk, OnOk, Option, Some};
 ghost use Rattle.std.specs.Option.{IsSome};
 ghost use Rattle.mg_dev.specs.Causes.{HasPutCause};
 ghost use Rattle.mg_dev.specs.Files.{Files, file_at};
@@ -15,7 +15,7 @@ ghost use Rattle.mg_make.specs.Plans.{IsPlan, IsRoomFor};
 ghost use Rattle.mg_make.specs.Putting.{ForPut, GrewByHead, HasPut, IsEmptied, IsUnbuilt, NextRefused, OthersSame, PutRefused};
 ghost use Rattle.mg_make.specs.Putting.{StandsForNoOther, WhereHeadLacks, with_head};
 ghost use Rattle.mg_make.specs.Outcomes.{HasSummaryOf, MakesSet};
-ghost use Rattle.mg_make.specs.SetSteps.{ByteStep, PartsStep};
+ghost use Rattle.mg_make.specs.SetSteps.{ByteStep, PartsStep, SliceStep, WentOn};
 
 use crate::index::Rest;
 use crate::mark_writer::put_marks;
@@ -30,7 +30,7 @@ use mg_text_writer::text_has_its_documents;
 use std::alloc::Global;
 use std::marker::Model;
 
-/// Writes the set of bytes that are given one by one, as they were counted.
+/// Writes the set of bytes that are given one by one or many at a time, as they were counted.
 #[derive(Drop)]
 pub struct SetWriter<'a> {
     base: &'a str,
@@ -109,6 +109,42 @@ impl<'a> SetWriter<'a> {
             return Ok(());
         }
         self.take_other(store, byte)
+    }
+
+    /// Writes what the next bytes make, so that all are at most 2^32 - 1. It stops at the first of them that
+    /// `take` refuses, and for its cause.
+    pub fn take_all<S: Store>(&mut self, store: &mut S, bytes: &[u8]) -> Result<(), Fault>
+        requires put { (fed : List ℕ) × HasPut self.old (S.files store.old) fed
+            × (length fed + length bytes.now < 2 ^ 32) }
+        ensures { Between S.files S.reads S.faults store.old store.new
+            (SliceStep self.old self.new bytes.now result) }
+    {
+        let mut taken = 0;
+        while taken < bytes.len() {
+            taken += self.go_on(&bytes[taken..]);
+            if taken == bytes.len() {
+                return Ok(());
+            }
+            match self.take_other(store, bytes[taken]) {
+                Ok(()) => {}
+                Err(refusal) => return Err(refusal),
+            }
+            taken += 1;
+        }
+        Ok(())
+    }
+
+    // Takes the first bytes as far as they go on the piece that is read; answers how many.
+    #[inline]
+    fn go_on(&mut self, bytes: &[u8]) -> usize
+        requires put { (files : Option Files) × (fed : List ℕ) × HasPut self.old files fed
+            × (length fed + length bytes.now < 2 ^ 32) }
+        ensures within { result ≤ length bytes.now }
+        ensures went { WentOn self.old self.new (take result bytes.now) }
+    {
+        let count = self.scanner.go_on(bytes);
+        self.size += count as u64;
+        count
     }
 
     // Writes what a byte makes that may end a piece, or begin or end a document.
