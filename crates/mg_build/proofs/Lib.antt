@@ -1,5 +1,6 @@
 mod PassLaws
 mod ReadLaws
+mod BlockLaws
 mod PutLaws
 mod NameLaws
 mod BuildLaws

@@ -1,10 +1,9 @@
 -- Bytes that are read one after the other, and why a pass over them stops.
-use Rattle.std.proofs.Common.{arith, ◌+◌, ◌^◌, ◌≡◌, ◌≤◌, ◌<◌, ℕ, List, [], ◌∷◌, ◌++◌, length, take, drop, Option, Some, slice_get, refl, sym, ◌∙◌, ap, subst, inl, inr, Ok, Err}
-use Rattle.std.proofs.lemmas.List.{length_push, take-append-drop, take_more, append_assoc}
-use Rattle.std.proofs.lemmas.Option.{get_or_from_slice_get, slice_get_within}
+use Rattle.std.proofs.Common.{arith, ◌+◌, ◌^◌, ◌≡◌, ◌≤◌, ◌<◌, ℕ, List, [], ◌∷◌, ◌++◌, length, take, drop, Option, Some, refl, sym, ◌∙◌, ap, subst, inl, inr, Ok, Err}
+use Rattle.std.proofs.Common.{append-nil, length-append, length-take-le, take-add}
+use Rattle.std.proofs.lemmas.List.{take-append-drop, take-take, take_all, append_assoc}
 use Rattle.std.specs.Prelude.{IfErr, Result}
 use Rattle.std.specs.Option.{IsSome, is_some, unwrap_or}
-use Rattle.mg_dev.specs.Causes.{Rose}
 use Rattle.mg_dev.specs.Files.{Files, Reads, bytes_at, file_at}
 use Rattle.mg_dev.specs.declared.fault.Fault.{Fault}
 use Rattle.mg_dev.specs.declared.fault.Fault.TheVariants as cause
@@ -17,26 +16,35 @@ use Rattle.mg_bits.specs.Pages.{Looked, Paging, SameFile}
 use Rattle.mg_layout.specs.Stands.{StandsForNone}
 use Rattle.mg_make.specs.Counting.{CountStops, EndStops, PassWith}
 use Rattle.mg_make.specs.Listing.{ListStops}
-use Rattle.mg_make.specs.Putting.{IsUnbuilt, OthersSame}
+use Rattle.mg_make.specs.Putting.{IsUnbuilt}
 use Rattle.mg_make.specs.Written.{SecondStops}
 use Rattle.mg_make.specs.Plans.{IsPlanOf, Plan}
 use Rattle.mg_make.specs.Outcomes.{Left}
 pub use Rattle.mg_make.proofs.CallerLemmas.{others_more, rose_behind}
 use Rattle.mg_build.specs.Building.{IsPlanFor, PassStops, WriteStops}
-use Rattle.mg_build.specs.Sources.{AreRead, ByteStops}
+use Rattle.mg_build.specs.Sources.{AreRead, ByteStops, IsFrom, IsOfOnePage}
 
 -- ---- bytes
 
 pub read_none : (files : Option Files) (name : List ℕ) → AreRead files name 0 []
 read_none files name = record { size = refl; told = λ told. refl }
 
-pub read_more : (files : Option Files) (name : List ℕ) (n byte : ℕ) (fed : List ℕ) → (IsSome files → slice_get (bytes_at files name) n ≡ Some byte) →
-    AreRead files name n fed → AreRead files name (n + 1) (fed ++ byte ∷ [])
-read_more files name n byte fed is before = record {
-  size = length_push fed byte ∙ ap (λ k. k + 1) before.size;
-  told = λ told. ap (λ front. front ++ byte ∷ []) (before.told told)
-      ∙ sym (take_more (bytes_at files name) n byte (slice_get_within _ n byte (is told)) ∙ ap (λ x. take n (bytes_at files name) ++ x ∷ []) (get_or_from_slice_get _ n byte byte (is told)));
+-- the first bytes of a block were read behind them
+pub read_front_of : (files : Option Files) (name : List ℕ) (n k : ℕ) (fed block : List ℕ) → k ≤ length block → (IsSome files → IsFrom n (bytes_at files name) block) →
+    AreRead files name n fed → AreRead files name (n + k) (fed ++ take k block)
+read_front_of files name n k fed block within is before = record {
+  size = omega (arith, length-append fed (take k block), length-take-le k block within, before.size);
+  told = λ told.
+      ap (λ front. front ++ take k block) (before.told told)
+      ∙ ap (λ more. take n (bytes_at files name) ++ more) (ap (take k) (is told) ∙ take-take k (length block) (drop n (bytes_at files name)) within)
+      ∙ sym (take-add n k (bytes_at files name));
 }
+
+-- all of them were
+pub read_block : (files : Option Files) (name : List ℕ) (n : ℕ) (fed block : List ℕ) → (IsSome files → IsFrom n (bytes_at files name) block) →
+    AreRead files name n fed → AreRead files name (n + length block) (fed ++ block)
+read_block files name n fed block is before = subst (λ more. AreRead files name (n + length block) (fed ++ more)) (take_all (length block) block (omega arith))
+    (read_front_of files name n (length block) fed block (omega arith) is before)
 
 -- all bytes were read
 pub read_all : (files : Option Files) (name : List ℕ) (size : ℕ) (fed : List ℕ) → AreRead files name size fed → IsSome files → length (bytes_at files name) ≡ size → fed ≡ bytes_at files name
@@ -50,12 +58,6 @@ read_all files name size fed are told whole = are.told told ∙ sym (ap (λ k. t
 pub read_front : (files : Option Files) (name : List ℕ) (n : ℕ) (fed : List ℕ) → AreRead files name n fed → IsSome files → fed ++ drop n (bytes_at files name) ≡ bytes_at files name
 read_front files name n fed are told = ap (λ front. front ++ drop n (bytes_at files name)) (are.told told) ∙ take-append-drop n (bytes_at files name)
 
--- the same file's bytes
-pub read_later : (before now : Option Files) (name : List ℕ) (n byte : ℕ) → (IsSome before → IsSome now) → bytes_at now name ≡ bytes_at before name →
-    (IsSome now → slice_get (bytes_at now name) n ≡ Some byte)
-    → IsSome before → slice_get (bytes_at before name) n ≡ Some byte
-read_later before now name n byte still same is told = sym (ap (λ bytes. slice_get bytes n) same) ∙ is (still told)
-
 -- ---- files
 
 -- a store that told its files still does
@@ -66,11 +68,21 @@ still_told before now same told = same ∙ told
 pub same_bytes : (f g : Option Files) (one other : List ℕ) → one ≡ other → file_at g other ≡ file_at f other → bytes_at g one ≡ bytes_at f other
 same_bytes f g one other same is = ap (λ n. bytes_at g n) same ∙ ap (λ (file : Option (List ℕ)). unwrap_or file []) is
 
--- a byte that is read of the file, as it was
-pub read_so_far : (before now : Option Files) (name same : List ℕ) (at byte : ℕ) → now ≡ before → same ≡ name →
-    (IsSome now → slice_get (bytes_at now same) at ≡ Some byte) → IsSome before → slice_get (bytes_at before name) at ≡ Some byte
-read_so_far before now name same at byte f n is told = subst (λ x. slice_get (bytes_at before x) at ≡ Some byte) n
-    (subst (λ files. IsSome files → slice_get (bytes_at files same) at ≡ Some byte) f is told)
+-- a block that is read of the file, as it was
+pub block_so_far : {given block : List ℕ} → (before now : Option Files) (name same : List ℕ) (at : ℕ) → given ≡ block → (IsSome before → IsSome now) → bytes_at now same ≡ bytes_at before name →
+    (IsSome now → IsFrom at (bytes_at now same) block) → IsSome before → IsFrom at (bytes_at before name) given
+block_so_far {given} {block} before now name same at is still bytes from told =
+    subst (λ (b : List ℕ). IsFrom at (bytes_at before name) b) (sym is) (subst (λ (file : List ℕ). IsFrom at file block) bytes (from (still told)))
+
+-- the same where no file changed
+pub block_here : {given block : List ℕ} → (before now : Option Files) (name same : List ℕ) (at : ℕ) → given ≡ block → now ≡ before → same ≡ name →
+    (IsSome now → IsFrom at (bytes_at now same) block) → IsSome before → IsFrom at (bytes_at before name) given
+block_here before now name same at is files names from = block_so_far before now name same at is (λ told. subst (λ f. IsSome f) (sym files) told)
+    (ap (λ n. bytes_at now n) names ∙ ap (λ f. bytes_at f name) files) from
+
+-- the page that it is of
+pub page_of_block : {given block : List ℕ} {at size : ℕ} → given ≡ block → IsOfOnePage at (length block) size → IsOfOnePage at (length given) size
+page_of_block {at = at} {size} is page = subst (λ bytes. IsOfOnePage at (length bytes) size) (sym is) page
 
 pub same_file_none : (f : Paging) → SameFile f f
 same_file_none f = record { name = refl; part = refl }
@@ -178,26 +190,26 @@ write_byte rose now plan first later name same size kept cause.InputTooLong more
 write_byte rose now plan first later name same size kept cause.SameName more still bytes k stop = absurd stop
 write_byte rose now plan first later name same size kept (cause.TooManyRotations count) more still bytes k stop = absurd stop
 
--- a byte that is not written
-pub write_put : (rose now : Type 0) (plan : Plan) (files : Option Files) (name fed : List ℕ) (size n byte : ℕ) (fault : Fault) → (rose → now) → size < 2 ^ 32 →
-    n < size → (IsSome files → slice_get (bytes_at files name) n ≡ Some byte) → AreRead files name n fed
-    → ((more : List ℕ) → length (fed ++ byte ∷ more) < 2 ^ 32 → SecondStops rose (IsPlanOf plan (fed ++ byte ∷ more)) fault) → WriteStops now (IsPlanFor plan files name size) fault
-write_put rose now plan files name fed size n byte fault grows few below is are stop = by fault stop
+-- bytes of which the last is not written
+pub write_put : (rose now : Type 0) (plan : Plan) (files : Option Files) (name fed run : List ℕ) (size n : ℕ) (fault : Fault) → (rose → now) → size < 2 ^ 32 →
+    n ≤ size → AreRead files name n (fed ++ run)
+    → ((more : List ℕ) → length (fed ++ (run ++ more)) < 2 ^ 32 → SecondStops rose (IsPlanOf plan (fed ++ (run ++ more))) fault) → WriteStops now (IsPlanFor plan files name size) fault
+write_put rose now plan files name fed run size n fault grows few below are stop = by fault stop
   where
-    short : length (fed ++ byte ∷ []) < 2 ^ 32
-    short = subst (λ k. k < 2 ^ 32) (sym (length_push fed byte ∙ ap (λ k. k + 1) are.size)) (omega (arith, few, below))
+    short : length (fed ++ (run ++ [])) < 2 ^ 32
+    short = subst (λ k. k < 2 ^ 32) (sym (ap length (ap (λ r. fed ++ r) (append-nil run)) ∙ are.size)) (omega (arith, few, below))
 
-    all : IsSome files → fed ++ byte ∷ drop (n + 1) (bytes_at files name) ≡ bytes_at files name
-    all told = sym (append_assoc fed (byte ∷ []) (drop (n + 1) (bytes_at files name))) ∙ read_front files name (n + 1) (fed ++ byte ∷ []) (read_more files name n byte fed is are) told
+    all : IsSome files → fed ++ (run ++ drop n (bytes_at files name)) ≡ bytes_at files name
+    all told = sym (append_assoc fed run (drop n (bytes_at files name))) ∙ read_front files name n (fed ++ run) are told
 
-    by : (fault : Fault) → ((more : List ℕ) → length (fed ++ byte ∷ more) < 2 ^ 32 → SecondStops rose (IsPlanOf plan (fed ++ byte ∷ more)) fault) →
+    by : (fault : Fault) → ((more : List ℕ) → length (fed ++ (run ++ more)) < 2 ^ 32 → SecondStops rose (IsPlanOf plan (fed ++ (run ++ more))) fault) →
         WriteStops now (IsPlanFor plan files name size) fault
     by cause.StoreFault stop = grows (stop [] short)
     by cause.Memory stop = tt
     by (cause.Changed what first second) stop = (
       (stop [] short).0,
       λ same.
-          (stop (drop (n + 1) (bytes_at files name)) (subst (λ k. k < 2 ^ 32) (sym (ap length (all same.told) ∙ same.whole)) few)).1
+          (stop (drop n (bytes_at files name)) (subst (λ k. k < 2 ^ 32) (sym (ap length (all same.told) ∙ same.whole)) few)).1
           (subst (λ bytes. IsPlanOf plan bytes) (sym (all same.told)) same.counted),
     )
     by cause.Usage stop = stop [] short

@@ -1,5 +1,5 @@
 -- A collection's file: what contracts see of a reader of its bytes.
-use Rattle.std.specs.Prelude.{◌≡◌, ◌≢◌, ◌<◌, ◌≤◌, ◌+◌, ◌-◌, ◌*◌, ◌^◌, ℕ, List, length, min, take, None, Some}
+use Rattle.std.specs.Prelude.{◌≡◌, ◌≢◌, ◌<◌, ◌≤◌, ◌+◌, ◌-◌, ◌*◌, ◌^◌, ℕ, Bool, true, false, List, length, min, take, drop, None, Some}
 use Rattle.std.specs.Option.{IsSome}
 use Rattle.std.specs.declared.option.Option.{Option}
 use Rattle.mg_bits.specs.Feed.{page_of}
@@ -12,9 +12,10 @@ use Rattle.mg_dev.specs.declared.fault.Fault.{Fault}
 use Rattle.mg_dev.specs.declared.fault.Fault.TheVariants.{Changed, Memory, NoCollection, StoreFault, TooLarge}
 use Rattle.mg_make.specs.Outcomes.{most_bytes}
 
--- a reader of pages, and the bytes that the file had when it was opened
+-- a reader of pages, the bytes that were read last, and how many the file had when it was opened
 pub record Sourcing : Type 0 where
   pub feed : Paging
+  pub block : List ℕ
   pub size : ℕ
 
 -- why a collection is not opened
@@ -32,6 +33,25 @@ ByteStops store_rose files name size StoreFault = store_rose
 ByteStops store_rose files name size (Changed what first second) = (first ≢ second)
     × (IsSome files → length (bytes_at files name) ≢ size)
 ByteStops store_rose files name size _ = ⊥
+
+-- ---- a block of bytes
+
+-- some bytes from a place on, all of them on its page and below a size
+pub record IsOfOnePage (at count size : ℕ) : Type 0 where
+  pub some : 0 < count
+  pub within : at + count ≤ size
+  pub page : page_of 4096 (8 * (at + count - 1)) ≡ page_of 4096 (8 * at)
+
+-- the block has the bytes of a file from a place on
+abbrev pub IsFrom : ℕ → List ℕ → List ℕ → Type 0
+IsFrom at bytes block = block ≡ take (length block) (drop at bytes)
+
+-- the front of a block has so many bytes of a file from a place on, or they end before
+abbrev pub FillsFront : Bool → ℕ → ℕ → List ℕ → List ℕ → Type 0
+FillsFront true at count bytes block = take count block ≡ take count (drop at bytes)
+FillsFront false at count bytes block = length bytes < at + count
+
+-- ---- bytes that were read
 
 -- so many bytes were read, where the file is told its first ones
 pub record AreRead (files : Option Files) (name : List ℕ) (count : ℕ) (fed : List ℕ) : Type 0 where

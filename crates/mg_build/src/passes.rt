@@ -20,7 +20,7 @@ use mg_dev::{Fault, Store};
 use mg_make::{Count, Plan, Room, SetWriter, Summary, empty_heads_stand_for_none};
 use std::alloc::Global;
 
-// Counts each byte of a collection.
+// Counts the bytes of a collection, a page after another.
 fn count_bytes<S: Store>(
     store: &mut S,
     source: &mut Source<'_, S>,
@@ -40,15 +40,19 @@ fn count_bytes<S: Store>(
         (S.files store.old) source.old.feed.name source.old.size) }
     ensures looked { Between S.files S.reads S.faults store.old store.new (Looked part.Plain) }
 {
-    for at in 0..source.size() {
-        let byte = match source.byte(store, at) {
-            Ok(byte) => byte,
-            Err(refusal) => return Err(refusal),
-        };
-        match count.take(byte) {
+    let size = source.size();
+    let mut at = 0;
+    while at < size {
+        match source.turn(store, at) {
             Ok(()) => {}
             Err(refusal) => return Err(refusal),
         }
+        let bytes = source.block();
+        match count.take_all(bytes) {
+            Ok(()) => {}
+            Err(refusal) => return Err(refusal),
+        }
+        at += bytes.len() as u64;
     }
     Ok(())
 }
@@ -84,7 +88,7 @@ pub(crate) fn count_all<S: Store>(
     count.finish(alloc, budget)
 }
 
-// Gives each byte of a collection to the writer of its set.
+// Gives the bytes of a collection to the writer of its set, a page after another.
 fn put_bytes<S: Store>(
     store: &mut S,
     source: &mut Source<'_, S>,
@@ -110,15 +114,19 @@ fn put_bytes<S: Store>(
         (IsPlanAt writer.old.plan (S.files store.old) source.old)) }
     ensures later { S.faults store.old ≤ S.faults store.new }
 {
-    for at in 0..source.size() {
-        let byte = match source.byte(store, at) {
-            Ok(byte) => byte,
-            Err(refusal) => return Err(refusal),
-        };
-        match writer.take(store, byte) {
+    let size = source.size();
+    let mut at = 0;
+    while at < size {
+        match source.turn(store, at) {
             Ok(()) => {}
             Err(refusal) => return Err(refusal),
         }
+        let bytes = source.block();
+        match writer.take_all(store, bytes) {
+            Ok(()) => {}
+            Err(refusal) => return Err(refusal),
+        }
+        at += bytes.len() as u64;
     }
     Ok(())
 }

@@ -1,13 +1,15 @@
-use Rattle.std.proofs.Common.{arith, ◌<◌, ◌^◌, ◌∙◌, ◌+◌, ◌++◌, ◌∷◌, [], ◌≡◌, refl, subst}
+use Rattle.std.proofs.Common.{arith, ◌<◌, ◌^◌, ◌∙◌, ◌+◌, ◌++◌, [], ◌≡◌, IsSome, length, refl, subst, take}
+use Rattle.mg_dev.specs.Files.{bytes_at}
 use Rattle.mg_dev.specs.declared.part.Part.TheVariants.{Plain}
-use Rattle.mg_build.specs.Sources.{ReadsPages}
+use Rattle.mg_build.specs.Sources.{AreRead, IsFrom, IsOfOnePage, ReadsPages}
 use Rattle.mg_bits.proofs.CallerLemmas.{looked_twice}
-use Rattle.mg_build.proofs.PassLaws.{looked_nowhere, pass_count, read_more, read_none, read_so_far, same_file_more, same_file_none}
-use Rattle.mg_build.proofs.ReadLaws.{read_nothing, read_on}
+use Rattle.mg_build.proofs.PassLaws.{block_here, looked_nowhere, pass_count, page_of_block, read_block, read_front_of, read_none, same_file_more, same_file_none}
+use Rattle.mg_build.proofs.ReadLaws.{read_nothing, read_page}
 use Rattle.mg_build.proofs.passes.count_bytes.Goals as goal
 
 pub loop-at-init : goal.loop-at-init
 loop-at-init g c = record {
+  within = omega arith;
   fits = c.requires.fits;
   file = same_file_none c.args.source.now.feed;
   size = refl;
@@ -18,35 +20,70 @@ loop-at-init g c = record {
 
 pub returns-clause-whole : goal.returns-clause-whole
 returns-clause-whole g c = λ none.
-    let all : c.loop-at.at ≡ c.args.source.now.size = omega (arith, c.loop-at-test.false, c.size-at-end.ensures.size) in
+    let all : c.loop-at.at ≡ c.args.source.now.size = omega (arith, c.loop-at-test.false, c.loop-at.invariant.within, c.size-size.ensures.size) in
     subst (λ n. ReadsPages n (g.S.Store.reads c.args.store.now Plain) (g.S.Store.reads c.loop-at.store Plain)) all (c.loop-at.invariant.read none).reads
 
-pub returns-in-Err-take-clause-refused : goal.returns-in-Err-take-clause-refused
-returns-in-Err-take-clause-refused g c =
-    let before = g.S.Store.files c.args.store.now in
+pub returns-clause-counted : goal.returns-clause-counted
+returns-clause-counted g c =
+    let all : c.loop-at.at ≡ c.args.source.now.size = omega (arith, c.loop-at-test.false, c.loop-at.invariant.within, c.size-size.ensures.size) in
+    let counted = c.loop-at.invariant.counted in
+    (counted.0, subst (λ n. AreRead (g.S.Store.files c.args.store.now) c.args.source.now.feed.name n counted.0) all counted.1, counted.2)
+
+pub turn-requires : goal.turn-requires
+turn-requires g c = record {
+  fits = c.loop-at.invariant.fits;
+  within = omega (arith, c.loop-at-test.true, c.loop-at.invariant.size, c.size-size.ensures.size);
+}
+
+pub take_all-requires : goal.take_all-requires
+take_all-requires g c =
     let so_far = c.loop-at.invariant in
-    let read = read_so_far before (g.S.Store.files c.loop-at.store) c.args.source.now.feed.name c.loop-at.source.feed.name c.loop-at.at c.in-Ok.byte
-    so_far.looked.files so_far.file.name c.in-Ok.ensures.told in
-    let few : c.args.source.now.size < 2 ^ 32 = omega (arith, c.size-at-end.ensures.size, c.size-at-end.ensures.small) in
-    pass_count _ before c.args.source.now.feed.name (so_far.counted.0 ++ c.in-Ok.byte ∷ []) c.args.source.now.size (c.loop-at.at + 1) c.in-Err-take.refusal few
-    (read_more before c.args.source.now.feed.name c.loop-at.at c.in-Ok.byte so_far.counted.0 read so_far.counted.1) (c.in-Err-take.ensures.refused so_far.counted.0 so_far.counted.2)
+    let page = page_of_block c.block-bytes.ensures c.in-Ok.ensures.block in
+    record { given = (so_far.counted.0, so_far.counted.2, omega (arith, so_far.counted.1.size, page.within, so_far.size, c.size-size.ensures.size, c.size-size.ensures.small)) }
+
+pub overflow_add-at : goal.overflow_add-at
+overflow_add-at g c =
+    let page = page_of_block c.block-bytes.ensures c.in-Ok.ensures.block in
+    omega (arith, page.within, c.loop-at.invariant.size, c.size-size.ensures.size, c.size-size.ensures.small)
+
+pub returns-in-Err-take_all-clause-refused : goal.returns-in-Err-take_all-clause-refused
+returns-in-Err-take_all-clause-refused g c =
+    let before = g.S.Store.files c.args.store.now in
+    let name = c.args.source.now.feed.name in
+    let so_far = c.loop-at.invariant in
+    let block = c.block-bytes.result.now in
+    let stop = c.in-Err-take_all.ensures.refused in
+    let read : (IsSome before → IsFrom c.loop-at.at (bytes_at before name) block)
+    = block_here before _ name _ c.loop-at.at c.block-bytes.ensures so_far.looked.files so_far.file.name c.in-Ok.ensures.told in
+    let few : c.args.source.now.size < 2 ^ 32 = omega (arith, c.size-size.ensures.size, c.size-size.ensures.small) in
+    pass_count _ before name (so_far.counted.0 ++ take (stop.taken + 1) block) c.args.source.now.size (c.loop-at.at + (stop.taken + 1)) c.in-Err-take_all.refusal few
+    (read_front_of before name c.loop-at.at (stop.taken + 1) so_far.counted.0 block (omega (arith, stop.within)) read so_far.counted.1)
+    (stop.stops so_far.counted.0 so_far.counted.2)
 
 pub loop-at-preserved : goal.loop-at-preserved
 loop-at-preserved g c =
     let before = g.S.Store.files c.args.store.now in
+    let name = c.args.source.now.feed.name in
     let so_far = c.loop-at.invariant in
-    let read = read_so_far before (g.S.Store.files c.loop-at.store) c.args.source.now.feed.name c.loop-at.source.feed.name c.loop-at.at c.in-Ok.byte
-    so_far.looked.files so_far.file.name c.in-Ok.ensures.told in
+    let block = c.block-bytes.result.now in
+    let page : IsOfOnePage c.loop-at.at (length block) c.loop-at.source.size = page_of_block c.block-bytes.ensures c.in-Ok.ensures.block in
+    let read : (IsSome before → IsFrom c.loop-at.at (bytes_at before name) block)
+    = block_here before _ name _ c.loop-at.at c.block-bytes.ensures so_far.looked.files so_far.file.name c.in-Ok.ensures.told in
     record {
+      within = omega (arith, page.within, so_far.size, c.size-size.ensures.size);
       fits = c.in-Ok.ensures.fits;
       file = same_file_more _ _ _ so_far.file c.in-Ok.ensures.file;
       size = c.in-Ok.ensures.size ∙ so_far.size;
-      read = λ none. read_on _ _ _ _ _ _ (so_far.read none) c.in-Ok.ensures.turned (c.in-Ok.ensures.looked.later Plain);
+      read = λ none. read_page page (so_far.read none) c.in-Ok.ensures.turned (c.in-Ok.ensures.looked.later Plain);
       looked = looked_twice _ _ _ _ _ _ _ _ _ _ so_far.looked c.in-Ok.ensures.looked;
       counted = (
-        so_far.counted.0 ++ c.in-Ok.byte ∷ [],
-        read_more before c.args.source.now.feed.name c.loop-at.at c.in-Ok.byte so_far.counted.0 read
-            so_far.counted.1,
-        c.in-Ok-take.ensures.given so_far.counted.0 so_far.counted.2,
+        so_far.counted.0 ++ block,
+        read_block before name c.loop-at.at so_far.counted.0 block read so_far.counted.1,
+        c.in-Ok-take_all.ensures.given so_far.counted.0 so_far.counted.2,
       );
     }
+
+pub loop-at-smaller : goal.loop-at-smaller
+loop-at-smaller g c =
+    let page = page_of_block c.block-bytes.ensures c.in-Ok.ensures.block in
+    omega (arith, page.some, page.within, c.loop-at-test.true)

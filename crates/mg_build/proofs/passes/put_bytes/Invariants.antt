@@ -1,4 +1,4 @@
-use Rattle.std.proofs.Common.{◌≡◌, ◌≤◌, ℕ, List, [], Some, IsSome}
+use Rattle.std.proofs.Common.{◌≡◌, ◌≤◌, ◌-◌, ℕ, List, [], Some, IsSome}
 use Rattle.mg_dev.specs.Files.{file_at}
 use Rattle.mg_dev.specs.Names.{full_name}
 use Rattle.mg_dev.specs.declared.part.Part.TheVariants.{Head, Plain}
@@ -10,6 +10,7 @@ use Rattle.mg_build.proofs.passes.put_bytes.Given as goal
 
 abbrev pub invariant-loop-at : goal.invariant-loop-at
 invariant-loop-at g l = record {
+  within : l.at ≤ l.size;
   fits : Fits l.source.feed (g.S.Store.files l.store);
   file : SameFile l.fn.source.feed l.source.feed;
   size : l.source.size ≡ l.fn.source.size;
@@ -22,3 +23,6 @@ invariant-loop-at g l = record {
   later : g.S.Store.faults l.fn.store ≤ g.S.Store.faults l.store;
   put : (fed : List ℕ) × AreRead (g.S.Store.files l.fn.store) l.fn.source.feed.name l.at fed × HasPut l.writer (g.S.Store.files l.store) fed;
 }
+
+abbrev pub decreases-loop-at : goal.decreases-loop-at
+decreases-loop-at g l = l.size - l.at
