@@ -158,60 +158,59 @@ fn ranks_twelve(
 
 #[test]
 fn twelve_documents_are_ranked(rt: HostRuntime) -> Result<(), Fail> {
-    assert!(rt; ranks_twelve(rt.alloc(), &OAK_ELM, &TWO_BEST, (3, 10))?);
-    assert!(rt; ranks_twelve(rt.alloc(), &SIX, &ALL, (1000, 12))?);
+    let two = ranks_twelve(rt.alloc(), &OAK_ELM, &TWO_BEST, (3, 10))?;
+    assert!(rt; two && ranks_twelve(rt.alloc(), &SIX, &ALL, (1000, 12))?);
     Ok(())
 }
 
+// A term of four documents, and one that no document has.
+static OF_FOUR: TermInfo = TermInfo {
+    number: 0,
+    docs: 4,
+    post_at: 0,
+    skip_at: 0,
+};
+
+static OF_NONE: TermInfo = TermInfo {
+    number: 0,
+    docs: 0,
+    post_at: 0,
+    skip_at: 0,
+};
+
 // Why the twelve documents are not ranked by a term, if they are not, and how many calls of the store that took.
-fn refusal(alloc: Global, term: TermInfo, call: u64) -> Result<(Option<PartErr>, u64), AllocError> {
+fn refusal(
+    alloc: Global,
+    term: &TermInfo,
+    call: u64,
+) -> Result<(Option<PartErr>, u64), AllocError> {
     let mut store = twelve(alloc)?;
     store.fail_at(call, 0)?;
-    let told = ranks(alloc, &mut store, &[term], &[], (3, 0)).err();
+    let told = ranks(alloc, &mut store, &[*term], &[], (3, 0)).err();
     Ok((told, store.calls()))
 }
 
 #[test]
-fn damage_and_failing_calls_are_told(rt: HostRuntime) -> Result<(), Fail> {
-    let alloc = rt.alloc();
-    let (none, _) = refusal(
-        alloc,
-        TermInfo {
-            number: 0,
-            docs: 0,
-            post_at: 0,
-            skip_at: 0,
-        },
-        1000,
-    )?;
-    let told = matches!(none, Some(PartErr::Bad(bad)) if bad.part == Part::Lex && bad.found == 0);
-    assert!(rt; told, "a term that no document has");
-    let (whole, calls) = refusal(
-        alloc,
-        TermInfo {
-            number: 0,
-            docs: 4,
-            post_at: 0,
-            skip_at: 0,
-        },
-        1000,
-    )?;
-    assert!(rt; whole.is_none(), "no call fails");
+fn a_term_that_no_document_has_is_damage_of_the_lexicon(rt: HostRuntime) -> Result<(), Fail> {
+    let (told, _) = refusal(rt.alloc(), &OF_NONE, 1000)?;
+    assert!(rt; matches!(told, Some(PartErr::Bad(bad)) if bad.part == Part::Lex && bad.found == 0));
+    Ok(())
+}
+
+// Whether each of the calls that there are is told where it fails, and no other comes behind it.
+fn are_calls_told(alloc: Global) -> Result<bool, AllocError> {
+    let (whole, calls) = refusal(alloc, &OF_FOUR, 1000)?;
     for call in 0..calls {
-        let told = refusal(
-            alloc,
-            TermInfo {
-                number: 0,
-                docs: 4,
-                post_at: 0,
-                skip_at: 0,
-            },
-            call,
-        )?;
-        assert!(rt;
-            told == (Some(PartErr::Device), call.saturating_add(1)),
-            "{call}"
-        );
+        let told = refusal(alloc, &OF_FOUR, call)?;
+        if told != (Some(PartErr::Device), call.saturating_add(1)) {
+            return Ok(false);
+        }
     }
+    Ok(calls > 0 && whole.is_none())
+}
+
+#[test]
+fn failing_calls_are_told(rt: HostRuntime) -> Result<(), Fail> {
+    assert!(rt; are_calls_told(rt.alloc())?);
     Ok(())
 }

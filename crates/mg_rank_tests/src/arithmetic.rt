@@ -1,6 +1,5 @@
-//! The arithmetic beside the numbers of an independent reference.
+//! The arithmetic of weights and scores beside the numbers of an independent reference.
 use mg_fixed::{doc_term_weight, isqrt, lg, score, term_weight};
-use std::test::Fail;
 
 /// A number, its logarithm and its root, as an independent reference gives them. The rows are lent to
 /// what reads them: a constant would be copied there, which is dear to prove.
@@ -167,8 +166,7 @@ fn other_root(rows: &[(u64, u32, u32)]) -> Option<u64> {
 
 #[test]
 fn logarithms_and_roots_are_those_of_the_reference(rt: HostRuntime) {
-    assert!(rt; other_root(&LOGARITHMS_AND_ROOTS).is_none());
-    assert!(rt; isqrt(0) == 0);
+    assert!(rt; isqrt(0) == 0 && other_root(&LOGARITHMS_AND_ROOTS).is_none());
 }
 
 /// The documents that have a term, all documents, and the term's weight.
@@ -225,20 +223,17 @@ fn other_weight_in_document(rows: &[(u32, u32)]) -> Option<u32> {
     None
 }
 
-#[test]
-fn weights_are_those_of_the_reference(rt: HostRuntime) {
-    assert!(rt; other_weight(&TERM_WEIGHTS).is_none());
-    assert!(rt; other_weight_in_document(&WEIGHTS_IN_DOCUMENT).is_none());
+/// Whether three documents have the weights and the scores of the reference: the cat sat, the dog, cat and cat and dog.
+fn are_scores() -> bool {
+    let weights = isqrt(3 * 256 * 256) == 443 && isqrt(2 * 256 * 256) == 362;
+    let of_twice = isqrt(512 * 512 + 256 * 256) == 572 && term_weight(2, 3) == 338;
+    let scores = score(512 * 338, 572) == 77451 && score(256 * 338, 443) == 50002;
+    weights && of_twice && scores && score((1 << 56) - 1, 1) == u64::MAX - 255
 }
 
 #[test]
-fn scores_of_three_documents(rt: HostRuntime) {
-    // The cat sat. The dog. Cat, cat and dog.
-    assert!(rt; isqrt(3 * 256 * 256) == 443);
-    assert!(rt; isqrt(2 * 256 * 256) == 362);
-    assert!(rt; isqrt(512 * 512 + 256 * 256) == 572);
-    assert!(rt; term_weight(2, 3) == 338);
-    assert!(rt; score(512 * 338, 572) == 77451);
-    assert!(rt; score(256 * 338, 443) == 50002);
-    assert!(rt; score((1 << 56) - 1, 1) == u64::MAX - 255);
+fn weights_and_scores_are_those_of_the_reference(rt: HostRuntime) {
+    let other = other_weight(&TERM_WEIGHTS).is_some();
+    let other_in_document = other_weight_in_document(&WEIGHTS_IN_DOCUMENT).is_some();
+    assert!(rt; !other && !other_in_document && are_scores());
 }
