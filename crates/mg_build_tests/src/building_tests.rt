@@ -1,18 +1,19 @@
-//! What no clause says: that builds succeed, the parts of a real collection, how a collection is read, and what a store
-//! that lies leaves. The parts of other collections and failing stores stand in the black-box suite and with the tools.
+//! What no clause says: that builds succeed, the parts of a real collection, that a set is printed by one put, how a collection
+//! is read, and what a store that lies leaves. The parts of other collections and failing stores stand in the black-box suite
+//! and with the tools.
 use crate::other_store::OtherStore;
 use mg_build::build;
 use mg_decode::decode;
-use mg_dev::{Fault, Part, What};
+use mg_dev::{Fault, Part, Store, What};
 use mg_make::Summary;
-use mg_mem::{MemSink, MemStore, SureStore};
+use mg_mem::{MemSink, SureSink, SureStore};
 use std::alloc::{AllocError, Global};
 use std::test::Fail;
 
-const LETTERS: &[u8] = b"the cat sat\n\x02the dog\n\x02Cat, cat & dog!\n\x02";
+static LETTERS: &[u8] = b"the cat sat\n\x02the dog\n\x02Cat, cat & dog!\n\x02";
 
 /// What a build of the three documents tells, by an independent reference.
-const SUMMARY: Summary = Summary {
+static SUMMARY: Summary = Summary {
     documents: 3,
     words: 5,
     others: 5,
@@ -24,7 +25,7 @@ const SUMMARY: Summary = Summary {
 };
 
 /// The parts of their set, by the same.
-const PARTS: [(&str, &[u8]); 13] = [
+static PARTS: [(&str, &[u8]); 13] = [
     (
         "set.head",
         b"MGROWv2\n\0\0\0\x03\0\0\0\x05\0\0\0\x05\0\0\0\x04\0\x15UU\0\0\0\0\0\0\0\0\0\0\0'\0\0\0\0\0\0\0\x08\0\0\0\x01\0\0\0\0\0\0\0\0\0\0\0\x08\0\0\0\0\0\0\0\x04\0\0\0\0\0\0\0\x04",
@@ -59,27 +60,49 @@ const PARTS: [(&str, &[u8]); 13] = [
 ];
 
 /// The first part that has other bytes; no name where none has.
-fn first_other(store: &MemStore) -> &'static str {
-    for (name, bytes) in PARTS {
-        if store.file(name) != Some(bytes) {
+fn first_other(store: &SureStore) -> &'static str {
+    for (name, bytes) in &PARTS {
+        if store.file(name) != Some(*bytes) {
             return name;
         }
     }
     ""
 }
 
-/// What a build of the three documents tells, and the first part that has other bytes.
-fn built(alloc: Global) -> Result<(Result<Summary, Fault>, &'static str), AllocError> {
-    let mut store = MemStore::new(alloc);
+/// Builds the collection with the smallest pool.
+fn built_of<S: Store>(alloc: Global, store: &mut S) -> Result<Summary, Fault> {
+    build(alloc, store, "text", "set", 4096)
+}
+
+/// Whether a build of the three documents with the usual pool tells their summary.
+fn is_summed_up<S: Store>(alloc: Global, store: &mut S) -> bool {
+    match build(alloc, store, "text", "set", 16_777_216) {
+        Ok(summary) => summary == SUMMARY,
+        Err(_) => false,
+    }
+}
+
+/// Whether the set is printed as its collection, and no second put comes.
+fn is_printed_in_one_put<S: Store>(alloc: Global, store: &mut S) -> Result<bool, AllocError> {
+    let mut out = MemSink::new(alloc);
+    out.fail_at(1, 0)?;
+    let status = decode(alloc, store, "set", &mut out);
+    Ok(status.is_ok() && out.bytes() == LETTERS)
+}
+
+/// Whether a build of the three documents tells their summary and is printed so, and the first part that has other bytes.
+fn built(alloc: Global) -> Result<(bool, bool, &'static str), AllocError> {
+    let mut store = SureStore::new(alloc);
     store.put_file("text", LETTERS)?;
-    let told = build(alloc, &mut store, "text", "set", 16_777_216);
-    Ok((told, first_other(&store)))
+    let told = is_summed_up(alloc, &mut store);
+    let printed = is_printed_in_one_put(alloc, &mut store)?;
+    Ok((told, printed, first_other(&store)))
 }
 
 #[test]
-fn a_set_has_its_parts(rt: HostRuntime) -> Result<(), Fail> {
-    let (told, other) = built(rt.alloc())?;
-    assert!(rt; told == Ok(SUMMARY));
+fn a_set_has_its_parts_and_is_printed_in_one_put(rt: HostRuntime) -> Result<(), Fail> {
+    let (told, printed, other) = built(rt.alloc())?;
+    assert!(rt; told && printed);
     assert!(rt; other.is_empty(), "{other}");
     Ok(())
 }
@@ -94,11 +117,6 @@ fn holding(
     held.put_file(one, first)?;
     held.put_file(other, second)?;
     Ok(OtherStore::new(held))
-}
-
-/// Builds the collection with the smallest pool.
-fn built_of(alloc: Global, store: &mut OtherStore) -> Result<Summary, Fault> {
-    build(alloc, store, "text", "set", 4096)
 }
 
 /// The letters so many times.
@@ -116,18 +134,24 @@ fn long_store(alloc: Global) -> Result<OtherStore, AllocError> {
     holding(alloc, ("text", &collection), ("other", b""))
 }
 
+/// What is seen of its build: the runs, how often the collection was read and how often before the first byte of a run was
+/// written, and the longest read.
+fn long_build(alloc: Global) -> Result<(Option<u32>, u64, u64, usize), AllocError> {
+    let mut store = long_store(alloc)?;
+    let runs = built_of(alloc, &mut store).ok().map(|summary| summary.runs);
+    let reads = store.held.reads_of(Part::Plain);
+    let before = store.before_runs.unwrap_or(u64::MAX);
+    Ok((runs, reads, before, store.longest))
+}
+
 #[test]
 fn a_collection_is_read_twice_and_runs_are_written_as_it_is_read(
     rt: HostRuntime,
 ) -> Result<(), Fail> {
-    let alloc = rt.alloc();
-    let mut store = long_store(alloc)?;
-    let runs = built_of(alloc, &mut store).map(|summary| summary.runs);
-    assert!(rt; runs == Ok(97));
-    let reads = store.held.reads_of(Part::Plain);
+    let (runs, reads, before, longest) = long_build(rt.alloc())?;
+    assert!(rt; runs == Some(97));
     assert!(rt; reads <= 2 * 39, "{reads}");
-    assert!(rt; store.longest <= 4096);
-    let before = store.before_runs.unwrap_or(u64::MAX);
+    assert!(rt; longest <= 4096);
     assert!(rt; before <= reads.saturating_sub(20));
     Ok(())
 }
@@ -172,7 +196,7 @@ fn is_told(
 }
 
 /// Ends of a collection at both readings, and what is told of them.
-const ENDS: [(&[u8], &[u8], What, u64, u64); 9] = [
+static ENDS: [(&[u8], &[u8], What, u64, u64); 9] = [
     (b"a b\x02", b"a b", What::Size, 5004, 5003),
     (
         b"aa\x02a\x02",
@@ -199,20 +223,25 @@ const ENDS: [(&[u8], &[u8], What, u64, u64); 9] = [
 #[test]
 fn a_collection_that_changes_is_told(rt: HostRuntime) -> Result<(), Fail> {
     let alloc = rt.alloc();
-    for (before, after, what, first, second) in ENDS {
-        let told = is_told(alloc, (before, after), what, (first, second))?;
+    for (before, after, what, first, second) in &ENDS {
+        let told = is_told(alloc, (before, after), *what, (*first, *second))?;
         assert!(rt; told, "{first} and {second}");
     }
     Ok(())
+}
+
+/// Whether the set is printed, and ends so.
+fn is_printed_to<S: Store>(alloc: Global, store: &mut S, end: &[u8]) -> bool {
+    let mut out = SureSink::new(alloc);
+    let shown = decode(alloc, store, "set", &mut out).is_ok();
+    shown && out.bytes().ends_with(end)
 }
 
 /// Whether the set is that of what was read last, where each number is the same at both readings.
 fn is_of_the_second(alloc: Global) -> Result<bool, AllocError> {
     let mut store = changing(alloc, b"a b\x02b c\x02", b"c b\x02b a\x02")?;
     let made = built_of(alloc, &mut store).is_ok();
-    let mut out = MemSink::new(alloc);
-    let shown = decode(alloc, &mut store, "set", &mut out).is_ok();
-    Ok(made && shown && out.bytes().ends_with(b"\x02c b\x02b a\x02"))
+    Ok(made && is_printed_to(alloc, &mut store, b"\x02c b\x02b a\x02"))
 }
 
 #[test]
@@ -231,11 +260,12 @@ fn is_damaged_by(alloc: Global, runs: &[u8]) -> Result<bool, AllocError> {
     Ok(matches!(told, Err(Fault::Damaged(_))) && unbuilt)
 }
 
+/// No run; an end within a code; another term; another document; a posting more.
+static OTHER_RUNS: [&[u8]; 5] = [b"", b"\xff", b"\x40", b"\x20", b"\x80\0"];
+
 #[test]
 fn runs_that_change_are_damaged(rt: HostRuntime) -> Result<(), Fail> {
-    // No run; an end within a code; another term; another document; a posting more.
-    let rows: [&[u8]; 5] = [b"", b"\xff", b"\x40", b"\x20", b"\x80\0"];
-    for runs in rows {
+    for runs in &OTHER_RUNS {
         assert!(rt; is_damaged_by(rt.alloc(), runs)?, "{runs:?}");
     }
     Ok(())

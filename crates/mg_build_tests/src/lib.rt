@@ -1,4 +1,5 @@
-//! Tests of `mg_build`, `mg_decode` and `mg_migrate`, through their public calls.
+//! Tests of the calls that make sets of files, print them and check them: `mg_build`, `mg_decode`, `mg_migrate`, `mg_merge` and
+//! `mg_check`, through their public calls.
 //!
 //! They stand in a crate of their own, as integration tests do: a crate that holds tests is proved once
 //! as a library and once more as the program that runs them.
@@ -7,7 +8,9 @@
 #[cfg(test)]
 mod building_tests;
 #[cfg(test)]
-mod decoding_tests;
+mod checking_tests;
+#[cfg(test)]
+mod merging_tests;
 #[cfg(test)]
 mod migrating_tests;
 #[cfg(test)]

@@ -6,25 +6,17 @@ use mg_migrate::migrate;
 use std::alloc::{AllocError, Global};
 use std::test::Fail;
 
-// The set of the eight bytes `a a a a ` in version 1, a part each: its name in the old set, in the new one, its bytes.
-const COPIED: [(&str, &str, &[u8]); 9] = [
-    ("old.words", "new.words", b"\x01a\x01"),
-    ("old.nonwords", "new.nonwords", b"\x01 \x01"),
-    ("old.text", "new.text", b"\xc8\0"),
-    (
-        "old.lex",
-        "new.lex",
-        b"\x01a\0\0\0\x01\0\0\0\0\0\0\0\0\0\0\0\0",
-    ),
-    ("old.lexat", "new.lexat", b"\0\0\0\0"),
-    ("old.post", "new.post", b"`"),
-    (
-        "old.skip",
-        "new.skip",
-        b"\0\0\0\0\0\0\0\x01\0\0\0\0\0\0\0\0",
-    ),
-    ("old.weights", "new.weights", b"\0\0\x03\0"),
-    ("old.run", "new.run", b"\x18"),
+// The set of the eight bytes `a a a a ` in version 1, a part each, without its head and its places.
+static COPIED: [(&str, &[u8]); 9] = [
+    ("old.words", b"\x01a\x01"),
+    ("old.nonwords", b"\x01 \x01"),
+    ("old.text", b"\xc8\0"),
+    ("old.lex", b"\x01a\0\0\0\x01\0\0\0\0\0\0\0\0\0\0\0\0"),
+    ("old.lexat", b"\0\0\0\0"),
+    ("old.post", b"`"),
+    ("old.skip", b"\0\0\0\0\0\0\0\x01\0\0\0\0\0\0\0\0"),
+    ("old.weights", b"\0\0\x03\0"),
+    ("old.run", b"\x18"),
 ];
 
 const HEAD: &[u8] =
@@ -48,7 +40,7 @@ fn giving_less(
     given: &[u8],
 ) -> Result<OtherStore, AllocError> {
     let mut held = SureStore::new(alloc);
-    for (name, _, bytes) in COPIED {
+    for (name, bytes) in &COPIED {
         held.put_file(name, bytes)?;
     }
     for (name, bytes) in [("old.head", head), ("old.places", places), (other, given)] {
@@ -69,7 +61,7 @@ fn is_told(alloc: Global, store: &mut OtherStore, bad: Bad) -> bool {
 // A part, the file that it gives in place of its own, the bytes of that file, and the size that is told.
 type Short = (Part, &'static str, &'static [u8], u64);
 
-const SHORT: [Short; 10] = [
+static SHORT: [Short; 10] = [
     (Part::Words, "other.words", b"\x01a", 3),
     (Part::Nonwords, "other.nonwords", b"\x01 ", 3),
     (Part::Text, "other.text", b"\xc8", 2),
@@ -93,7 +85,8 @@ const SHORT: [Short; 10] = [
 ];
 
 // Whether a part that gives fewer bytes than its size is told.
-fn is_told_short(alloc: Global, (part, other, given, size): Short) -> Result<bool, AllocError> {
+fn is_told_short(alloc: Global, row: &Short) -> Result<bool, AllocError> {
+    let (part, other, given, size) = *row;
     let mut store = giving_less(alloc, WIDE_HEAD, WIDE_PLACES, part, other, given)?;
     let found = given.len() as u64;
     if found >= size {
@@ -125,7 +118,7 @@ fn is_second_place_told(alloc: Global) -> Result<bool, AllocError> {
 
 #[test]
 fn a_part_that_gives_fewer_bytes_than_its_size_is_told(rt: HostRuntime) -> Result<(), Fail> {
-    for row in SHORT {
+    for row in &SHORT {
         assert!(rt; is_told_short(rt.alloc(), row)?, "{}", row.1);
     }
     assert!(rt; is_second_place_told(rt.alloc())?);
