@@ -1,6 +1,6 @@
 //! Runs of each tool over devices in memory. Expected answers are rows worked by hand, but that of the trial, which is
 //! another implementation's.
-use mg_dev::{Fault, Status};
+use mg_dev::{Fault, Sink, Source, Status, Store};
 use mg_mem::{MemSink, MemSource, MemStore};
 use mg_top::run;
 use std::alloc::{AllocError, Global};
@@ -13,7 +13,7 @@ const LETTERS: &[u8] = b"the cat sat\n\x02the dog\n\x02Cat, cat & dog!\n\x02";
 type Run<'a> = (&'a [&'a str], &'a [u8], &'a [u8]);
 
 /// Each tool, one after the other over one store: no clause refuses a tool that always lacks memory.
-const RUNS: [Run<'static>; 12] = [
+static RUNS: [Run<'static>; 12] = [
     (
         &["build", "--budget=4096", "text", "set"],
         b"",
@@ -53,7 +53,6 @@ const RUNS: [Run<'static>; 12] = [
 ];
 
 /// The call of each device that fails.
-#[derive(Clone, Copy)]
 struct Failing {
     input: u64,
     output: u64,
@@ -61,12 +60,27 @@ struct Failing {
 }
 
 /// No call fails.
-const NONE: Failing = Failing {
+static NONE: Failing = Failing {
     input: u64::MAX,
     output: u64::MAX,
     error: u64::MAX,
 };
 
+/// The input can't be read, and the error output fails too: the status stays.
+static UNREAD: Failing = Failing {
+    input: 0,
+    output: u64::MAX,
+    error: 0,
+};
+
+/// The output can't be written.
+static UNWRITTEN: Failing = Failing {
+    input: u64::MAX,
+    output: 0,
+    error: u64::MAX,
+};
+
+/// The words of a command line.
 fn words_of(alloc: Global, given: &[&str]) -> Result<Vec<String>, AllocError> {
     let mut words = Vec::new(alloc);
     for word in given {
@@ -96,100 +110,169 @@ fn sink_of(alloc: Global, fails: u64, keep: u64) -> Result<MemSink, AllocError> 
     Ok(sink)
 }
 
-/// How a row's words over a store end, and whether just the row's bytes are printed and just this line is told.
-fn ended(
+/// Carries out the words of a command line.
+fn carry_out<S: Store, I: Source, O: Sink, E: Sink>(
     alloc: Global,
-    store: &mut MemStore,
-    (given, lines, printed): Run<'_>,
-    failing: Failing,
-    line: &[u8],
-) -> Result<(Status, bool, bool), AllocError> {
+    given: &[&str],
+    store: &mut S,
+    input: &mut I,
+    out: &mut O,
+    err: &mut E,
+) -> Result<Status, AllocError> {
     let words = words_of(alloc, given)?;
+    Ok(run(alloc, &words, store, input, out, err))
+}
+
+/// What a run leaves: how it ended, and whether just the bytes and just the line that were asked for are printed and told.
+#[derive(Clone, Copy)]
+struct Left {
+    status: Status,
+    is_printed: bool,
+    is_told: bool,
+}
+
+/// How a row's words over a store end, and whether just these bytes are printed and just this line is told.
+fn ended<S: Store>(
+    alloc: Global,
+    store: &mut S,
+    (given, lines): (&[&str], &[u8]),
+    failing: &Failing,
+    (printed, line): (&[u8], &[u8]),
+) -> Result<Left, AllocError> {
     let mut input = input_of(alloc, lines, failing.input)?;
     let mut out = sink_of(alloc, failing.output, 1)?;
     let mut err = sink_of(alloc, failing.error, 3)?;
-    let status = run(alloc, &words, store, &mut input, &mut out, &mut err);
-    Ok((status, out.bytes() == printed, err.bytes() == line))
+    let status = carry_out(alloc, given, store, &mut input, &mut out, &mut err)?;
+    Ok(Left {
+        status,
+        is_printed: out.bytes() == printed,
+        is_told: err.bytes() == line,
+    })
+}
+
+/// Whether a row's words end so, print just these bytes and tell just this line.
+fn ends<S: Store>(
+    alloc: Global,
+    store: &mut S,
+    row: &Run<'_>,
+    failing: &Failing,
+    status: Status,
+    (printed, line): (&[u8], &[u8]),
+) -> Result<bool, AllocError> {
+    let left = ended(alloc, store, (row.0, row.1), failing, (printed, line))?;
+    Ok(left.status == status && left.is_printed && left.is_told)
+}
+
+/// What fails in a run.
+#[derive(Clone, Copy)]
+enum Fails {
+    Nothing,
+    Output,
+    Input,
+}
+
+/// Whether a row's words end as they are to where this fails. A row with no input reads none.
+fn ends_despite<S: Store>(
+    alloc: Global,
+    store: &mut S,
+    row: &Run<'_>,
+    fails: Fails,
+) -> Result<bool, AllocError> {
+    let first = row.2.get(..1).unwrap_or(b"");
+    let unwritten: &[u8] = b"mg: the output could not be written\n";
+    match fails {
+        Fails::Nothing => ends(alloc, store, row, &NONE, Status::Done, (row.2, b"")),
+        Fails::Output => ends(
+            alloc,
+            store,
+            row,
+            &UNWRITTEN,
+            Status::Stopped(Fault::WriteFault),
+            (first, unwritten),
+        ),
+        Fails::Input => {
+            let status = Status::Stopped(Fault::ReadFault);
+            let ended = ends(alloc, store, row, &UNREAD, status, (b"", b"mg:"))?;
+            Ok(ended || row.1.is_empty())
+        }
+    }
+}
+
+/// The number of the first row that ends otherwise, if there is one.
+fn first_other<S: Store>(
+    alloc: Global,
+    store: &mut S,
+    rows: &[Run<'_>],
+    fails: Fails,
+) -> Result<Option<usize>, AllocError> {
+    for number in 0..rows.len() {
+        if !ends_despite(alloc, store, &rows[number], fails)? {
+            return Ok(Some(number));
+        }
+    }
+    Ok(None)
+}
+
+/// The same of all rows over a store with the three documents.
+fn other(alloc: Global, fails: Fails) -> Result<Option<usize>, AllocError> {
+    let mut store = letters(alloc)?;
+    first_other(alloc, &mut store, &RUNS, fails)
 }
 
 #[test]
 fn each_tool_answers(rt: HostRuntime) -> Result<(), Fail> {
-    let alloc = rt.alloc();
-    let mut store = letters(alloc)?;
-    for row in RUNS {
-        let left = ended(alloc, &mut store, row, NONE, b"")?;
-        assert!(rt; left == (Status::Done, true, true), "{:?}", row.0);
+    assert!(rt; other(rt.alloc(), Fails::Nothing)?.is_none());
+    Ok(())
+}
+
+#[test]
+fn failing_inputs_and_outputs_are_told(rt: HostRuntime) -> Result<(), Fail> {
+    for fails in [Fails::Output, Fails::Input] {
+        assert!(rt; other(rt.alloc(), fails)?.is_none());
     }
     Ok(())
 }
 
 /// How often a row's words stop for the store, each call of which fails in turn, until they end well. None where
 /// they end in another way.
-fn failures(alloc: Global, store: &mut MemStore, row: Run<'_>) -> Result<Option<u64>, AllocError> {
+fn failures(alloc: Global, store: &mut MemStore, row: &Run<'_>) -> Result<Option<u64>, AllocError> {
+    let line: &[u8] = b"mg: the store failed\n";
     for call in 0..1000u64 {
         store.fail_at(store.calls().saturating_add(call), 0)?;
-        let (status, is_printed, is_told) = ended(
-            alloc,
-            store,
-            row,
-            NONE,
-            b"mg: the store failed\n",
-        )?;
-        if status != Status::Stopped(Fault::StoreFault) || !is_told {
-            let is_done = status == Status::Done && is_printed;
+        let left = ended(alloc, store, (row.0, row.1), &NONE, (row.2, line))?;
+        if left.status != Status::Stopped(Fault::StoreFault) || !left.is_told {
+            let is_done = left.status == Status::Done && left.is_printed;
             return Ok(if is_done { Some(call) } else { None });
         }
     }
     Ok(None)
 }
 
-#[test]
-fn each_failing_call_of_a_store_is_told(rt: HostRuntime) -> Result<(), Fail> {
-    let alloc = rt.alloc();
-    let mut store = letters(alloc)?;
-    for row in RUNS {
-        let failed = failures(alloc, &mut store, row)?;
-        // A trial goes on in a store of its own.
-        let least = if row.0.len() == 3 && row.1.is_empty() {
-            0
-        } else {
-            2
-        };
-        assert!(rt; failed.is_some_and(|calls| calls >= least), "{:?}", row.0);
+/// The number of the first row that does not stop for two calls of the store at least, if there is one. The last row, a
+/// trial, goes on in a store of its own.
+fn first_unstopped(
+    alloc: Global,
+    store: &mut MemStore,
+    rows: &[Run<'_>],
+) -> Result<Option<usize>, AllocError> {
+    for number in 0..rows.len() {
+        let least = if number + 1 < rows.len() { 2 } else { 0 };
+        match failures(alloc, store, &rows[number])? {
+            Some(calls) if calls >= least => {}
+            _ => return Ok(Some(number)),
+        }
     }
-    Ok(())
+    Ok(None)
+}
+
+/// The same of all rows over a store with the three documents.
+fn unstopped(alloc: Global) -> Result<Option<usize>, AllocError> {
+    let mut store = letters(alloc)?;
+    first_unstopped(alloc, &mut store, &RUNS)
 }
 
 #[test]
-fn failing_inputs_and_outputs_are_told(rt: HostRuntime) -> Result<(), Fail> {
-    let alloc = rt.alloc();
-    let mut store = letters(alloc)?;
-    let unwritten = Failing {
-        input: u64::MAX,
-        output: 0,
-        error: u64::MAX,
-    };
-    // The error output fails too: the status stays.
-    let unread = Failing {
-        input: 0,
-        output: u64::MAX,
-        error: 0,
-    };
-    let line: &[u8] = b"mg: the output could not be written\n";
-    for (given, lines, printed) in RUNS {
-        let first = printed.get(..1).unwrap_or(b"");
-        let left = ended(alloc, &mut store, (given, lines, first), unwritten, line)?;
-        assert!(rt;
-            left == (Status::Stopped(Fault::WriteFault), true, true),
-            "{given:?}"
-        );
-        if !lines.is_empty() {
-            let left = ended(alloc, &mut store, (given, lines, b""), unread, b"mg:")?;
-            assert!(rt;
-                left == (Status::Stopped(Fault::ReadFault), true, true),
-                "{given:?}"
-            );
-        }
-    }
+fn each_failing_call_of_a_store_is_told(rt: HostRuntime) -> Result<(), Fail> {
+    assert!(rt; unstopped(rt.alloc())?.is_none());
     Ok(())
 }
