@@ -16,7 +16,6 @@ pub mod OpenLaws
 pub mod ServedLaws
 pub mod PhraseWalkLaws
 pub mod PhraseReplyLaws
-pub mod PhraseStepLaws
 pub mod WildReplyLaws
 pub mod WildSetLaws
 pub mod WildStopLaws

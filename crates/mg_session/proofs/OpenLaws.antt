@@ -1,5 +1,5 @@
 -- What opening a set does, by what loading its head and its parts answers.
-use Rattle.std.proofs.Common.{arith, ◌≡◌, ◌≤◌, ◌⊎◌, ◌∙◌, ℕ, false, List, Ok, Err, None, Some, IsSome, Option, refl, sym, subst, inl, inr}
+use Rattle.std.proofs.Common.{arith, ◌≡◌, ◌≤◌, ◌⊎◌, ℕ, false, List, Ok, Err, None, Some, IsSome, Option, refl, sym, subst, inl, inr}
 use Rattle.std.specs.Prelude.{Result}
 use Rattle.mg_bits.specs.Pages.{Looked}
 use Rattle.mg_dev.specs.Causes.{Rose}
@@ -14,26 +14,22 @@ use Rattle.mg_dev.specs.declared.part.Part.{Part}
 use Rattle.mg_dev.specs.declared.part.Part.TheVariants as part
 use Rattle.mg_dev.specs.declared.part_err.PartErr.{PartErr}
 use Rattle.mg_dev.specs.declared.part_err.PartErr.TheVariants as err
-use Rattle.mg_defs.specs.CodedText.{TextCode}
 use Rattle.mg_defs.specs.Heads as defs
 use Rattle.mg_defs.specs.Heads.{IsHead}
 use Rattle.mg_defs.specs.WithinLimits.{IsWithinLimits}
-use Rattle.mg_front.specs.Reading.{Fronted, IsNotBad, LookedAt}
+use Rattle.mg_front.specs.Reading.{Fronted, IsNotBad}
 use Rattle.mg_layout.specs.HeadAnswers.{AnswersBack, AnswersHead}
 use Rattle.mg_layout.specs.declared.head.Head.{Head}
 use Rattle.mg_layout.proofs.CallerLemmas.{no_empty_head, own_head}
 use Rattle.mg_lex.specs.Reading.{IsLexicon, LexStands}
-use Rattle.mg_text.specs.Reading.{IsText, TextReading, TextStands}
 use Rattle.mg_wild.specs.Loading.{HasTermsOf, TellsOf}
 use Rattle.mg_wild.specs.Terms.{LexTerms}
-use Rattle.mg_session.specs.Opening.{HeadOpened, KeptByPatterns, KeptByPhrases, KeptByQueries, OpenStops, SetOpened}
-use Rattle.mg_session.specs.PhraseSearching.{PartsOverBy, PhraseParts}
+use Rattle.mg_session.specs.Opening.{HeadOpened, KeptByPatterns, KeptByQueries, OpenStops, SetOpened}
 use Rattle.mg_session.specs.Searching.{Opened, OpenedOver, opened_at}
 use Rattle.mg_session.specs.Serves.{StandsByNone}
 use Rattle.mg_session.specs.WildSearching.{PartsAreBy, WildParts}
 use Rattle.mg_session.specs.WildServes.{CountedBy}
-use Rattle.mg_session.proofs.PhraseStepLaws.{parts_over}
-use Rattle.mg_session.proofs.SetLaws.{opened_over, set_lexicon, set_text}
+use Rattle.mg_session.proofs.SetLaws.{opened_over, set_lexicon}
 use Rattle.mg_session.proofs.StopLaws.{head_read, open_part}
 use Rattle.mg_session.proofs.WildSetLaws.{wild_parts}
 
@@ -105,13 +101,13 @@ module _ (base : List ℕ) (s0 s1 : StoreAt) where
     built = λ h told is. absurd (l.back told h is);
   }
 
--- ---- a set for queries
+-- ---- a set for queries, or for phrases
 
 module _ (base : List ℕ) (s0 s1 : StoreAt) (head : Head) where
-  pub queries_opened : (lex : Fronted) (opened : Opened) → opened ≡ opened_at base lex head → s1.files ≡ s0.files → SameReads s0.reads s1.reads → s0.faults ≤ s1.faults →
+  pub parts_opened : (lex : Fronted) (opened : Opened) → opened ≡ opened_at base lex head → s1.files ≡ s0.files → SameReads s0.reads s1.reads → s0.faults ≤ s1.faults →
       ((collection : List ℕ) → IsLexicon base s0.files head.terms collection → LexStands lex s1.files collection) →
       SetOpened (OpenedOver s1.files) KeptByQueries (λ count. ⊥) head base s0 s1 (Ok opened)
-  queries_opened lex opened made files reads faults stands = record {
+  parts_opened lex opened made files reads faults stands = record {
     files = files;
     faults = faults;
     unread = λ p kept. reads p;
@@ -120,101 +116,16 @@ module _ (base : List ℕ) (s0 s1 : StoreAt) (head : Head) where
     cause = tt;
   }
 
-  pub queries_refused : (refusal : PartErr) → s1.files ≡ s0.files → SameReads s0.reads s1.reads → HasPartCause {T = Fronted} s0.faults s1.faults (Err refusal) →
+  pub parts_refused : (refusal : PartErr) → s1.files ≡ s0.files → SameReads s0.reads s1.reads → HasPartCause {T = Fronted} s0.faults s1.faults (Err refusal) →
       ((collection : List ℕ) → IsLexicon base s0.files head.terms collection → IsNotBad refusal) →
       SetOpened (OpenedOver s1.files) KeptByQueries (λ count. ⊥) head base s0 s1 (Err (fault_of_part refusal))
-  queries_refused refusal files reads cause never_bad = record {
+  parts_refused refusal files reads cause never_bad = record {
     files = files;
     faults = cause.later;
     unread = λ p kept. reads p;
     over = tt;
     cause = open_part {T = Fronted} refusal s0.faults s0.faults s1.faults ⊥ _ (λ count. ⊥) (omega arith) cause
         (λ bad code collection is. bad (never_bad collection (set_lexicon base s0.files head code collection is)));
-  }
-
--- ---- a set for phrases
-
--- the models are not among what is kept
-not_words : (p : Part) → KeptByPhrases p → same_part p part.Words ≡ false
-not_words part.Head kept = refl
-not_words part.Words kept = absurd kept
-not_words part.Nonwords kept = absurd kept
-not_words part.Text kept = refl
-not_words part.Places kept = refl
-not_words part.Lex kept = refl
-not_words part.LexAt kept = refl
-not_words part.Post kept = refl
-not_words part.Skip kept = refl
-not_words part.Weights kept = refl
-not_words part.Run kept = refl
-not_words part.MergeA kept = refl
-not_words part.MergeB kept = refl
-not_words part.Plain kept = refl
-
-not_others : (p : Part) → KeptByPhrases p → same_part p part.Nonwords ≡ false
-not_others part.Head kept = refl
-not_others part.Words kept = absurd kept
-not_others part.Nonwords kept = absurd kept
-not_others part.Text kept = refl
-not_others part.Places kept = refl
-not_others part.Lex kept = refl
-not_others part.LexAt kept = refl
-not_others part.Post kept = refl
-not_others part.Skip kept = refl
-not_others part.Weights kept = refl
-not_others part.Run kept = refl
-not_others part.MergeA kept = refl
-not_others part.MergeB kept = refl
-not_others part.Plain kept = refl
-
-module _ (base : List ℕ) (s0 s1 : StoreAt) (head : Head) where
-  pub no_lexicon : (refusal : PartErr) → s1.files ≡ s0.files → SameReads s0.reads s1.reads → HasPartCause {T = Fronted} s0.faults s1.faults (Err refusal) →
-      ((collection : List ℕ) → IsLexicon base s0.files head.terms collection → IsNotBad refusal) →
-      SetOpened (PartsOverBy s1.files) KeptByPhrases (λ count. ⊥) head base s0 s1 (Err (fault_of_part refusal))
-  no_lexicon refusal files reads cause never_bad = record {
-    files = files;
-    faults = cause.later;
-    unread = λ p kept. reads p;
-    over = tt;
-    cause = open_part {T = Fronted} refusal s0.faults s0.faults s1.faults ⊥ _ (λ count. ⊥) (omega arith) cause
-        (λ bad code collection is. bad (never_bad collection (set_lexicon base s0.files head code collection is)));
-  }
-
--- the lexicon was loaded, and then the text
-module _ (base : List ℕ) (s0 s1 s2 : StoreAt) (head : Head) (first : s1.files ≡ s0.files) (reads : SameReads s0.reads s1.reads) (later : s0.faults ≤ s1.faults)
-    (looked : LookedAt part.Words part.Nonwords s1.files s2.files s1.reads s2.reads s1.faults s2.faults) where
-  unread : (p : Part) → KeptByPhrases p → s2.reads p ≡ s0.reads p
-  unread p kept = looked.others p (not_words p kept) (not_others p kept) ∙ reads p
-
-  pub no_text : (refusal : PartErr) → HasPartCause {T = TextReading} s1.faults s2.faults (Err refusal) →
-      ((code : TextCode) (collection : List ℕ) → IsText base s1.files head code collection → IsNotBad refusal) →
-      SetOpened (PartsOverBy s2.files) KeptByPhrases (λ count. ⊥) head base s0 s2 (Err (fault_of_part refusal))
-  no_text refusal cause never_bad = record {
-    files = looked.files ∙ first;
-    faults = omega (arith, later, looked.faults);
-    unread = unread;
-    over = tt;
-    cause = open_part {T = TextReading} refusal s0.faults s1.faults s2.faults ⊥ _ (λ count. ⊥) later cause
-        (λ bad code collection is. bad (never_bad code collection (set_text base s0.files s1.files head code collection first is)));
-  }
-
-  pub phrases_opened : (lex : Fronted) (text : TextReading) (parts : PhraseParts) → parts ≡ record { base = base; lex = lex; text = text; all = head.documents; most = head.collection } →
-      ((collection : List ℕ) → IsLexicon base s0.files head.terms collection → LexStands lex s1.files collection) →
-      ((code : TextCode) (collection : List ℕ) → IsText base s1.files head code collection → TextStands text s2.files collection) →
-      ((code : TextCode) (collection : List ℕ) → IsText base s1.files head code collection → text.code ≡ code) →
-      SetOpened (PartsOverBy s2.files) KeptByPhrases (λ count. ⊥) head base s0 s2 (Ok parts)
-  phrases_opened lex text parts made lexicon stands code_is = record {
-    files = looked.files ∙ first;
-    faults = omega (arith, later, looked.faults);
-    unread = unread;
-    over = λ code collection is.
-        let own = set_text base s0.files s1.files head code collection first is in
-        subst (λ (p : PhraseParts). PartsOverBy s2.files p code collection) (sym made) (
-          parts_over base s0.files s1.files s2.files head code collection lex text first looked.files is
-              (lexicon collection (set_lexicon base s0.files head code collection is)) (stands code collection own),
-          code_is code collection own,
-        );
-    cause = tt;
   }
 
 -- ---- a set for patterns

@@ -1,15 +1,14 @@
 -- The reply to a phrase.
-use Rattle.std.proofs.Common.{arith, ◌≡◌, ℕ, zero, suc, ◌+◌, ◌-◌, ◌≤◌, List, [], ◌∷◌, ◌++◌, length, None, Ok, Err, get_or, refl, sym, ◌∙◌, ap, subst, sum_by, length-append}
+use Rattle.std.proofs.Common.{arith, ◌≡◌, ℕ, ◌+◌, ◌≤◌, List, [], ◌∷◌, ◌++◌, length, None, Some, Err, refl, sym, ◌∙◌, ap, subst, sum_by, length-append}
 use Rattle.std.specs.Prelude.{IfSome, IfErr, map, nat_le, nat_lt}
-use Rattle.std.specs.List.{AllByRecursion}
 use Rattle.std.specs.declared.option.Option.{Option}
 use Rattle.std.specs.declared.result.Result.{Result}
 use Rattle.std.proofs.lemmas.Bool.{cond_both, leb-false}
 use Rattle.std.proofs.lemmas.Option.{IfSome_then}
 use Rattle.std.proofs.lemmas.List.Sums.{sum_by-append, sum_by-cons}
 use Rattle.mg_dev.specs.Bads.{IsNotBad}
-use Rattle.mg_dev.specs.Files.{Files, Reads}
-use Rattle.mg_dev.specs.Streams.{AfterPut}
+use Rattle.mg_dev.specs.Files.{Reads}
+use Rattle.mg_dev.specs.Streams.{AfterPut, appended}
 use Rattle.mg_dev.specs.StreamLaws.{grew_nothing}
 use Rattle.mg_dev.specs.declared.part.Part.TheVariants as part
 use Rattle.mg_dev.specs.declared.part_err.PartErr.{PartErr}
@@ -29,19 +28,18 @@ use Rattle.mg_defs.specs.Terms.{folded}
 use Rattle.mg_defs.specs.Texts.{count}
 use Rattle.mg_defs.specs.Tokens.{PlacedToken, Token, amp, bang, bar, closing, opening, tokens, word}
 use Rattle.mg_defs.specs.declared.session.Hearing.TheVariants.{Questions}
+use Rattle.mg_defs.specs.declared.session.Mode.TheVariants as mode
 use Rattle.mg_defs.specs.declared.session.Settings.{Settings}
-use Rattle.mg_defs.proofs.ListLaws.{documents_short}
 use Rattle.mg_laws.proofs.PlainLaws.{questions_heard}
 use Rattle.mg_query.specs.AllOf.{IsAllOf}
 use Rattle.mg_query.specs.RefusalOf.{refusal_of}
 use Rattle.mg_query.specs.declared.query_err.QueryErr.{QueryErr}
 use Rattle.mg_reply.specs.Refusals.{AnswerStops}
-use Rattle.mg_reply.specs.Served.{PartStops}
-use Rattle.mg_text.specs.Held.{HasShortDocument}
-use Rattle.mg_text.specs.Reading.{ShowIsNotBad, TextReading, TextStands}
-use Rattle.mg_session.specs.Answering.{HasShowCause}
+use Rattle.mg_text.specs.Reading.{ShowIsNotBad}
 use Rattle.mg_session.specs.PhraseAnswers.{PhraseAnswered, PhraseReplied, ReadsPhrases, candidate_pages, joined_bound, line_lists, line_pages}
-use Rattle.mg_session.specs.PhraseSearching.{OnlyReads, PhraseMayStop, PhraseState, PhrasesAsked, PhrasesBy, PhrasesOver, SamePhraseParts}
+use Rattle.mg_session.specs.Parts.{Stepped}
+use Rattle.mg_session.specs.PhraseSearching.{PhrasesAsked, PhrasesBy}
+use Rattle.mg_session.specs.Searching.{Over, SameOpened, Searching}
 use Rattle.mg_session.proofs.ReplyLaws.{refused_sound}
 
 -- ---- a phrase has at most 64 words
@@ -176,33 +174,28 @@ decoded_sound Device error is sound = subst (λ e. ShowIsNotBad (Err e)) (sym is
 decoded_sound Memory error is sound = subst (λ e. ShowIsNotBad (Err e)) (sym is) tt
 decoded_sound (Bad bad) error is sound = absurd sound
 
--- a document of a collection is no longer than the collection
-short_at : (n : ℕ) (docs : List (List ℕ)) (i : ℕ) → AllByRecursion (λ (doc : List ℕ). length doc ≤ n) docs → length (get_or docs i []) ≤ n
-short_at n [] i all = omega arith
-short_at n (d ∷ docs) zero all = all.0
-short_at n (d ∷ docs) (suc i) all = short_at n docs i all.1
-
-pub short_document : (r : TextReading) (files : Option Files) (number most : ℕ) (collection : List ℕ) → TextStands r files collection →
-    length collection ≤ most → HasShortDocument r files number most collection
-short_document r files number most collection stands short = record {
-  stands = stands;
-  short = omega (arith, short_at (length collection) (documents collection) (number - 1) (documents_short collection), short);
-}
+-- what an empty sink in memory took
+pub held_whole : (before now doc : List ℕ) → before ≡ [] → Some now ≡ appended (Some before) doc → now ≡ doc
+unfolding appended
+held_whole before now doc empty put = inside now (before ++ doc) put ∙ ap (λ (b : List ℕ). b ++ doc) empty
+  where
+    inside : (x y : List ℕ) → Some x ≡ Some y → x ≡ y
+    inside x y same = cc
 
 -- ---- a session
 
-pub phrases_over : (s : PhraseState) (collection : List ℕ) → PhrasesOver s collection → PhrasesBy s (λ now. phrase_reply collection)
-phrases_over s collection over = record { collection = collection; over = over; by_is = refl }
+pub phrases_over : (s : Searching) (code : TextCode) (collection : List ℕ) → Over s code collection → PhrasesBy s (λ now. phrase_reply collection)
+phrases_over s code collection over = record { code = code; collection = collection; over = over; by_is = refl }
 
-pub phrases_asked : (s t : PhraseState) (now : Settings) (line : List ℕ) (w0 w1 : Option (List ℕ)) (result : Result (Unit {0}) ShowErr) →
-    OnlyReads s.files t.files s.reads t.reads s.faults t.faults → SamePhraseParts s.parts t.parts →
-    ((collection : List ℕ) → PhrasesOver s collection → PhraseReplied s.parts.text.code collection line w0 w1 s.reads t.reads result) →
+pub phrases_asked : (s t : Searching) (now : Settings) (line : List ℕ) (w0 w1 : Option (List ℕ)) (result : Result (Unit {0}) ShowErr) →
+    Stepped mode.Text s.files t.files s.reads t.reads s.faults t.faults → SameOpened s.opened t.opened →
+    ((code : TextCode) (collection : List ℕ) → Over s code collection → PhraseReplied code collection line w0 w1 s.reads t.reads result) →
     PhrasesAsked s t (record { now = now; line = line } ∷ [])
 phrases_asked s t now line w0 w1 result step same replied = record {
   step = step;
   same = same;
-  post = λ collection over. omega (arith, (replied collection over).post);
-  text = λ collection over. omega (arith, (replied collection over).text);
+  post = λ code collection over. omega (arith, (replied code collection over).post);
+  text = λ code collection over. omega (arith, (replied code collection over).text);
 }
 
 sum_by-map : (f : List ℕ → ℕ) (qs : List Question) → sum_by f (map (λ (q : Question). q.line) qs) ≡ sum_by (λ (q : Question). f q.line) qs
@@ -217,24 +210,10 @@ pub asked_lines : (f : List ℕ → ℕ) (given : List ℕ) (answered more : Lis
 asked_lines f given answered more is =
     ap (sum_by f) (questions_heard given) ∙ sum_by-map f (heard_questions Questions given) ∙ ap (sum_by (λ (q : Question). f q.line)) is ∙ sum_by-append (λ (q : Question). f q.line) answered more
 
-pub phrases_within : (s t : PhraseState) (answered : List Question) (collection given : List ℕ) → PhrasesAsked s t answered →
-    (more : List Question) × (heard_questions Questions given ≡ answered ++ more) → PhrasesOver s collection →
-    ReadsPhrases s.parts.text.code collection given s.reads t.reads
-phrases_within s t answered collection given a first over = record {
-  post = omega (arith, a.post collection over, asked_lines (line_lists collection) given answered first.0 first.1);
-  text = omega (arith, a.text collection over, asked_lines (line_pages s.parts.text.code collection) given answered first.0 first.1);
+pub phrases_within : (s t : Searching) (answered : List Question) (code : TextCode) (collection given : List ℕ) → PhrasesAsked s t answered →
+    (more : List Question) × (heard_questions Questions given ≡ answered ++ more) → Over s code collection →
+    ReadsPhrases code collection given s.reads t.reads
+phrases_within s t answered code collection given a first over = record {
+  post = omega (arith, a.post code collection over, asked_lines (line_lists collection) given answered first.0 first.1);
+  text = omega (arith, a.text code collection over, asked_lines (line_pages code collection) given answered first.0 first.1);
 }
-
--- why a line stops the session
-line_stops : (s t : PhraseState) (f g : ℕ) (error : ShowErr) → HasShowCause (Err error) s.faults t.faults f g →
-    ((collection : List ℕ) → PhrasesOver s collection → ShowIsNotBad (Err error)) → PartStops (PhraseMayStop s t) error
-line_stops s t f g (show.Part Device) cause sound = cause.caused
-line_stops s t f g (show.Part Memory) cause sound = tt
-line_stops s t f g (show.Part (Bad bad)) cause sound = sound
-line_stops s t f g show.Write cause sound = tt
-line_stops s t f g show.Memory cause sound = tt
-
-pub line_part : (s t : PhraseState) (f g : ℕ) (r : Result (Unit {0}) ShowErr) → HasShowCause r s.faults t.faults f g →
-    ((collection : List ℕ) → PhrasesOver s collection → ShowIsNotBad r) → IfErr r (PartStops (PhraseMayStop s t))
-line_part s t f g (Ok value) cause sound = tt
-line_part s t f g (Err error) cause sound = line_stops s t f g error cause sound

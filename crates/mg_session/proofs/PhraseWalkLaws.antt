@@ -1,6 +1,6 @@
 -- An answer to a phrase that is under way.
-use Rattle.std.proofs.Common.{arith, ◌≡◌, ℕ, ◌+◌, ◌<◌, ◌≤◌, inl, inr, Bool, true, false, List, [], ◌∷◌, ◌++◌, length, drop, map, nat_lt, Some, None, Err, refl, sym, ◌∙◌, ap, subst, append_assoc, append-nil, length-append, sum_by}
-use Rattle.std.specs.Prelude.{flat_map}
+use Rattle.std.proofs.Common.{arith, ◌≡◌, ℕ, ◌+◌, ◌≤◌, inl, inr, Bool, true, false, List, [], ◌∷◌, ◌++◌, length, drop, map, nat_lt, Some, None, Err, refl, sym, ◌∙◌, ap, subst, append_assoc, append-nil, length-append, sum_by}
+use Rattle.std.specs.Prelude.{flat_map, OnOk, Ok}
 use Rattle.std.specs.List.{AllByRecursion}
 use Rattle.std.specs.declared.option.Option.{Option}
 use Rattle.std.specs.declared.result.Result.{Result}
@@ -11,7 +11,7 @@ use Rattle.std.proofs.lemmas.List.Sums.{sum_by-append}
 use Rattle.std.proofs.Math.Seq.{take-length}
 use Rattle.mg_dev.specs.Files.{Reads}
 use Rattle.mg_dev.specs.Streams.{AfterPut, GrewByPrefix, appended}
-use Rattle.mg_dev.specs.StreamLaws.{grew_first}
+use Rattle.mg_dev.specs.StreamLaws.{grew_first, grew_nothing}
 use Rattle.mg_dev.specs.declared.part.Part.TheVariants as part
 use Rattle.mg_dev.specs.declared.show_err.ShowErr.{ShowErr}
 use Rattle.mg_defs.specs.CodedText.{TextCode}
@@ -36,7 +36,8 @@ use Rattle.mg_query.specs.declared.query.Query as declared
 use Rattle.mg_reply.specs.Pending.{AfterPass, Passed}
 use Rattle.mg_reply.proofs.CallerLemmas.{pass_nothing, pass_both, pass_cut}
 use Rattle.mg_text.specs.Reading.{ShowIsNotBad}
-use Rattle.mg_session.specs.PhraseAnswers.{PhraseAnswered, PhraseWalked, candidate_pages, found_among, found_at, found_if, joined_bound, rows_of}
+use Rattle.mg_session.specs.PhraseAnswers.{DocumentSearched, PhraseAnswered, PhraseWalked, candidate_pages, found_among, found_at, found_if, found_in, joined_bound, rows_of}
+use Rattle.mg_session.specs.declared.phrase_rows.PhraseRows.{PhraseRows}
 use Rattle.mg_session.proofs.TotalLaws.{put_rest}
 
 -- ---- the query of all terms
@@ -140,19 +141,18 @@ among-append : (collection : List ℕ) (phrase : List (List ℕ)) (xs ys : List 
 unfolding found_among
 among-append collection phrase xs ys = flat_map-append (λ (s : Shown). found_at s.number (phrase_places phrase (document collection s.number))) xs ys
 
-among-one : (collection : List ℕ) (phrase : List (List ℕ)) (number places : ℕ) → places ≡ phrase_places phrase (document collection number) →
-    found_among collection phrase (plain number ∷ []) ≡ found_at number places
+among-one : (collection : List ℕ) (phrase : List (List ℕ)) (number : ℕ) → found_among collection phrase (plain number ∷ []) ≡ found_in collection phrase number
 unfolding found_among
-among-one collection phrase number places is = append-nil _ ∙ ap (found_at number) (sym is)
+among-one collection phrase number = append-nil _
 
 among-none : (collection : List ℕ) (phrase : List (List ℕ)) → found_among collection phrase [] ≡ []
 unfolding found_among
 among-none collection phrase = refl
 
-among-push : (collection : List ℕ) (phrase : List (List ℕ)) (xs : List Shown) (number places : ℕ) → places ≡ phrase_places phrase (document collection number) →
-    found_among collection phrase (xs ++ plain number ∷ []) ≡ found_among collection phrase xs ++ found_at number places
-among-push collection phrase xs number places is = among-append collection phrase xs (plain number ∷ [])
-    ∙ ap (λ fs. found_among collection phrase xs ++ fs) (among-one collection phrase number places is)
+among-push : (collection : List ℕ) (phrase : List (List ℕ)) (xs : List Shown) (number : ℕ) →
+    found_among collection phrase (xs ++ plain number ∷ []) ≡ found_among collection phrase xs ++ found_in collection phrase number
+among-push collection phrase xs number = among-append collection phrase xs (plain number ∷ [])
+    ∙ ap (λ fs. found_among collection phrase xs ++ fs) (among-one collection phrase number)
 
 rows-append : (xs ys : List PhraseHit) → rows_of (xs ++ ys) ≡ rows_of xs ++ rows_of ys
 unfolding rows_of
@@ -173,24 +173,30 @@ text_front xs ys = (
       ∙ append_assoc (rows_of xs) (rows_of ys) (count (length (xs ++ ys))),
 )
 
-pub size_some : (number places : ℕ) → 0 < places → length (found_at number places) ≡ 1
-size_some number places some = ap (λ (b : Bool). length (found_if b number places)) (lt-ltb 0 places some)
+-- a row is counted where there is one
+pub count_some : (number places : ℕ) → (places ≡ 0 → ⊥) → length (found_at number places) ≡ 1
+count_some number places some = ap (λ (b : Bool). length (found_if b number places)) (lt-ltb 0 places (omega (arith, some)))
 
-pub size_none : (number places : ℕ) → places ≤ 0 → length (found_at number places) ≡ 0
-size_none number places none = let e : places ≡ 0 = omega (arith, none) in ap (λ n. length (found_at number n)) e
+pub count_none : (number places : ℕ) → places ≡ 0 → length (found_at number places) ≡ 0
+count_none number places none = ap (λ n. length (found_at number n)) none
+
+-- what is so holds at `Ok` too
+pub at_ok : {T E P : Type 0} (r : Result T E) → P → OnOk r P
+at_ok (Ok value) is = is
+at_ok (Err error) is = tt
 
 pub nothing_found : (w : Option (List ℕ)) (waiting : List ℕ) (number places : ℕ) → places ≡ 0 → Passed w w waiting waiting (rows_of (found_at number places))
 nothing_found w waiting number places none = subst (Passed w w waiting waiting) (sym (ap (λ n. rows_of (found_at number n)) none ∙ rows-none)) (pass_nothing w waiting)
 
 -- ---- one document after another
 
-pub walked_start : (base : List ℕ) (code : TextCode) (collection : List ℕ) (phrase : List (List ℕ)) (q : Query) (w : Option (List ℕ)) (waiting : List ℕ)
-    (m : Matching) (r : Reads) → waiting ≡ [] → query_of m.asks ≡ q → m.decided ≡ 0 → MatchesOver base collection m →
-    PhraseWalked base code collection phrase q w w waiting 0 m r r
-walked_start base code collection phrase q w waiting m r none asks before over = record {
+pub walked_start : {base : List ℕ} {code : TextCode} {collection : List ℕ} (phrase : List (List ℕ)) {w : Option (List ℕ)} {waiting : List ℕ} {total : ℕ}
+    {m : Matching} {r : Reads} → waiting ≡ [] → total ≡ 0 → m.decided ≡ 0 → MatchesOver base collection m →
+    PhraseWalked base code collection phrase (query_of m.asks) w w waiting total m r r
+walked_start {base} {code} {collection} phrase {w} {waiting} {total} {m} none zero_is before over = record {
   so_far = [];
-  split = ap (λ p. satisfying collection p) (sym asks) ∙ ap (λ n. found (query_of m.asks) (n + 1) (drop n (documents collection))) (sym before);
-  total_is = ap length (among-none collection phrase);
+  split = ap (λ n. found (query_of m.asks) (n + 1) (drop n (documents collection))) (sym before);
+  total_is = ap length (among-none collection phrase) ∙ sym zero_is;
   passed = subst (Passed w w [] waiting) (sym (ap rows_of (among-none collection phrase) ∙ rows-none)) (subst (λ p. Passed w w [] p []) (sym none) (pass_nothing w []));
   over = over;
   post = omega arith;
@@ -198,26 +204,26 @@ walked_start base code collection phrase q w waiting m r none asks before over =
 }
 
 -- a document that was searched
-pub walked_searched : (base : List ℕ) (code : TextCode) (collection : List ℕ) (phrase : List (List ℕ)) (q : Query) (w0 w1 w2 : Option (List ℕ))
-    (waiting waiting2 : List ℕ) (total total2 number places bound : ℕ) (m n : Matching) (r0 r1 r2 r3 : Reads) →
-    PhraseWalked base code collection phrase q w0 w1 waiting total m r0 r1 → GoesOn (left_of collection m) (left_of collection n) (Some number) →
+pub walked_searched : {base : List ℕ} {code : TextCode} {collection : List ℕ} {phrase : List (List ℕ)} {q : Query} {w0 w1 w2 : Option (List ℕ)}
+    {rows rows_now : PhraseRows} {number bound : ℕ} {done : Unit {0}} (m n : Matching) {r0 : Reads} (r1 r2 : Reads) {r3 : Reads} →
+    PhraseWalked base code collection phrase q w0 w1 rows.pending rows.total m r0 r1 → GoesOn (left_of collection m) (left_of collection n) (Some number) →
     MatchesOver base collection n → PagesWithin bound (pages_read m.places) (pages_read n.places) r1 r2 → r2 part.Text ≡ r1 part.Text →
-    r3 part.Post ≡ r2 part.Post → r3 part.Text ≤ r2 part.Text + doc_pages code collection (plain number) →
-    places ≡ phrase_places phrase (document collection number) → Passed w1 w2 waiting waiting2 (rows_of (found_at number places)) →
-    total2 ≡ total + length (found_at number places) →
-    PhraseWalked base code collection phrase q w0 w2 waiting2 total2 n r0 r3
-walked_searched base code collection phrase q w0 w1 w2 waiting waiting2 total total2 number places bound m n r0 r1 r2 r3 w goes over pages text post doc_text is passed more =
-    let pushed = among-push collection phrase w.so_far number places is in
+    r3 part.Post ≡ r2 part.Post → DocumentSearched code collection phrase number w1 w2 rows rows_now r2 r3 (Ok done) →
+    PhraseWalked base code collection phrase q w0 w2 rows_now.pending rows_now.total n r0 r3
+walked_searched {base} {code} {collection} {phrase} {q} {w0} {w1} {w2} {rows} {rows_now} {number} m n r1 r2 w goes over pages text post one =
+    let pushed = among-push collection phrase w.so_far number in
+    let before = found_among collection phrase w.so_far in
+    let here = found_in collection phrase number in
     record {
       so_far = w.so_far ++ plain number ∷ [];
       split = w.split ∙ ap (λ l. w.so_far ++ l) (goes_some (left_of collection m) (left_of collection n) number (left_plain collection m) goes)
           ∙ sym (append_assoc w.so_far (plain number ∷ []) (left_of collection n));
-      total_is = omega (arith, ap length pushed, length-append (found_among collection phrase w.so_far) (found_at number places), w.total_is, more);
-      passed = subst (Passed w0 w2 [] waiting2) (sym (ap rows_of pushed ∙ rows-append (found_among collection phrase w.so_far) (found_at number places)))
-          (pass_both w0 w1 w2 [] waiting waiting2 (rows_of (found_among collection phrase w.so_far)) (rows_of (found_at number places)) w.passed passed);
+      total_is = omega (arith, ap length pushed, length-append before here, w.total_is, one.counted);
+      passed = subst (Passed w0 w2 [] rows_now.pending) (sym (ap rows_of pushed ∙ rows-append before here))
+          (pass_both w0 w1 w2 [] rows.pending rows_now.pending (rows_of before) (rows_of here) w.passed one.passed);
       over = over;
       post = omega (arith, w.post, pages.post, post);
-      text = omega (arith, w.text, text, doc_text, sum_by-append (doc_pages code collection) w.so_far (plain number ∷ []));
+      text = omega (arith, w.text, text, one.text, sum_by-append (doc_pages code collection) w.so_far (plain number ∷ []));
     }
 
 -- ---- the end, and stops before it
@@ -265,56 +271,40 @@ pages_too base code collection phrase q w0 w1 waiting total number m n r0 r1 r2 
     )
 
 -- the lists could not be read
-pub walked_stop : (base : List ℕ) (code : TextCode) (collection : List ℕ) (phrase : List (List ℕ)) (q : Query) (w0 w1 : Option (List ℕ)) (waiting : List ℕ)
-    (total : ℕ) (m n : Matching) (r0 r1 r2 : Reads) (error : ShowErr) →
+pub walked_stop : {base : List ℕ} {code : TextCode} {collection : List ℕ} {phrase : List (List ℕ)} {q : Query} {w0 w1 : Option (List ℕ)} {waiting : List ℕ}
+    {total : ℕ} (m n : Matching) {r0 : Reads} (r1 r2 : Reads) {error : ShowErr} →
     Joined code collection phrase q → PhraseWalked base code collection phrase q w0 w1 waiting total m r0 r1 →
     PagesWithin (boolean_bound collection q) (pages_read m.places) (pages_read n.places) r1 r2 → r2 part.Text ≡ r1 part.Text → ShowIsNotBad (Err error) →
     PhraseAnswered code collection phrase w0 w1 r0 r2 (Err error)
-walked_stop base code collection phrase q w0 w1 waiting total m n r0 r1 r2 error j w pages text sound = record {
+walked_stop {base} {code} {collection} {phrase} {q} {w0} {w1} {waiting} {total} m n {r0} r1 r2 j w pages text sound = record {
   put = so_far_prefix base code collection phrase q w0 w1 waiting total m r0 r1 j w;
   sound = sound;
   post = omega (arith, w.post, pages.post, pages.within, j.bound_is);
   text = omega (arith, pages_so_far base code collection phrase q w0 w1 waiting total m r0 r1 j w, text);
 }
 
--- a document could not be decoded
-pub walked_unread : (base : List ℕ) (code : TextCode) (collection : List ℕ) (phrase : List (List ℕ)) (q : Query) (w0 w1 : Option (List ℕ)) (waiting : List ℕ)
-    (total number : ℕ) (m n : Matching) (r0 r1 r2 r3 : Reads) (error : ShowErr) →
-    Joined code collection phrase q → PhraseWalked base code collection phrase q w0 w1 waiting total m r0 r1 →
+-- a document could not be searched, or its row not be passed on
+pub walked_cut : {base : List ℕ} {code : TextCode} {collection : List ℕ} {phrase : List (List ℕ)} {q : Query} {w0 w1 w2 : Option (List ℕ)}
+    {rows rows_now : PhraseRows} {number : ℕ} (m n : Matching) {r0 : Reads} (r1 r2 : Reads) {r3 : Reads} {error : ShowErr} →
+    Joined code collection phrase q → PhraseWalked base code collection phrase q w0 w1 rows.pending rows.total m r0 r1 →
     GoesOn (left_of collection m) (left_of collection n) (Some number) →
     PagesWithin (boolean_bound collection q) (pages_read m.places) (pages_read n.places) r1 r2 → r2 part.Text ≡ r1 part.Text →
-    r3 part.Post ≡ r2 part.Post → r3 part.Text ≤ r2 part.Text + doc_pages code collection (plain number) → ShowIsNotBad (Err error) →
-    PhraseAnswered code collection phrase w0 w1 r0 r3 (Err error)
-walked_unread base code collection phrase q w0 w1 waiting total number m n r0 r1 r2 r3 error j w goes pages text post doc_text sound = record {
-  put = so_far_prefix base code collection phrase q w0 w1 waiting total m r0 r1 j w;
-  sound = sound;
-  post = omega (arith, w.post, pages.post, pages.within, j.bound_is, post);
-  text = pages_too base code collection phrase q w0 w1 waiting total number m n r0 r1 r3 j w goes (omega (arith, doc_text, text));
-}
-
--- its row could not be passed on
-pub walked_cut : (base : List ℕ) (code : TextCode) (collection : List ℕ) (phrase : List (List ℕ)) (q : Query) (w0 w1 w2 : Option (List ℕ)) (waiting : List ℕ)
-    (total number places : ℕ) (m n : Matching) (r0 r1 r2 r3 : Reads) (error : ShowErr) →
-    Joined code collection phrase q → PhraseWalked base code collection phrase q w0 w1 waiting total m r0 r1 →
-    GoesOn (left_of collection m) (left_of collection n) (Some number) →
-    PagesWithin (boolean_bound collection q) (pages_read m.places) (pages_read n.places) r1 r2 → r2 part.Text ≡ r1 part.Text →
-    r3 part.Post ≡ r2 part.Post → r3 part.Text ≤ r2 part.Text + doc_pages code collection (plain number) →
-    places ≡ phrase_places phrase (document collection number) → GrewByPrefix w1 w2 (waiting ++ rows_of (found_at number places)) →
-    ShowIsNotBad (Err error) →
+    r3 part.Post ≡ r2 part.Post → DocumentSearched code collection phrase number w1 w2 rows rows_now r2 r3 (Err error) →
     PhraseAnswered code collection phrase w0 w2 r0 r3 (Err error)
-walked_cut base code collection phrase q w0 w1 w2 waiting total number places m n r0 r1 r2 r3 error j w goes pages text post doc_text is grew sound =
+walked_cut {base} {code} {collection} {phrase} {q} {w0} {w1} {w2} {rows} {rows_now} {number} m n {r0} r1 r2 {r3} j w goes pages text post one =
     let split : satisfying collection q ≡ (w.so_far ++ plain number ∷ []) ++ left_of collection n =
     w.split ∙ ap (λ l. w.so_far ++ l) (goes_some (left_of collection m) (left_of collection n) number (left_plain collection m) goes)
     ∙ sym (append_assoc w.so_far (plain number ∷ []) (left_of collection n)) in
-    let rows : rows_of (found_among collection phrase (w.so_far ++ plain number ∷ [])) ≡ rows_of (found_among collection phrase w.so_far) ++ rows_of (found_at number places) =
-    ap rows_of (among-push collection phrase w.so_far number places is) ∙ rows-append (found_among collection phrase w.so_far) (found_at number places) in
-    let part : GrewByPrefix w0 w2 (rows_of (found_among collection phrase w.so_far) ++ rows_of (found_at number places)) =
-    pass_cut w0 w1 w2 [] waiting (rows_of (found_among collection phrase w.so_far)) (rows_of (found_at number places)) w.passed grew in
+    let before = found_among collection phrase w.so_far in
+    let here = found_in collection phrase number in
+    let pushed : rows_of (found_among collection phrase (w.so_far ++ plain number ∷ [])) ≡ rows_of before ++ rows_of here =
+    ap rows_of (among-push collection phrase w.so_far number) ∙ rows-append before here in
+    let part : GrewByPrefix w0 w2 (rows_of before ++ rows_of here) = pass_cut w0 w1 w2 [] rows.pending (rows_of before) (rows_of here) w.passed one.passed in
     record {
-      put = front_grew code collection phrase q w0 w2 (w.so_far ++ plain number ∷ []) (left_of collection n) j split (subst (GrewByPrefix w0 w2) (sym rows) part);
-      sound = sound;
+      put = front_grew code collection phrase q w0 w2 (w.so_far ++ plain number ∷ []) (left_of collection n) j split (subst (GrewByPrefix w0 w2) (sym pushed) part);
+      sound = one.sound;
       post = omega (arith, w.post, pages.post, pages.within, j.bound_is, post);
-      text = pages_too base code collection phrase q w0 w1 waiting total number m n r0 r1 r3 j w goes (omega (arith, doc_text, text));
+      text = pages_too base code collection phrase q w0 w1 rows.pending rows.total number m n r0 r1 r3 j w goes (omega (arith, one.text, text));
     }
 
 -- all were searched
@@ -328,14 +318,14 @@ ended base code collection phrase q w0 w1 waiting total m n r0 r1 j w goes =
     ∙ ap (λ k. rows_of (found_among collection phrase w.so_far) ++ count k) w.total_is
 
 -- the count was put behind all that waited, or refused
-pub walked_end : (base : List ℕ) (code : TextCode) (collection : List ℕ) (phrase : List (List ℕ)) (q : Query) (w0 w1 w2 : Option (List ℕ)) (waiting : List ℕ)
-    (total : ℕ) (m n : Matching) (r0 r1 r2 : Reads) (result : Result (Unit {0}) ShowErr) →
+pub walked_end : {base : List ℕ} {code : TextCode} {collection : List ℕ} {phrase : List (List ℕ)} {q : Query} {w0 w1 w2 : Option (List ℕ)} {waiting : List ℕ}
+    {total : ℕ} (m n : Matching) {r0 : Reads} (r1 r2 : Reads) {result : Result (Unit {0}) ShowErr} →
     Joined code collection phrase q → PhraseWalked base code collection phrase q w0 w1 waiting total m r0 r1 →
     GoesOn (left_of collection m) (left_of collection n) None → PagesWithin (boolean_bound collection q) (pages_read m.places) (pages_read n.places) r1 r2 →
     r2 part.Text ≡ r1 part.Text →
     AfterPut w1 w2 (waiting ++ count total) result → ShowIsNotBad result →
     PhraseAnswered code collection phrase w0 w2 r0 r2 result
-walked_end base code collection phrase q w0 w1 w2 waiting total m n r0 r1 r2 result j w goes pages text put sound =
+walked_end {base} {code} {collection} {phrase} {q} {w0} {w1} {w2} {waiting} {total} m n {r0} r1 r2 {result} j w goes pages text put sound =
     let rows = rows_of (found_among collection phrase w.so_far) in
     record {
       put = subst (λ x. AfterPut w0 w2 x result) (sym (ended base code collection phrase q w0 w1 waiting total m n r0 r1 j w goes)) (put_rest w0 w1 w2 waiting rows (count total) result w.passed put);
@@ -343,6 +333,27 @@ walked_end base code collection phrase q w0 w1 w2 waiting total m n r0 r1 r2 res
       post = omega (arith, w.post, pages.post, pages.within, j.bound_is);
       text = omega (arith, pages_so_far base code collection phrase q w0 w1 waiting total m r0 r1 j w, text);
     }
+
+-- ---- a document that is searched
+
+module _ {code : TextCode} {collection : List ℕ} {phrase : List (List ℕ)} {number : ℕ} {w0 : Option (List ℕ)} {rows : PhraseRows} {r0 r1 : Reads} where
+  -- it could not be decoded
+  pub one_unread : {error : ShowErr} → ShowIsNotBad (Err error) → r1 part.Text ≤ r0 part.Text + doc_pages code collection (plain number) →
+      DocumentSearched code collection phrase number w0 w0 rows rows r0 r1 (Err error)
+  one_unread sound text = record { passed = grew_nothing w0 _; counted = tt; sound = sound; text = text }
+
+  -- its row was passed on, or cut
+  pub one_searched : {rows_now : PhraseRows} {w1 : Option (List ℕ)} (places : ℕ) {result : Result (Unit {0}) ShowErr} →
+      places ≡ phrase_places phrase (document collection number) → AfterPass w0 w1 rows.pending rows_now.pending (rows_of (found_at number places)) result →
+      OnOk result (rows_now.total ≡ rows.total + length (found_at number places)) → ShowIsNotBad result →
+      r1 part.Text ≤ r0 part.Text + doc_pages code collection (plain number) →
+      DocumentSearched code collection phrase number w0 w1 rows rows_now r0 r1 result
+  one_searched {rows_now} {w1} places {result} is passed counted sound text = record {
+    passed = subst (λ p. AfterPass w0 w1 rows.pending rows_now.pending (rows_of (found_at number p)) result) is passed;
+    counted = subst (λ p. OnOk result (rows_now.total ≡ rows.total + length (found_at number p))) is counted;
+    sound = sound;
+    text = text;
+  }
 
 -- ---- a row
 

@@ -1,23 +1,22 @@
 -- What a session of phrases answered is what the run did.
-use Rattle.std.proofs.Common.{arith, ◌≡◌, ◌++◌, ℕ, List, Ok, Err, refl, subst}
+use Rattle.std.proofs.Common.{arith, inl, ◌≡◌, ℕ, List, Ok, Err, refl}
 use Rattle.std.specs.Prelude.{Result}
 use Rattle.mg_dev.specs.Files.{Reads}
 use Rattle.mg_dev.specs.Moments.{SinkAt, SourceAt, StoreAt}
 use Rattle.mg_dev.specs.Runs.{Run, status_of}
 use Rattle.mg_dev.specs.declared.fault.Fault.{Fault}
-use Rattle.mg_dev.specs.declared.part.Part.{Part}
-use Rattle.mg_dev.specs.declared.part.Part.TheVariants as part
 use Rattle.mg_defs.specs.CodedText.{TextCode}
 use Rattle.mg_defs.specs.PhraseSession.{phrase_reply, phrase_session}
-use Rattle.mg_defs.specs.Session.{Question, heard_questions, heard_session}
+use Rattle.mg_defs.specs.Session.{heard_session}
 use Rattle.mg_defs.specs.declared.session.Hearing.TheVariants.{Questions}
 use Rattle.mg_laws.proofs.PlainLaws.{plain_heard}
 use Rattle.mg_layout.specs.declared.head.Head.{Head}
-use Rattle.mg_session.specs.Opening.{HeadOpened, KeptByPhrases, SetOpened}
+use Rattle.mg_session.specs.Opening.{HeadOpened, KeptByQueries, SetOpened}
 use Rattle.mg_session.specs.Parts.{NeverRead}
 use Rattle.mg_session.specs.PhraseAnswers.{ReadsPhrases}
-use Rattle.mg_session.specs.PhraseSearching.{PartsOverBy, PhraseMayStop, PhraseState, PhrasesAsked, PhrasesBy}
+use Rattle.mg_session.specs.PhraseSearching.{PhrasesAsked, PhrasesBy}
 use Rattle.mg_session.specs.Phrased.{Phrased}
+use Rattle.mg_session.specs.Searching.{MayStop, OpenedOver, Over, Searching}
 use Rattle.mg_session.specs.Served.{LinesServed}
 use Rattle.mg_session.specs.Serves.{CountsNone}
 use Rattle.mg_session.proofs.PhraseReplyLaws.{phrases_over, phrases_within}
@@ -36,54 +35,33 @@ within_none code collection given r0 r1 none = record { post = omega (arith, non
 pub within_from : (code : TextCode) (collection given : List ℕ) (r0 r1 r2 : Reads) → NoPages r0 r1 → ReadsPhrases code collection given r1 r2 → ReadsPhrases code collection given r0 r2
 within_from code collection given r0 r1 r2 none w = record { post = omega (arith, w.post, none.0); text = omega (arith, w.text, none.2) }
 
-pub kept : (p : Part) → NeverRead p → KeptByPhrases p
-kept part.Head never = absurd never
-kept part.Words never = absurd never
-kept part.Nonwords never = absurd never
-kept part.Text never = absurd never
-kept part.Places never = absurd never
-kept part.Lex never = absurd never
-kept part.LexAt never = absurd never
-kept part.Post never = absurd never
-kept part.Skip never = absurd never
-kept part.Weights never = absurd never
-kept part.Run never = tt
-kept part.MergeA never = tt
-kept part.MergeB never = tt
-kept part.Plain never = tt
-
-pub within : (s t : PhraseState) (qs : List Question) (code : TextCode) (collection given : List ℕ) → PhrasesAsked s t qs → (more : List Question) × (heard_questions Questions given ≡ qs ++ more) →
-    PartsOverBy s.files s.parts code collection → ReadsPhrases code collection given s.reads t.reads
-within s t qs code collection given a first over =
-    subst (λ (c : TextCode). ReadsPhrases c collection given s.reads t.reads) over.1 (phrases_within s t qs collection given a first over.0)
-
 abbrev pub phrases : Kind
 phrases = record {
   text = phrase_session;
   IsWithin = ReadsPhrases;
   IsUnread = NeverRead;
   IsCounted = CountsNone;
-  IsKept = KeptByPhrases;
+  IsKept = KeptByQueries;
   hearing = Questions;
-  State = PhraseState;
-  at = λ (s : PhraseState). record { files = s.files; reads = s.reads; faults = s.faults };
+  State = Searching;
+  at = λ (s : Searching). record { files = s.files; reads = s.reads; faults = s.faults };
   Answers = PhrasesBy;
   After = PhrasesAsked;
-  MayStop = PhraseMayStop;
-  IsOver = λ (s : PhraseState). PartsOverBy s.files s.parts;
+  MayStop = MayStop;
+  IsOver = Over;
   reply = λ collection now. phrase_reply collection;
   behind_head = λ p never. omega (arith, never_early p never);
-  never_opened = kept;
+  never_opened = λ p never. tt;
   lists_kept = (tt, tt, tt);
   within_none = within_none;
   within_from = within_from;
-  answers = λ s code collection over. phrases_over s collection over.0;
+  answers = phrases_over;
   text_is = text_is;
   files = λ s t qs a. a.step.files;
-  unread = λ s t qs a p never. a.step.unread p never;
-  within = within;
+  unread = λ s t qs a p never. a.step.unread p (inl never);
+  within = λ s t qs code collection given a first over. phrases_within s t qs code collection given a first over;
   device = λ s t rose. rose;
-  bad = λ s t b may code collection over. may collection over.0;
+  bad = λ s t b may. may;
 }
 
 -- ---- its run
@@ -99,13 +77,13 @@ pub no_head : (base : List ℕ) (s0 s1 : StoreAt) (i : SourceAt) (o e e1 : SinkA
 no_head base s0 s1 i o e e1 f h = phrased_as base (run_of s0 s1 i i o o e e1 (Err f)) (Err f) refl (head_stopped phrases base s0 s1 i o e e1 f h)
 
 pub no_set : (base : List ℕ) (s0 s1 s2 : StoreAt) (i : SourceAt) (o e e1 : SinkAt) (head : Head) (f : Fault) → HeadOpened base s0 s1 (Ok head) →
-    SetOpened (PartsOverBy s2.files) KeptByPhrases (λ count. ⊥) head base s1 s2 (Err f) → Phrased base (run_of s0 s2 i i o o e e1 (Err f))
+    SetOpened (OpenedOver s2.files) KeptByQueries (λ count. ⊥) head base s1 s2 (Err f) → Phrased base (run_of s0 s2 i i o o e e1 (Err f))
 no_set base s0 s1 s2 i o e e1 head f h set =
-    phrased_as base (run_of s0 s2 i i o o e e1 (Err f)) (Err f) refl (set_stopped phrases (PartsOverBy s2.files) (λ count. ⊥) base s0 s1 s2 i o e e1 head f h set (λ n never. absurd never))
+    phrased_as base (run_of s0 s2 i i o o e e1 (Err f)) (Err f) refl (set_stopped phrases (OpenedOver s2.files) (λ count. ⊥) base s0 s1 s2 i o e e1 head f h set (λ n never. absurd never))
 
-pub phrased : (base : List ℕ) (s0 s1 : StoreAt) (old new : PhraseState) (i i1 : SourceAt) (o o1 e e1 : SinkAt) (head : Head) (r : Result (Unit {0}) Fault) → HeadOpened base s0 s1 (Ok head) →
-    SetOpened (PartsOverBy old.files) KeptByPhrases (λ count. ⊥) head base s1 (phrases.at old) (Ok old.parts) → LinesServed Questions PhrasesBy PhrasesAsked PhraseMayStop old new i i1 o o1 r →
+pub phrased : (base : List ℕ) (s0 s1 : StoreAt) (old new : Searching) (i i1 : SourceAt) (o o1 e e1 : SinkAt) (head : Head) (r : Result (Unit {0}) Fault) → HeadOpened base s0 s1 (Ok head) →
+    SetOpened (OpenedOver old.files) KeptByQueries (λ count. ⊥) head base s1 (phrases.at old) (Ok old.opened) → LinesServed Questions PhrasesBy PhrasesAsked MayStop old new i i1 o o1 r →
     Phrased base (run_of s0 (phrases.at new) i i1 o o1 e e1 r)
 phrased base s0 s1 old new i i1 o o1 e e1 head r h set lines =
     phrased_as base (run_of s0 (phrases.at new) i i1 o o1 e e1 r) r refl
-    (lines_served phrases (PartsOverBy old.files) (λ count. ⊥) base s0 s1 old new i i1 o o1 e e1 head old.parts r h set (λ code collection over. over) lines)
+    (lines_served phrases (OpenedOver old.files) (λ count. ⊥) base s0 s1 old new i i1 o o1 e e1 head old.opened r h set (λ code collection over. over) lines)

@@ -1,6 +1,7 @@
 -- The text of a base: its reader, before and after it is loaded.
-use Rattle.std.proofs.Common.{◌≡◌, ◌+◌, ◌≤◌, ℕ, List, Some, None, Err, ◌∙◌, ap, subst, is_some}
+use Rattle.std.proofs.Common.{arith, ◌≡◌, ◌+◌, ◌-◌, ◌≤◌, ℕ, zero, suc, List, [], ◌∷◌, length, get_or, Some, None, Err, ◌∙◌, ap, subst, is_some}
 use Rattle.std.specs.Prelude.{IfSome}
+use Rattle.std.specs.List.{AllByRecursion}
 use Rattle.std.specs.declared.option.Option.{Option}
 use Rattle.mg_dev.specs.Files.{Files, file_at}
 use Rattle.mg_dev.specs.declared.part_err.PartErr.{PartErr}
@@ -8,9 +9,12 @@ use Rattle.mg_dev.specs.declared.part_err.PartErr.TheVariants.{Device, Memory, B
 use Rattle.mg_dev.specs.declared.show_err.ShowErr.TheVariants as show
 use Rattle.mg_defs.specs.CodedText.{TextCode, doc_range}
 use Rattle.mg_defs.specs.PagesOf.{pages}
+use Rattle.mg_defs.specs.Split.{documents}
 use Rattle.mg_defs.specs.TextBounds.{doc_pages}
+use Rattle.mg_defs.proofs.ListLaws.{documents_short}
 use Rattle.mg_front.specs.Reading.{IsNotBad}
 use Rattle.mg_layout.specs.declared.head.Head.{Head}
+use Rattle.mg_text.specs.Held.{HasShortDocument}
 use Rattle.mg_text.specs.Reading.{IsText, IsTextReader, SameText, ShowIsNotBad, TextFits, TextReading, TextStands}
 use Rattle.mg_text.proofs.CallerLemmas.{text_stays}
 use Rattle.mg_reply.specs.Printed.{at_score}
@@ -64,3 +68,18 @@ load_sound (Bad bad) is = absurd is
 pub same_pages : (r : TextReading) (code : TextCode) (collection : List ℕ) (number before now : ℕ) → r.code ≡ code →
     now ≤ before + pages (doc_range r.code collection number).from (doc_range r.code collection number).to → now ≤ before + doc_pages code collection (at_score number None)
 same_pages r code collection number before now same read = subst (λ (c : TextCode). now ≤ before + doc_pages c collection (at_score number None)) same read
+
+-- ---- a document of bounded length
+
+-- a document of a collection is no longer than the collection
+short_at : (n : ℕ) (docs : List (List ℕ)) (i : ℕ) → AllByRecursion (λ (doc : List ℕ). length doc ≤ n) docs → length (get_or docs i []) ≤ n
+short_at n [] i all = omega arith
+short_at n (d ∷ docs) zero all = all.0
+short_at n (d ∷ docs) (suc i) all = short_at n docs i all.1
+
+pub short_document : (r : TextReading) (files : Option Files) (number most : ℕ) (collection : List ℕ) → TextStands r files collection →
+    length collection ≤ most → HasShortDocument r files number most collection
+short_document r files number most collection stands short = record {
+  stands = stands;
+  short = omega (arith, short_at (length collection) (documents collection) (number - 1) (documents_short collection), short);
+}

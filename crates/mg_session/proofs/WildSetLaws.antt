@@ -19,7 +19,7 @@ use Rattle.mg_layout.specs.declared.head.Head.{Head}
 use Rattle.mg_lex.specs.Reading.{IsLexicon}
 use Rattle.mg_wild.specs.Loading.{HasTermsOf, HasTooMany, IsWholeLexicon, TellsOf, strings_of}
 use Rattle.mg_wild.specs.Terms.{LexTerms}
-use Rattle.mg_session.specs.PhraseSearchLaws.{lists_stay}
+use Rattle.mg_session.specs.SearchLaws.{lists_stay}
 use Rattle.mg_session.specs.WildSearching.{PartsAreOf, WildParts}
 use Rattle.mg_session.proofs.SetLaws.{set_lexicon, set_weights}
 

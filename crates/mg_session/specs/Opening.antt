@@ -63,15 +63,9 @@ pub record SetOpened {T : Type 0} (IsOver : T → TextCode → List ℕ → Type
 
 -- ---- the parts that an opening does not read
 
--- that of a session of queries reads none: the text is opened when a document is first shown from it
+-- that of a session of queries or of phrases reads none: the text is opened when a document is first shown from it, or searched
 abbrev pub KeptByQueries : Part → Type 0
 KeptByQueries p = Unit {0}
-
--- that of a session of phrases reads the models of the text
-abbrev pub KeptByPhrases : Part → Type 0
-KeptByPhrases part.Words = ⊥
-KeptByPhrases part.Nonwords = ⊥
-KeptByPhrases _ = Unit {0}
 
 -- that of a session of patterns reads the lexicon
 abbrev pub KeptByPatterns : Part → Type 0

@@ -1,5 +1,5 @@
 -- The answer to a phrase: the documents that have it, which are sought among those that have all its terms.
-use Rattle.std.specs.Prelude.{◌≡◌, ℕ, ◌+◌, ◌≤◌, nat_lt, Bool, true, false, List, [], ◌∷◌, ◌++◌, length, flat_map, sum_by, Option, Some}
+use Rattle.std.specs.Prelude.{◌≡◌, ℕ, ◌+◌, ◌≤◌, nat_lt, Bool, true, false, List, [], ◌∷◌, ◌++◌, length, flat_map, sum_by, Option, Some, OnOk}
 use Rattle.std.specs.declared.result.Result.{Result}
 use Rattle.mg_dev.specs.Files.{Reads}
 use Rattle.mg_dev.specs.Streams.{AfterPut}
@@ -11,7 +11,7 @@ use Rattle.mg_defs.specs.PageBounds.{boolean_bound, bound_as}
 use Rattle.mg_defs.specs.Phrases.{all_of, phrase_of, phrase_places}
 use Rattle.mg_defs.specs.PhraseSession.{PhraseHit, found_text, phrase_reply, with_places}
 use Rattle.mg_defs.specs.PlainSession.{plain_questions}
-use Rattle.mg_defs.specs.ShownAnswers.{Shown, satisfying}
+use Rattle.mg_defs.specs.ShownAnswers.{Shown, plain, satisfying}
 use Rattle.mg_defs.specs.Sat.{Query}
 use Rattle.mg_defs.specs.Split.{documents}
 use Rattle.mg_defs.specs.Terms.{document}
@@ -19,8 +19,9 @@ use Rattle.mg_defs.specs.TextBounds.{doc_pages}
 use Rattle.mg_defs.specs.Texts.{row}
 use Rattle.mg_bool.specs.Matches.{Matching, MatchesOver, left_of}
 use Rattle.mg_bool.specs.Places.{pages_read}
-use Rattle.mg_reply.specs.Pending.{Passed}
+use Rattle.mg_reply.specs.Pending.{AfterPass, Passed}
 use Rattle.mg_text.specs.Reading.{ShowIsNotBad}
+use Rattle.mg_session.specs.declared.phrase_rows.PhraseRows.{PhraseRows}
 
 -- ---- rows
 
@@ -40,6 +41,10 @@ found_among collection phrase candidates = flat_map (λ (s : Shown).
 -- what is printed for them
 unfoldable pub rows_of : List PhraseHit → List ℕ
 rows_of found = flat_map (λ (f : PhraseHit). row f.number (Some f.places)) found
+
+-- a document of this number as it is found, where a phrase has places in it
+abbrev pub found_in : List ℕ → List (List ℕ) → ℕ → List PhraseHit
+found_in collection phrase number = found_at number (phrase_places phrase (document collection number))
 
 -- ---- bounds
 
@@ -83,6 +88,19 @@ pub record PhraseReplied (code : TextCode) (collection line : List ℕ) (before 
   pub sound : ShowIsNotBad result
   pub post : reads_now part.Post ≤ reads_before part.Post + line_lists collection line
   pub text : reads_now part.Text ≤ reads_before part.Text + line_pages code collection line
+
+-- A document was searched for a phrase, and its row was passed on where it has places, or a part of that text.
+pub record DocumentSearched (code : TextCode) (collection : List ℕ) (phrase : List (List ℕ)) (number : ℕ)
+    (before after : Option (List ℕ)) (rows rows_now : PhraseRows) (reads_before reads_now : Reads)
+    (result : Result (Unit {0}) ShowErr) : Type 0 where
+  -- its row comes behind those that waited
+  pub passed : AfterPass before after rows.pending rows_now.pending (rows_of (found_in collection phrase number)) result
+  -- and is counted
+  pub counted : OnOk result (rows_now.total ≡ rows.total + length (found_in collection phrase number))
+  -- no part is bad
+  pub sound : ShowIsNotBad result
+  -- no pages of Text were read but those on which it lies
+  pub text : reads_now part.Text ≤ reads_before part.Text + doc_pages code collection (plain number)
 
 -- While the documents that have all its terms are searched: so many were found, and their rows passed on.
 pub record PhraseWalked (base : List ℕ) (code : TextCode) (collection : List ℕ) (phrase : List (List ℕ)) (q : Query)

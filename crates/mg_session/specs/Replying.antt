@@ -19,15 +19,13 @@ use Rattle.mg_bool.specs.Matches.{Matching, MatchesOver}
 use Rattle.mg_bool.specs.Places.{AreInfos}
 use Rattle.mg_layout.specs.declared.term_info.TermInfo.{TermInfo}
 use Rattle.mg_query.specs.QueryOf.{query_of}
-use Rattle.mg_dev.specs.Each.{ForEach}
-use Rattle.mg_text.specs.Reading.{TextReading}
 use Rattle.mg_session.specs.Answering.{Answered, AnswersFor, Replied}
-use Rattle.mg_session.specs.PhraseAnswers.{PhraseAnswered, PhraseReplied}
-use Rattle.mg_session.specs.PhraseSearching.{PartsOver, PhraseParts, PhraseSources}
+use Rattle.mg_session.specs.PhraseAnswers.{DocumentSearched, PhraseAnswered, PhraseReplied}
 use Rattle.mg_session.specs.Searching.{Opened}
-use Rattle.mg_session.specs.Sessions.{ForOpened}
+use Rattle.mg_session.specs.Sessions.{ForOpened, ForText}
 use Rattle.mg_session.specs.Texts.{Texting}
 use Rattle.mg_session.specs.WildAnswers.{WildAnswered, WildReplied}
+use Rattle.mg_session.specs.declared.phrase_rows.PhraseRows.{PhraseRows}
 
 -- ---- queries and ranked terms
 
@@ -81,38 +79,46 @@ RepliesTo of_store of_out store store_now out out_now result opened ranked now l
 
 -- ---- phrases
 
+-- where the text is that of a collection, a document of it is searched for a phrase, and its row is passed on where it has places
+abbrev pub SearchesDocument : {X Y : Type 0} → stores.Ghosts X → sinks.Ghosts Y → X → X → Y → Y →
+    Result (Unit {0}) ShowErr → Texting → PhraseRows → PhraseRows → List (List ℕ) → ℕ → Type 0
+SearchesDocument of_store of_out store store_now out out_now result texts rows rows_now phrase number =
+    ForText texts (of_store.files store) (λ code collection.
+    DocumentSearched code collection phrase number (of_out.written out) (of_out.written out_now) rows rows_now
+    (of_store.reads store) (of_store.reads store_now) result)
+
 -- over the lists and the text of a base: where this is told of its terms, which the query joins, a phrase is answered
 abbrev pub AnswersPhrase : {X Y : Type 0} → stores.Ghosts X → sinks.Ghosts Y → X → X → Y → Y →
-    Result (Unit {0}) ShowErr → List ℕ → TextReading → ℕ → ℕ → Query → List (Option TermInfo) → List (List ℕ) → Type 0
-AnswersPhrase of_store of_out store store_now out out_now result base text all most q infos phrase =
-    ForEach (PhraseSources base (of_store.files store) text all most) (λ collection.
+    Result (Unit {0}) ShowErr → List ℕ → Texting → ℕ → Query → List (Option TermInfo) → List (List ℕ) → Type 0
+AnswersPhrase of_store of_out store store_now out out_now result base texts all q infos phrase =
+    ForAnswers base (of_store.files store) texts all (λ code collection.
     AreInfos collection (query_terms q) infos →
-    PhraseAnswered text.code collection phrase (of_out.written out) (of_out.written out_now) (of_store.reads store)
+    PhraseAnswered code collection phrase (of_out.written out) (of_out.written out_now) (of_store.reads store)
     (of_store.reads store_now) result)
 
 -- over the lists and the text of some base, of which none was asked for yet: a phrase is answered by those that have all its terms
 abbrev pub AnswersCandidates : {X Y : Type 0} → stores.Ghosts X → sinks.Ghosts Y → X → X → Y → Y →
-    Result (Unit {0}) ShowErr → TextReading → Matching → ℕ → List (List ℕ) → Type 0
-AnswersCandidates of_store of_out store store_now out out_now result text m most phrase = (base : List ℕ) →
-    ForEach (PhraseSources base (of_store.files store) text m.all most) (λ collection.
+    Result (Unit {0}) ShowErr → Texting → Matching → List (List ℕ) → Type 0
+AnswersCandidates of_store of_out store store_now out out_now result texts m phrase = (base : List ℕ) →
+    ForAnswers base (of_store.files store) texts m.all (λ code collection.
     MatchesOver base collection m →
-    PhraseAnswered text.code collection phrase (of_out.written out) (of_out.written out_now) (of_store.reads store)
+    PhraseAnswered code collection phrase (of_out.written out) (of_out.written out_now) (of_store.reads store)
     (of_store.reads store_now) result)
 
--- over the parts that phrases are sought in: a phrase of these words is answered
+-- over the open parts: a phrase of these words is answered
 abbrev pub AnswersWords : {X Y : Type 0} → stores.Ghosts X → sinks.Ghosts Y → X → X → Y → Y →
-    Result (Unit {0}) ShowErr → PhraseParts → List (List ℕ) → Type 0
-AnswersWords of_store of_out store store_now out out_now result parts phrase =
-    ForEach (PartsOver (of_store.files store) parts) (λ collection.
-    PhraseAnswered parts.text.code collection phrase (of_out.written out) (of_out.written out_now)
-    (of_store.reads store) (of_store.reads store_now) result)
+    Result (Unit {0}) ShowErr → Opened → List (List ℕ) → Type 0
+AnswersWords of_store of_out store store_now out out_now result opened phrase =
+    ForOpened (of_store.files store) opened (λ code collection.
+    PhraseAnswered code collection phrase (of_out.written out) (of_out.written out_now) (of_store.reads store)
+    (of_store.reads store_now) result)
 
--- over the parts that phrases are sought in: a line is replied to as a phrase
+-- over the open parts: a line is replied to as a phrase
 abbrev pub RepliesToPhrase : {X Y : Type 0} → stores.Ghosts X → sinks.Ghosts Y → X → X → Y → Y →
-    Result (Unit {0}) ShowErr → PhraseParts → List ℕ → Type 0
-RepliesToPhrase of_store of_out store store_now out out_now result parts line =
-    ForEach (PartsOver (of_store.files store) parts) (λ collection.
-    PhraseReplied parts.text.code collection line (of_out.written out) (of_out.written out_now) (of_store.reads store)
+    Result (Unit {0}) ShowErr → Opened → List ℕ → Type 0
+RepliesToPhrase of_store of_out store store_now out out_now result opened line =
+    ForOpened (of_store.files store) opened (λ code collection.
+    PhraseReplied code collection line (of_out.written out) (of_out.written out_now) (of_store.reads store)
     (of_store.reads store_now) result)
 
 -- ---- patterns

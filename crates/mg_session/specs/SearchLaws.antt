@@ -16,6 +16,7 @@ use Rattle.mg_defs.specs.declared.session.Settings.{Settings}
 use Rattle.mg_front.specs.Reading.{Fronted, SameParts}
 use Rattle.mg_layout.specs.declared.head.Head.{Head}
 use Rattle.mg_lex.specs.Reading.{LexStands}
+use Rattle.mg_post.specs.TermLists.{ListsStand}
 use Rattle.mg_rank.specs.Ranked.{WeightsStand}
 use Rattle.mg_text.specs.Reading.{IsText}
 use Rattle.mg_session.specs.Searching.{AnswersBy, AskForNoText, Asked, MayStop, Opened, Over, SameOpened, Searching}
@@ -52,7 +53,7 @@ texts_then a b c p q = record { base = q.base ∙ p.base; head = q.head ∙ p.he
 pub same_opened : (o : Opened) → SameOpened o o
 same_opened o = record { base = refl; lex = same_parts o.lex; texts = same_texts o.texts; all = refl }
 
-opened_then : (a b c : Opened) → SameOpened a b → SameOpened b c → SameOpened a c
+pub opened_then : (a b c : Opened) → SameOpened a b → SameOpened b c → SameOpened a c
 opened_then a b c p q = record {
   base = q.base ∙ p.base;
   lex = parts_then a.lex b.lex c.lex p.lex q.lex;
@@ -86,16 +87,25 @@ pub weights_later : (base now_base : List ℕ) (files now : Option Files) (colle
 weights_later base now_base files now collection same e is = subst (λ b. WeightsStand b now collection) (sym same)
     (subst (λ f. WeightsStand base f collection) (sym e) is)
 
-pub over_later : (s t : Searching) (xs : List Question) (code : TextCode) (collection : List ℕ) → Asked s t xs →
-    Over s code collection → Over t code collection
-over_later s t xs code collection a o = record {
+pub lists_stay : (base now_base : List ℕ) (files now : Option Files) (collection : List ℕ) → now_base ≡ base →
+    now ≡ files → ListsStand base files collection → ListsStand now_base now collection
+lists_stay base now_base files now collection same e is = subst (λ b. ListsStand b now collection) (sym same)
+    (subst (λ f. ListsStand base f collection) (sym e) is)
+
+pub over_same : (s t : Searching) (code : TextCode) (collection : List ℕ) → t.files ≡ s.files →
+    SameOpened s.opened t.opened → Over s code collection → Over t code collection
+over_same s t code collection files same o = record {
   version = o.version;
   limits = o.limits;
-  weights = weights_later s.opened.base t.opened.base s.files t.files collection a.same.base a.files o.weights;
-  lex = lex_later s.opened.lex t.opened.lex s.files t.files collection a.same.lex a.files o.lex;
-  texts = texts_later s.opened.texts t.opened.texts s.files t.files code collection a.same.texts a.files o.texts;
-  all = a.same.all ∙ o.all;
+  weights = weights_later s.opened.base t.opened.base s.files t.files collection same.base files o.weights;
+  lex = lex_later s.opened.lex t.opened.lex s.files t.files collection same.lex files o.lex;
+  texts = texts_later s.opened.texts t.opened.texts s.files t.files code collection same.texts files o.texts;
+  all = same.all ∙ o.all;
 }
+
+pub over_later : (s t : Searching) (xs : List Question) (code : TextCode) (collection : List ℕ) → Asked s t xs →
+    Over s code collection → Over t code collection
+over_later s t xs code collection a o = over_same s t code collection a.files a.same o
 
 -- ---- query lines after query lines
 

@@ -8,7 +8,7 @@ use Rattle.mg_dev.specs.declared.part_err.PartErr.TheVariants.{Device, Memory, B
 use Rattle.mg_defs.specs.Session.{Question}
 use Rattle.mg_defs.specs.declared.session.Settings.{Settings}
 use Rattle.mg_wild.specs.Terms.{LexTerms}
-use Rattle.mg_session.specs.PhraseSearchLaws.{lists_stay}
+use Rattle.mg_session.specs.SearchLaws.{lists_stay}
 use Rattle.mg_session.specs.WildAnswers.{ReadsNoOther, WildSources, wild_pages}
 use Rattle.mg_session.specs.WildSearching.{PartsAreOf, WildAsked, WildBy, WildMayStop, WildOver, WildParts, WildState}
 

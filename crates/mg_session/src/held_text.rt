@@ -1,42 +1,47 @@
-//! A text of which one document is held in memory.
+//! Documents of which one is held in memory, so that a phrase can be sought in it.
 ghost use Rattle.std.specs.Prelude.{◌≡◌};
 
+use crate::documents::Documents;
 use crate::searched::Searched;
-use mg_dev::{PartErr, Store};
+use mg_dev::{PartErr, ShowErr, Store};
 use mg_phrase::phrase_places;
 use mg_query::Terms;
-use mg_text::{HeldDocument, TextReader};
+use mg_text::HeldDocument;
 use std::alloc::Global;
+use std::marker::PhantomData;
 
-/// A text, and the document of it that was decoded last.
+/// The documents of a set, and the one that was decoded last.
 #[derive(Drop)]
-pub(crate) struct HeldText<'a, S: Store> {
-    text: TextReader<'a, S>,
+pub(crate) struct HeldText<S: Store, D: Documents<S>> {
+    texts: D,
     held: HeldDocument,
+    store: PhantomData<S>,
 }
 
-impl<'a, S: Store> HeldText<'a, S> {
-    /// Of this text, whose documents have at most so many bytes.
-    pub(crate) fn new(alloc: Global, text: TextReader<'a, S>, most: u64) -> Self
-        ensures text { result.text ≡ text.entry }
-        ensures most { result.held.most ≡ most }
+impl<S: Store, D: Documents<S>> HeldText<S, D> {
+    /// Of these documents, which have at most so many bytes.
+    pub(crate) fn new(alloc: Global, texts: D, most: u64) -> Self
+        ensures { result.texts ≡ texts }
     {
         HeldText {
-            text,
+            texts,
             held: HeldDocument::new(alloc, most),
+            store: PhantomData,
         }
     }
 }
 
-impl<'a, S: Store> Searched<S> for HeldText<'a, S> {
-    ghost text = { λ t. t.text };
-
-    ghost most = { λ t. t.held.most };
+impl<S: Store, D: Documents<S>> Searched<S> for HeldText<S, D> {
+    ghost texts = { λ t. D.texts t.texts };
 
     fn places(&mut self, store: &mut S, phrase: &Terms, number: u32) -> Result<u64, PartErr> {
-        match self.held.read(store, &mut self.text, number) {
+        self.held.clear();
+        match self.texts.doc(store, number, &mut self.held) {
             Ok(()) => Ok(phrase_places(phrase, self.held.bytes())),
-            Err(refusal) => Err(refusal),
+            Err(ShowErr::Part(refusal)) => Err(refusal),
+            // The document is held in memory: nothing fails there but for want of it.
+            Err(ShowErr::Write) => Err(PartErr::Device),
+            Err(ShowErr::Memory) => Err(PartErr::Memory),
         }
     }
 }

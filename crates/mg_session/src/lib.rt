@@ -11,7 +11,6 @@
 #![tactic(auto)]
 
 mod boolean_answer;
-mod boolean_line;
 mod document_set;
 mod documents;
 mod held_text;
@@ -20,7 +19,7 @@ mod lists;
 mod lookup;
 mod phrase;
 mod phrase_answer;
-mod phrase_line;
+mod phrase_rows;
 mod phrase_searcher;
 mod ranked_answer;
 mod searched;

@@ -1,50 +1,63 @@
 //! The documents that have a phrase, sought among those that have all its words.
-ghost use Rattle.std.specs.Prelude.{◌≡◌, ◌≤◌, ℕ, List, Some, length};
-ghost use Rattle.mg_dev.specs.Causes.{HasPutCause, HasLack};
+ghost use Rattle.std.specs.Prelude.{◌≡◌, ◌≤◌, ◌<◌, ℕ, List, OnOk, Some, length};
 ghost use Rattle.mg_dev.specs.Moments.{Between};
 ghost use Rattle.mg_bool.specs.Matches.{MatchesFit};
 ghost use Rattle.mg_defs.specs.QueryTerms.{query_terms};
+ghost use Rattle.mg_defs.specs.declared.session.Mode.TheVariants as mode;
 ghost use Rattle.mg_query.specs.AllOf.{IsAllOf};
 ghost use Rattle.mg_query.specs.QueryOf.{query_of};
-ghost use Rattle.mg_reply.specs.Printed.{Passes};
-ghost use Rattle.mg_text.specs.Reading.{SameText, TextFits};
 ghost use Rattle.mg_session.specs.Answering.{HasShowCause, HasShowLack};
-ghost use Rattle.mg_session.specs.PhraseAnswers.{found_at, rows_of};
-ghost use Rattle.mg_session.specs.PhraseSearching.{OnlyReads};
-ghost use Rattle.mg_session.specs.Replying.{AnswersCandidates, AnswersPhrase};
+ghost use Rattle.mg_session.specs.Parts.{ShownIn, Stepped};
+ghost use Rattle.mg_session.specs.Replying.{AnswersCandidates, AnswersPhrase, SearchesDocument};
+ghost use Rattle.mg_session.specs.Texts.{SameTexts, TextsFit};
 
 use crate::lists::Lists;
 use crate::lookup::Sought;
+use crate::phrase_rows::PhraseRows;
 use crate::searched::Searched;
 use crate::total::put_total;
 use mg_bool::Matches;
-use mg_dev::{PartErr, PutErr, ShowErr, Sink, Store};
+use mg_dev::{PartErr, ShowErr, Sink, Store};
 use mg_query::Terms;
-use mg_reply::Pending;
 
-/// Passes on the row of a document in which a phrase has so many places, if it has any.
-#[tactic(auto, unfolding(crate::specs::PhraseAnswers::rows_of))]
-fn pass_places<O: Sink>(
-    pending: &mut Pending,
-    out: &mut O,
+/// Seeks a phrase in a document, and passes on its row if the phrase has places there.
+fn search_document<S: Store, T: Searched<S>, O: Sink>(
+    texts: &mut T,
+    store: &mut S,
+    phrase: &Terms,
     number: u32,
-    places: u64,
-) -> Result<(), PutErr>
-    ensures content { Passes O.written out.old out.new pending.old pending.new result
-        (rows_of (found_at number places)) }
-    ensures cause { HasPutCause (O.faults out.old) (O.faults out.new) result }
-    ensures lack { HasLack (O.lacks out.old) (O.lacks out.new) result }
+    rows: &mut PhraseRows,
+    out: &mut O,
+) -> Result<(), ShowErr>
+    requires few { length phrase.now ≤ 64 }
+    requires fits { TextsFit (S.files store.old) (T.texts texts.old) }
+    requires some { 1 ≤ number }
+    requires within { number ≤ (T.texts texts.old).head.documents }
+    requires room { rows.old.total < number }
+    ensures fits { TextsFit (S.files store.new) (T.texts texts.new) }
+    ensures same { SameTexts (T.texts texts.old) (T.texts texts.new) }
+    ensures most { OnOk result (rows.new.total ≤ number) }
+    ensures searched { SearchesDocument S.Store O.Sink store.old store.new out.old out.new result
+        (T.texts texts.old) rows.old rows.new phrase.now number }
+    ensures looked { Between S.files S.reads S.faults store.old store.new (ShownIn mode.Text) }
+    ensures cause { HasShowCause result (S.faults store.old) (S.faults store.new) (O.faults out.old)
+        (O.faults out.new) }
+    ensures lack { HasShowLack (O.lacks out.old) (O.lacks out.new) result }
 {
-    if places == 0 {
-        return Ok(());
+    let places = match texts.places(store, phrase, number) {
+        Ok(places) => places,
+        Err(refusal) => return Err(ShowErr::from(refusal)),
+    };
+    match rows.pass(out, number, places) {
+        Ok(()) => Ok(()),
+        Err(refusal) => Err(ShowErr::from(refusal)),
     }
-    pending.row(out, number, Some(places))
 }
 
 /// Shows the documents that have a phrase among those that satisfy a query, of which none was asked for
 /// yet; `query` joins the phrase's words by `&`.
 fn search_matches<S: Store, T: Searched<S>, O: Sink>(
-    text: &mut T,
+    texts: &mut T,
     store: &mut S,
     matches: &mut Matches<'_, S>,
     phrase: &Terms,
@@ -52,38 +65,29 @@ fn search_matches<S: Store, T: Searched<S>, O: Sink>(
 ) -> Result<(), ShowErr>
     requires few { length phrase.now ≤ 64 }
     requires joined { IsAllOf phrase.now (Some matches.old.asks) }
-    requires fits { TextFits (T.text text.old) (S.files store.old) }
+    requires fits { TextsFit (S.files store.old) (T.texts texts.old) }
     requires on { (base : List ℕ) × MatchesFit base (S.files store.old) matches.old }
     requires first { matches.old.decided ≡ 0 }
-    requires all { (T.text text.old).documents ≡ matches.old.all }
-    ensures fits { TextFits (T.text text.new) (S.files store.new) }
-    ensures same { SameText (T.text text.old) (T.text text.new) }
-    ensures most { T.most text.new ≡ T.most text.old }
+    requires all { (T.texts texts.old).head.documents ≡ matches.old.all }
+    ensures fits { TextsFit (S.files store.new) (T.texts texts.new) }
+    ensures same { SameTexts (T.texts texts.old) (T.texts texts.new) }
     ensures answer { AnswersCandidates S.Store O.Sink store.old store.new out.old out.new result
-        (T.text text.old) matches.old (T.most text.old) phrase.now }
-    ensures step { Between S.files S.reads S.faults store.old store.new OnlyReads }
+        (T.texts texts.old) matches.old phrase.now }
+    ensures step { Between S.files S.reads S.faults store.old store.new (Stepped mode.Text) }
     ensures cause { HasShowCause result (S.faults store.old) (S.faults store.new) (O.faults out.old)
         (O.faults out.new) }
     ensures lack { HasShowLack (O.lacks out.old) (O.lacks out.new) result }
 {
-    let mut pending = Pending::new();
-    let mut total = 0u32;
+    let mut rows = PhraseRows::new();
     'matches: loop {
         let number = match matches.next(store) {
             Ok(Some(number)) => number,
-            Ok(None) => return put_total(&mut pending, out, total),
+            Ok(None) => return put_total(&mut rows.pending, out, rows.total),
             Err(refusal) => return Err(ShowErr::from(refusal)),
         };
-        let places = match text.places(store, phrase, number) {
-            Ok(places) => places,
-            Err(refusal) => return Err(ShowErr::from(refusal)),
-        };
-        match pass_places(&mut pending, out, number, places) {
+        match search_document(texts, store, phrase, number, &mut rows, out) {
             Ok(()) => {}
-            Err(refusal) => return Err(ShowErr::from(refusal)),
-        }
-        if places > 0 {
-            total += 1;
+            Err(refusal) => return Err(refusal),
         }
     }
 }
@@ -93,7 +97,7 @@ fn search_matches<S: Store, T: Searched<S>, O: Sink>(
 pub(crate) fn answer_phrase<S: Store, T: Searched<S>, O: Sink>(
     lists: &Lists<'_>,
     store: &mut S,
-    text: &mut T,
+    texts: &mut T,
     phrase: &Terms,
     sought: &Sought<'_>,
     out: &mut O,
@@ -102,15 +106,14 @@ pub(crate) fn answer_phrase<S: Store, T: Searched<S>, O: Sink>(
         ≡ length (query_terms (query_of sought.now.query.now)) }
     requires few { length phrase.now ≤ 64 }
     requires joined { IsAllOf phrase.now (Some sought.now.query.now) }
-    requires fits { TextFits (T.text text.old) (S.files store.old) }
-    requires all { (T.text text.old).documents ≡ lists.now.all }
-    ensures fits { TextFits (T.text text.new) (S.files store.new) }
-    ensures same { SameText (T.text text.old) (T.text text.new) }
-    ensures most { T.most text.new ≡ T.most text.old }
+    requires fits { TextsFit (S.files store.old) (T.texts texts.old) }
+    requires all { (T.texts texts.old).head.documents ≡ lists.now.all }
+    ensures fits { TextsFit (S.files store.new) (T.texts texts.new) }
+    ensures same { SameTexts (T.texts texts.old) (T.texts texts.new) }
     ensures answer { AnswersPhrase S.Store O.Sink store.old store.new out.old out.new result
-        lists.now.base.now (T.text text.old) lists.now.all (T.most text.old)
+        lists.now.base.now (T.texts texts.old) lists.now.all
         (query_of sought.now.query.now) sought.now.infos.now phrase.now }
-    ensures step { Between S.files S.reads S.faults store.old store.new OnlyReads }
+    ensures step { Between S.files S.reads S.faults store.old store.new (Stepped mode.Text) }
     ensures cause { HasShowCause result (S.faults store.old) (S.faults store.new) (O.faults out.old)
         (O.faults out.new) }
     ensures lack { HasShowLack (O.lacks out.old) (O.lacks out.new) result }
@@ -125,5 +128,5 @@ pub(crate) fn answer_phrase<S: Store, T: Searched<S>, O: Sink>(
         Ok(matches) => matches,
         Err(_) => return Err(ShowErr::Part(PartErr::Memory)),
     };
-    search_matches(text, store, &mut matches, phrase, out)
+    search_matches(texts, store, &mut matches, phrase, out)
 }

@@ -1,29 +1,31 @@
 //! An answerer of phrases over the open parts of a set.
 ghost use Rattle.std.specs.Prelude.{◌≡◌, ◌≤◌, ◌^◌, ℕ, Some, length, IfOk};
 ghost use Rattle.mg_defs.specs.Texts.{count as count_text};
+ghost use Rattle.mg_defs.specs.declared.session.Mode.TheVariants as mode;
 ghost use Rattle.mg_dev.specs.Moments.{Between, store_at};
 ghost use Rattle.mg_dev.specs.Streams.{AfterPut};
 ghost use Rattle.mg_query.specs.AllOf.{IsAllOf};
 ghost use Rattle.mg_text.specs.Reading.{ShowIsNotBad};
 ghost use Rattle.mg_session.specs.Answering.{HasShowCause, HasShowLack};
-ghost use Rattle.mg_session.specs.Replying.{AnswersWords, RepliesToPhrase};
-ghost use Rattle.mg_session.specs.Opening.{KeptByPhrases, SetOpened};
-ghost use Rattle.mg_session.specs.PhraseSearching.{OnlyReads, PartsFit, PartsOverBy, PhraseState, SamePhraseParts, phrase_state};
-ghost use Rattle.mg_session.specs.PhraseSearching.{PhraseMayStop, PhrasesAsked, PhrasesBy, PhrasesFit};
+ghost use Rattle.mg_session.specs.Opening.{KeptByQueries, SetOpened};
+ghost use Rattle.mg_session.specs.Parts.{Stepped};
+ghost use Rattle.mg_session.specs.PhraseSearching.{PhrasesAsked, PhrasesBy};
 ghost use Rattle.mg_session.specs.PhraseSearchLaws.{phrases_later, phrases_more, phrases_none, phrases_stop};
+ghost use Rattle.mg_session.specs.Replying.{AnswersWords, RepliesToPhrase};
+ghost use Rattle.mg_session.specs.Searching.{Fits, MayStop, OpenedOver, SameOpened, SearchFits, Searching, opened_at, state_of};
 
 use crate::held_text::HeldText;
 use crate::lists::Lists;
 use crate::lookup::{Sought, find_terms};
 use crate::phrase_answer::answer_phrase;
-use crate::phrase_line::{PhraseLine, read_phrase};
+use crate::texts::Texts;
 use mg_defs::Settings;
-use mg_dev::{Fault, ShowErr, Sink, Store};
+use mg_dev::{Fault, PartErr, ShowErr, Sink, Store};
 use mg_layout::Head;
 use mg_lex::Lex;
+use mg_phrase::parse_phrase;
 use mg_query::{Query, Terms};
 use mg_reply::{Answerer, answer_refused, put_count};
-use mg_text::TextReader;
 use std::alloc::Global;
 use std::marker::Model;
 
@@ -33,48 +35,38 @@ use std::marker::Model;
 /// the parts that are open.
 #[derive(Drop)]
 pub(crate) struct PhraseSearcher<'a, S: Store> {
-    alloc: Global,
-    base: &'a str,
+    lists: Lists<'a>,
     lex: Lex<'a, S>,
-    text: HeldText<'a, S>,
-    all: u32,
+    texts: HeldText<S, Texts<'a, S>>,
 }
 
 impl<'a, S: Store> Model for PhraseSearcher<'a, S> {
-    ghost use Rattle.mg_session.specs.PhraseSearching.{PhraseParts};
+    ghost use Rattle.mg_session.specs.Searching.{Opened};
 
-    ghost Value = { PhraseParts };
+    ghost Value = { Opened };
 
-    ghost view = { λ s. record { base = s.base.now; lex = s.lex; text = s.text.text; all = s.all; most = s.text.held.most } };
+    ghost view = { λ s. record { base = s.lists.base.now; lex = s.lex; texts = s.texts.texts; all = s.lists.all } };
 }
 
 impl<'a, S: Store> PhraseSearcher<'a, S> {
-    /// Over these parts of a base with this head.
-    pub(crate) fn new(
-        alloc: Global,
-        base: &'a str,
-        lex: Lex<'a, S>,
-        text: TextReader<'a, S>,
-        head: &Head,
-    ) -> Self
-        ensures { result ≡ record {
-          base = base.entry.now;
-          lex = lex.entry;
-          text = text.entry;
-          all = head.now.documents;
-          most = head.now.collection;
-        } }
+    /// Over the parts of a base: its lexicon, which is loaded, and what its head tells of.
+    pub(crate) fn new(alloc: Global, base: &'a str, lex: Lex<'a, S>, head: &Head) -> Self
+        ensures { result ≡ opened_at base.entry.now lex.entry head.now }
     {
-        PhraseSearcher {
+        let lists = Lists {
             alloc,
             base,
-            lex,
-            text: HeldText::new(alloc, text, head.collection),
             all: head.documents,
+        };
+        let texts = Texts::new(alloc, base, head);
+        PhraseSearcher {
+            lists,
+            lex,
+            texts: HeldText::new(alloc, texts, head.collection),
         }
     }
 
-    /// Opens the parts of a set with this head: its lexicon's places and the models of its text are loaded.
+    /// Opens the parts of a set with this head: its lexicon's places are loaded, and nothing of the text.
     pub(crate) fn open(
         alloc: Global,
         store: &mut S,
@@ -83,8 +75,8 @@ impl<'a, S: Store> PhraseSearcher<'a, S> {
     ) -> Result<Self, Fault>
         requires words { head.now.words ≤ 2 ^ 22 }
         requires others { head.now.others ≤ 2 ^ 22 }
-        ensures fits { IfOk result (PartsFit (S.files store.new)) }
-        ensures opened { SetOpened (PartsOverBy (S.files store.new)) KeptByPhrases (λ count. ⊥)
+        ensures fits { IfOk result (SearchFits (S.files store.new)) }
+        ensures opened { SetOpened (OpenedOver (S.files store.new)) KeptByQueries (λ count. ⊥)
             head.now base.entry.now
             (store_at S.files S.reads S.faults store.old)
             (store_at S.files S.reads S.faults store.new) result }
@@ -93,11 +85,7 @@ impl<'a, S: Store> PhraseSearcher<'a, S> {
             Ok(lex) => lex,
             Err(refusal) => return Err(Fault::from(refusal)),
         };
-        let text = match TextReader::load(alloc, store, base, head) {
-            Ok(text) => text,
-            Err(refusal) => return Err(Fault::from(refusal)),
-        };
-        let searcher = PhraseSearcher::new(alloc, base, lex, text, head);
+        let searcher = PhraseSearcher::new(alloc, base, lex, head);
         Ok(searcher)
     }
 
@@ -109,44 +97,71 @@ impl<'a, S: Store> PhraseSearcher<'a, S> {
         out: &mut O,
     ) -> Result<(), ShowErr>
         requires short { length line.now ≤ 1024 }
-        requires fits { PartsFit (S.files store.old) self.old }
-        ensures fits { PartsFit (S.files store.new) self.new }
-        ensures same { SamePhraseParts self.old self.new }
+        requires fits { SearchFits (S.files store.old) self.old }
+        ensures fits { SearchFits (S.files store.new) self.new }
+        ensures same { SameOpened self.old self.new }
         ensures replied { RepliesToPhrase S.Store O.Sink store.old store.new out.old out.new result
             self.old line.now }
-        ensures step { Between S.files S.reads S.faults store.old store.new OnlyReads }
+        ensures step { Between S.files S.reads S.faults store.old store.new
+            (Stepped mode.Text) }
         ensures cause { HasShowCause result (S.faults store.old) (S.faults store.new)
             (O.faults out.old) (O.faults out.new) }
         ensures lack { HasShowLack (O.lacks out.old) (O.lacks out.new) result }
     {
-        let read = match read_phrase(self.alloc, line) {
-            Ok(read) => read,
-            Err(why) => return answer_refused(out, why),
-        };
-        self.answer_read(store, &read, out)
+        match parse_phrase(self.lists.alloc, line) {
+            Ok(phrase) => self.answer_parsed(store, &phrase, out),
+            Err(why) => answer_refused(out, why),
+        }
     }
 
-    /// Writes the reply to a line that was read as a phrase.
-    fn answer_read<O: Sink>(
+    /// Writes the reply to a phrase of these words.
+    fn answer_parsed<O: Sink>(
         &mut self,
         store: &mut S,
-        read: &PhraseLine,
+        phrase: &Terms,
         out: &mut O,
     ) -> Result<(), ShowErr>
-        requires few { length read.now.phrase ≤ 64 }
-        requires joined { IsAllOf read.now.phrase read.now.query }
-        requires fits { PartsFit (S.files store.old) self.old }
-        ensures fits { PartsFit (S.files store.new) self.new }
-        ensures same { SamePhraseParts self.old self.new }
+        requires few { length phrase.now ≤ 64 }
+        requires fits { SearchFits (S.files store.old) self.old }
+        ensures fits { SearchFits (S.files store.new) self.new }
+        ensures same { SameOpened self.old self.new }
         ensures answer { AnswersWords S.Store O.Sink store.old store.new out.old out.new result
-            self.old read.now.phrase }
-        ensures step { Between S.files S.reads S.faults store.old store.new OnlyReads }
+            self.old phrase.now }
+        ensures step { Between S.files S.reads S.faults store.old store.new
+            (Stepped mode.Text) }
         ensures cause { HasShowCause result (S.faults store.old) (S.faults store.new)
             (O.faults out.old) (O.faults out.new) }
         ensures lack { HasShowLack (O.lacks out.old) (O.lacks out.new) result }
     {
-        match &read.query {
-            Some(query) => self.answer_words(store, &read.phrase, query, out),
+        match Query::all_of(self.lists.alloc, phrase) {
+            Ok(joined) => self.answer_joined(store, phrase, joined, out),
+            Err(_) => Err(ShowErr::Part(PartErr::Memory)),
+        }
+    }
+
+    /// Writes the reply to a phrase of these words, which a query joins if there are any.
+    fn answer_joined<O: Sink>(
+        &mut self,
+        store: &mut S,
+        phrase: &Terms,
+        joined: Option<Query>,
+        out: &mut O,
+    ) -> Result<(), ShowErr>
+        requires few { length phrase.now ≤ 64 }
+        requires joined { IsAllOf phrase.now joined }
+        requires fits { SearchFits (S.files store.old) self.old }
+        ensures fits { SearchFits (S.files store.new) self.new }
+        ensures same { SameOpened self.old self.new }
+        ensures answer { AnswersWords S.Store O.Sink store.old store.new out.old out.new result
+            self.old phrase.now }
+        ensures step { Between S.files S.reads S.faults store.old store.new
+            (Stepped mode.Text) }
+        ensures cause { HasShowCause result (S.faults store.old) (S.faults store.new)
+            (O.faults out.old) (O.faults out.new) }
+        ensures lack { HasShowLack (O.lacks out.old) (O.lacks out.new) result }
+    {
+        match joined {
+            Some(query) => self.answer_words(store, phrase, &query, out),
             // No document has a phrase without words.
             None => answer_none(out),
         }
@@ -162,30 +177,26 @@ impl<'a, S: Store> PhraseSearcher<'a, S> {
     ) -> Result<(), ShowErr>
         requires few { length phrase.now ≤ 64 }
         requires joined { IsAllOf phrase.now (Some query.now) }
-        requires fits { PartsFit (S.files store.old) self.old }
-        ensures fits { PartsFit (S.files store.new) self.new }
-        ensures same { SamePhraseParts self.old self.new }
+        requires fits { SearchFits (S.files store.old) self.old }
+        ensures fits { SearchFits (S.files store.new) self.new }
+        ensures same { SameOpened self.old self.new }
         ensures answer { AnswersWords S.Store O.Sink store.old store.new out.old out.new result
             self.old phrase.now }
-        ensures step { Between S.files S.reads S.faults store.old store.new OnlyReads }
+        ensures step { Between S.files S.reads S.faults store.old store.new
+            (Stepped mode.Text) }
         ensures cause { HasShowCause result (S.faults store.old) (S.faults store.new)
             (O.faults out.old) (O.faults out.new) }
         ensures lack { HasShowLack (O.lacks out.old) (O.lacks out.new) result }
     {
-        let infos = match find_terms(self.alloc, store, &mut self.lex, phrase.as_slice()) {
+        let infos = match find_terms(self.lists.alloc, store, &mut self.lex, phrase.as_slice()) {
             Ok(infos) => infos,
             Err(refusal) => return Err(ShowErr::from(refusal)),
-        };
-        let lists = Lists {
-            alloc: self.alloc,
-            base: self.base,
-            all: self.all,
         };
         let sought = Sought {
             query,
             infos: &infos,
         };
-        answer_phrase(&lists, store, &mut self.text, phrase, &sought, out)
+        answer_phrase(&self.lists, store, &mut self.texts, phrase, &sought, out)
     }
 }
 
@@ -205,17 +216,17 @@ fn answer_none<O: Sink>(out: &mut O) -> Result<(), ShowErr>
 impl<'a, S: Store> Answerer for PhraseSearcher<'a, S> {
     type Dev = S;
 
-    ghost State = { PhraseState };
+    ghost State = { Searching };
 
-    ghost state = { λ s d. phrase_state (S.files d) (S.reads d) (S.faults d) s };
+    ghost state = { λ s d. state_of (S.files d) (S.reads d) (S.faults d) s };
 
-    ghost fits = { λ s. PhrasesFit s };
+    ghost fits = { λ s. Fits s };
 
     ghost answers = { λ s by. PhrasesBy s by };
 
     ghost after = { λ s t questions. PhrasesAsked s t questions };
 
-    ghost may_stop = { λ s t error. PhraseMayStop s t error };
+    ghost may_stop = { λ s t error. MayStop s t error };
 
     fn answer_line<O: Sink>(
         &mut self,

@@ -15,16 +15,15 @@ ghost use Rattle.mg_session.specs.Searching.{AnswersBy, Asked, Fits, MayStop, Op
 ghost use Rattle.mg_session.specs.SearchLaws.{answers_later, asked_more, asked_none, stops_later};
 
 use crate::boolean_answer::answer_query;
-use crate::boolean_line::read_boolean;
 use crate::lists::Lists;
 use crate::lookup::{Sought, find_terms};
 use crate::ranked_answer::answer_terms;
 use crate::texts::Texts;
 use mg_defs::Settings;
-use mg_dev::{Fault, ShowErr, Sink, Store};
+use mg_dev::{Fault, PartErr, ShowErr, Sink, Store};
 use mg_layout::Head;
 use mg_lex::Lex;
-use mg_query::{Query, Terms, parse_ranked};
+use mg_query::{Query, Terms, parse_boolean, parse_ranked};
 use mg_reply::{Answerer, answer_refused};
 use std::alloc::Global;
 use std::marker::Model;
@@ -32,11 +31,9 @@ use std::marker::Model;
 /// Answers the query lines of a session from the parts of a base.
 #[derive(Drop)]
 pub(crate) struct Searcher<'a, S: Store> {
-    alloc: Global,
-    base: &'a str,
+    lists: Lists<'a>,
     lex: Lex<'a, S>,
     texts: Texts<'a, S>,
-    all: u32,
 }
 
 impl<'a, S: Store> Model for Searcher<'a, S> {
@@ -44,7 +41,7 @@ impl<'a, S: Store> Model for Searcher<'a, S> {
 
     ghost Value = { Opened };
 
-    ghost view = { λ s. record { base = s.base.now; lex = s.lex; texts = s.texts; all = s.all } };
+    ghost view = { λ s. record { base = s.lists.base.now; lex = s.lex; texts = s.texts; all = s.lists.all } };
 }
 
 impl<'a, S: Store> Searcher<'a, S> {
@@ -52,12 +49,15 @@ impl<'a, S: Store> Searcher<'a, S> {
     pub(crate) fn new(alloc: Global, base: &'a str, lex: Lex<'a, S>, head: &Head) -> Self
         ensures { result ≡ opened_at base.entry.now lex.entry head.now }
     {
-        Searcher {
+        let lists = Lists {
             alloc,
             base,
+            all: head.documents,
+        };
+        Searcher {
+            lists,
             lex,
             texts: Texts::new(alloc, base, head),
-            all: head.documents,
         }
     }
 
@@ -103,9 +103,35 @@ impl<'a, S: Store> Searcher<'a, S> {
             (O.faults out.old) (O.faults out.new) }
         ensures lack { HasShowLack (O.lacks out.old) (O.lacks out.new) result }
     {
-        match read_boolean(self.alloc, line) {
-            Ok(read) => self.answer_known(store, &read.query, &read.terms, now, out),
+        match parse_boolean(self.lists.alloc, line) {
+            Ok(query) => self.answer_parsed(store, &query, now, out),
             Err(why) => answer_refused(out, why),
+        }
+    }
+
+    /// Writes the reply to a Boolean query.
+    fn answer_parsed<O: Sink>(
+        &mut self,
+        store: &mut S,
+        query: &Query,
+        now: &Settings,
+        out: &mut O,
+    ) -> Result<(), ShowErr>
+        requires fits { SearchFits (S.files store.old) self.old }
+        ensures fits { SearchFits (S.files store.new) self.new }
+        ensures same { SameOpened self.old self.new }
+        ensures answer { AnswersOpened S.Store O.Sink store.old store.new out.old out.new result
+            self.old now.now
+            (λ collection. satisfying collection (query_of query.now))
+            (λ collection. boolean_bound collection (query_of query.now)) }
+        ensures step { Between S.files S.reads S.faults store.old store.new (Stepped now.now.mode) }
+        ensures cause { HasShowCause result (S.faults store.old) (S.faults store.new)
+            (O.faults out.old) (O.faults out.new) }
+        ensures lack { HasShowLack (O.lacks out.old) (O.lacks out.new) result }
+    {
+        match query.terms(self.lists.alloc) {
+            Ok(terms) => self.answer_known(store, query, &terms, now, out),
+            Err(_) => Err(ShowErr::Part(PartErr::Memory)),
         }
     }
 
@@ -131,20 +157,15 @@ impl<'a, S: Store> Searcher<'a, S> {
             (O.faults out.old) (O.faults out.new) }
         ensures lack { HasShowLack (O.lacks out.old) (O.lacks out.new) result }
     {
-        let infos = match find_terms(self.alloc, store, &mut self.lex, terms.as_slice()) {
+        let infos = match find_terms(self.lists.alloc, store, &mut self.lex, terms.as_slice()) {
             Ok(infos) => infos,
             Err(refusal) => return Err(ShowErr::from(refusal)),
-        };
-        let lists = Lists {
-            alloc: self.alloc,
-            base: self.base,
-            all: self.all,
         };
         let sought = Sought {
             query,
             infos: &infos,
         };
-        answer_query(&lists, store, &mut self.texts, &sought, now, out)
+        answer_query(&self.lists, store, &mut self.texts, &sought, now, out)
     }
 
     /// Writes the reply to a ranked line.
@@ -166,7 +187,7 @@ impl<'a, S: Store> Searcher<'a, S> {
             (O.faults out.old) (O.faults out.new) }
         ensures lack { HasShowLack (O.lacks out.old) (O.lacks out.new) result }
     {
-        match parse_ranked(self.alloc, line) {
+        match parse_ranked(self.lists.alloc, line) {
             Ok(terms) => self.answer_distinct(store, &terms, now, out),
             Err(why) => answer_refused(out, why),
         }
@@ -194,16 +215,11 @@ impl<'a, S: Store> Searcher<'a, S> {
             (O.faults out.old) (O.faults out.new) }
         ensures lack { HasShowLack (O.lacks out.old) (O.lacks out.new) result }
     {
-        let infos = match find_terms(self.alloc, store, &mut self.lex, terms.as_slice()) {
+        let infos = match find_terms(self.lists.alloc, store, &mut self.lex, terms.as_slice()) {
             Ok(infos) => infos,
             Err(refusal) => return Err(ShowErr::from(refusal)),
         };
-        let lists = Lists {
-            alloc: self.alloc,
-            base: self.base,
-            all: self.all,
-        };
-        answer_terms(&lists, store, &mut self.texts, &infos, now, out)
+        answer_terms(&self.lists, store, &mut self.texts, &infos, now, out)
     }
 
     /// Writes the reply to a query line, ranked or Boolean as the settings say.

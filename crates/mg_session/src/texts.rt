@@ -1,8 +1,8 @@
 //! The text of a set, opened at the first document that is shown from it.
 //!
 //! A reader of the text keeps both models whole, and loading them takes longer than a line that
-//! names documents is worth. So a session that shows no text never loads them; one that does loads
-//! them once.
+//! names documents is worth. So a session that decodes no text, to show it or to seek a phrase in it,
+//! never loads them; one that does loads them once.
 ghost use Rattle.std.specs.Prelude.{◌≡◌, ◌≤◌, None, Some};
 ghost use Rattle.mg_defs.specs.Terms.{document};
 ghost use Rattle.mg_defs.specs.declared.session.Mode.TheVariants as mode;

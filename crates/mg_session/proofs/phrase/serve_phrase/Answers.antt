@@ -1,5 +1,5 @@
 use Rattle.std.proofs.Common.{arith}
-use Rattle.mg_session.specs.PhraseSearching.{phrase_state}
+use Rattle.mg_session.specs.Searching.{state_of}
 use Rattle.mg_session.proofs.PhrasedLaws.{no_head, no_set, phrased}
 use Rattle.mg_session.proofs.phrase.serve_phrase.Goals as goal
 
@@ -12,8 +12,8 @@ returns-in-Err-open-clause-phrased g c = λ err err_now. no_set _ _ _ _ _ _ _ _ 
 pub returns-clause-phrased : goal.returns-clause-phrased
 returns-clause-phrased g c = λ err err_now.
     phrased _ _ _
-    (phrase_state (g.S.Store.files c.open.new.store) (g.S.Store.reads c.open.new.store) (g.S.Store.faults c.open.new.store) c.in-Ok-open.searcher)
-    (phrase_state (g.S.Store.files c.answer_lines.new.dev) (g.S.Store.reads c.answer_lines.new.dev) (g.S.Store.faults c.answer_lines.new.dev) c.answer_lines.ensures.served.0)
+    (state_of (g.S.Store.files c.open.new.store) (g.S.Store.reads c.open.new.store) (g.S.Store.faults c.open.new.store) c.in-Ok-open.searcher)
+    (state_of (g.S.Store.files c.answer_lines.new.dev) (g.S.Store.reads c.answer_lines.new.dev) (g.S.Store.faults c.answer_lines.new.dev) c.answer_lines.ensures.served.0)
     _ _ _ _ _ _ c.in-Ok.head c.answer_lines.result c.in-Ok.ensures.opened c.in-Ok-open.ensures.opened c.answer_lines.ensures.served.1
 
 pub returns-in-Err-clause-later : goal.returns-in-Err-clause-later

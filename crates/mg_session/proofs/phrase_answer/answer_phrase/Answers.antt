@@ -1,23 +1,19 @@
 use Rattle.std.proofs.Common.{◌∙◌, Some, subst, sym}
 use Rattle.mg_query.specs.AllOf.{IsAllOf}
 use Rattle.mg_query.specs.declared.query.Query.{Query}
-use Rattle.mg_session.specs.PhraseSearchLaws.{reads_none}
 use Rattle.mg_session.proofs.PhraseReplyLaws.{none_answered}
 use Rattle.mg_session.proofs.phrase_answer.answer_phrase.Goals as goal
 
 pub returns-in-Err-clause-answer : goal.returns-in-Err-clause-answer
-returns-in-Err-clause-answer g c = λ collection stands told. none_answered _ collection c.args.phrase.now _ _
-
-pub returns-in-Err-clause-step : goal.returns-in-Err-clause-step
-returns-in-Err-clause-step g c = reads_none _ _ _
+returns-in-Err-clause-answer g c = λ code collection stands told. none_answered _ collection c.args.phrase.now _ _
 
 pub search_matches-requires-clause-joined : goal.search_matches-requires-clause-joined
 search_matches-requires-clause-joined g c = subst (λ (q : Query). IsAllOf c.args.phrase.now (Some q)) (sym c.in-Ok.ensures.asks) c.requires.joined
 
 pub returns-clause-answer : goal.returns-clause-answer
-returns-clause-answer g c = λ collection stands told.
-    c.search_matches.ensures.answer c.args.lists.now.base.now collection
-    (record { lists = stands.lists; text_is = stands.text_is; all_is = c.in-Ok.ensures.all ∙ stands.all_is; short = stands.short })
+returns-clause-answer g c = λ code collection stands told.
+    c.search_matches.ensures.answer c.args.lists.now.base.now code collection
+    (record { weights = stands.weights; texts_are = stands.texts_are; all_is = c.in-Ok.ensures.all ∙ stands.all_is })
     (c.in-Ok.ensures.over collection told stands.all_is)
 
 pub search_matches-requires-clause-on : goal.search_matches-requires-clause-on

@@ -5,20 +5,18 @@ use Rattle.mg_bool.specs.Places.{AreInfos}
 use Rattle.mg_layout.specs.declared.term_info.TermInfo.{TermInfo}
 use Rattle.mg_lex.specs.Reading.{LexStands}
 use Rattle.mg_query.specs.QueryOf.{query_of}
-use Rattle.mg_session.specs.PhraseAnswers.{PhraseAnswered}
-use Rattle.mg_session.specs.PhraseSearching.{PartsOver, PhraseParts}
-use Rattle.mg_session.specs.PhraseSearchLaws.{sources_stay}
+use Rattle.mg_session.specs.Searching.{Opened, OpenedOver}
 use Rattle.mg_session.proofs.PhraseReplyLaws.{answered_behind, nothing_answered}
 use Rattle.mg_session.proofs.PhraseWalkLaws.{terms_joined}
-use Rattle.mg_session.proofs.ReplyLaws.{part_sound}
+use Rattle.mg_session.proofs.ReplyLaws.{answers_for, part_sound}
 use Rattle.mg_session.proofs.StepLaws.{lex_post, lex_text}
 use Rattle.mg_session.proofs.phrase_searcher.PhraseSearcher.answer_words.Goals as goal
 
 pub returns-in-Err-clause-answer : goal.returns-in-Err-clause-answer
-returns-in-Err-clause-answer g c = λ collection over.
-    nothing_answered _ collection _ _ _ _ _
+returns-in-Err-clause-answer g c = λ code collection over.
+    nothing_answered code collection _ _ _ _ _
     (part_sound c.in-Err.refusal _ _ c.from.ensures (c.in-Err.ensures.answer over.version collection over.limits
-    (subst (λ (o : PhraseParts). LexStands o.lex (g.S.Store.files c.args.store.now) collection) (sym c.self.view_is) over.lex)))
+    (subst (λ (o : Opened). LexStands o.lex (g.S.Store.files c.args.store.now) collection) (sym c.self.view_is) over.lex)))
     (lex_post _ _ _ _ _ _ c.in-Err.ensures.looked) (lex_text _ _ _ _ _ _ c.in-Err.ensures.looked)
 
 pub answer_phrase-requires-clause-size : goal.answer_phrase-requires-clause-size
@@ -26,18 +24,16 @@ answer_phrase-requires-clause-size g c =
     omega (arith, ap length c.deref.ensures.value, c.in-Ok.ensures.size, ap length c.as_slice.ensures, ap length (terms_joined c.args.phrase.now c.args.query.now c.requires.joined))
 
 pub returns-clause-answer : goal.returns-clause-answer
-returns-clause-answer g c = λ collection over.
-    let own : PhraseParts = record { base = c.self.inside.base.now; lex = c.self.inside.lex; text = c.self.inside.text.text; all = c.self.inside.all; most = c.self.inside.text.held.most } in
-    let own_over : PartsOver (g.S.Store.files c.args.store.now) own collection = subst (λ (o : PhraseParts). PartsOver (g.S.Store.files c.args.store.now) o collection) (sym c.self.view_is) over in
+returns-clause-answer g c = λ code collection over.
+    let own : Opened = record { base = c.self.inside.lists.base.now; lex = c.self.inside.lex; texts = c.self.inside.texts.texts; all = c.self.inside.lists.all } in
+    let own_over : OpenedOver (g.S.Store.files c.args.store.now) own code collection = subst
+    (λ (o : Opened). OpenedOver (g.S.Store.files c.args.store.now) o code collection) (sym c.self.view_is) over in
     let told = c.in-Ok.ensures.answer own_over.version collection own_over.limits own_over.lex in
     let terms = c.as_slice.ensures ∙ sym (terms_joined c.args.phrase.now c.args.query.now c.requires.joined) in
     let same : AreInfos collection (query_terms (query_of c.args.query.now)) c.deref.result.now =
     subst (λ (xs : List (Option TermInfo)). AreInfos collection (query_terms (query_of c.args.query.now)) xs) (sym c.deref.ensures.value)
     (subst (λ (ts : List (List ℕ)). AreInfos collection ts c.in-Ok.infos.items) terms told) in
-    let stands = sources_stay _ _ _ _ _ _ collection c.in-Ok.ensures.looked.files own_over.sources in
-    subst (λ (o : PhraseParts). PhraseAnswered o.text.code collection c.args.phrase.now (g.O.Sink.written c.args.out.now)
-    (g.O.Sink.written c.answer_phrase.new.out) (g.S.Store.reads c.args.store.now) (g.S.Store.reads c.answer_phrase.new.store) c.answer_phrase.result)
-    c.self.view_is
-    (answered_behind own.text.code collection c.args.phrase.now _ _ _ (g.S.Store.reads c.find_terms.new.store) _ _
-    (c.answer_phrase.ensures.answer collection stands same)
-    (lex_post _ _ _ _ _ _ c.in-Ok.ensures.looked) (lex_text _ _ _ _ _ _ c.in-Ok.ensures.looked))
+    let stands = answers_for _ _ own code collection c.in-Ok.ensures.looked.files own_over in
+    answered_behind code collection c.args.phrase.now _ _ _ (g.S.Store.reads c.find_terms.new.store) _ _
+    (c.answer_phrase.ensures.answer code collection stands same)
+    (lex_post _ _ _ _ _ _ c.in-Ok.ensures.looked) (lex_text _ _ _ _ _ _ c.in-Ok.ensures.looked)

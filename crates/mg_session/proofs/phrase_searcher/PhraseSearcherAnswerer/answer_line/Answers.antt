@@ -1,24 +1,25 @@
 use Rattle.std.proofs.Common.{List, ℕ, sym, subst}
 use Rattle.mg_defs.specs.declared.session.Settings.{Settings}
 use Rattle.mg_dev.specs.Streams.{AfterPut}
-use Rattle.mg_session.specs.PhraseSearching.{phrase_state}
-use Rattle.mg_session.proofs.PhraseReplyLaws.{line_part, phrases_asked}
+use Rattle.mg_session.specs.Searching.{state_of}
+use Rattle.mg_session.proofs.PhraseReplyLaws.{phrases_asked}
+use Rattle.mg_session.proofs.ReplyLaws.{line_part}
 use Rattle.mg_session.proofs.phrase_searcher.PhraseSearcherAnswerer.answer_line.Goals as goal
 
 pub returns-clause-content : goal.returns-clause-content
 returns-clause-content g c = λ by answers. subst (λ (r : Settings → List ℕ → List ℕ).
     AfterPut (g.O.Sink.written c.args.out.now) (g.O.Sink.written c.answer_question.new.out) (r c.args._now.now c.args.line.now) c.answer_question.result)
     (sym answers.by_is)
-    (c.answer_question.ensures.replied answers.collection answers.over).put
+    (c.answer_question.ensures.replied answers.code answers.collection answers.over).put
 
 pub returns-clause-after : goal.returns-clause-after
 returns-clause-after g c = phrases_asked
-    (phrase_state (g.S.Store.files c.args.dev.now) (g.S.Store.reads c.args.dev.now) (g.S.Store.faults c.args.dev.now) c.args.self.now)
-    (phrase_state (g.S.Store.files c.answer_question.new.store) (g.S.Store.reads c.answer_question.new.store) (g.S.Store.faults c.answer_question.new.store) c.answer_question.new.self)
+    (state_of (g.S.Store.files c.args.dev.now) (g.S.Store.reads c.args.dev.now) (g.S.Store.faults c.args.dev.now) c.args.self.now)
+    (state_of (g.S.Store.files c.answer_question.new.store) (g.S.Store.reads c.answer_question.new.store) (g.S.Store.faults c.answer_question.new.store) c.answer_question.new.self)
     _ _ _ _ _ c.answer_question.ensures.step c.answer_question.ensures.same c.answer_question.ensures.replied
 
 pub returns-clause-part : goal.returns-clause-part
 returns-clause-part g c = line_part
-    (phrase_state (g.S.Store.files c.args.dev.now) (g.S.Store.reads c.args.dev.now) (g.S.Store.faults c.args.dev.now) c.args.self.now)
-    (phrase_state (g.S.Store.files c.answer_question.new.store) (g.S.Store.reads c.answer_question.new.store) (g.S.Store.faults c.answer_question.new.store) c.answer_question.new.self)
-    _ _ _ c.answer_question.ensures.cause (λ collection over. (c.answer_question.ensures.replied collection over).sound)
+    (state_of (g.S.Store.files c.args.dev.now) (g.S.Store.reads c.args.dev.now) (g.S.Store.faults c.args.dev.now) c.args.self.now)
+    (state_of (g.S.Store.files c.answer_question.new.store) (g.S.Store.reads c.answer_question.new.store) (g.S.Store.faults c.answer_question.new.store) c.answer_question.new.self)
+    _ _ _ c.answer_question.ensures.cause (λ code collection over. (c.answer_question.ensures.replied code collection over).sound)

@@ -15,4 +15,4 @@ returns-in-Err-clause-lack g c = refused_lack _ _ _ _ c.answer_refused.ensures.l
 
 pub returns-in-Ok-clause-replied : goal.returns-in-Ok-clause-replied
 returns-in-Ok-clause-replied g c = λ code collection over.
-    boolean_answered code collection (query_of c.in-Ok.read.query) _ _ _ _ _ _ _ _ c.in-Ok.ensures.reads (c.answer_known.ensures.answer code collection over) refl refl
+    boolean_answered code collection (query_of c.in-Ok.query) _ _ _ _ _ _ _ _ c.in-Ok.ensures.reads (c.answer_parsed.ensures.answer code collection over) refl refl

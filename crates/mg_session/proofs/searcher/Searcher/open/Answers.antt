@@ -1,18 +1,18 @@
 use Rattle.std.proofs.Common.{sym, subst}
 use Rattle.mg_dev.specs.Moments.{store_at}
 use Rattle.mg_session.specs.Searching.{Opened, SearchFits}
-use Rattle.mg_session.proofs.OpenLaws.{queries_opened, queries_refused}
+use Rattle.mg_session.proofs.OpenLaws.{parts_opened, parts_refused}
 use Rattle.mg_session.proofs.SetLaws.{opened_fits}
 use Rattle.mg_session.proofs.searcher.Searcher.open.Goals as goal
 
 pub returns-in-Err-clause-opened : goal.returns-in-Err-clause-opened
 returns-in-Err-clause-opened g c =
-    rw c.from.ensures (queries_refused c.args.base.now (store_at g.S.Store.files g.S.Store.reads g.S.Store.faults c.args.store.now)
+    rw c.from.ensures (parts_refused c.args.base.now (store_at g.S.Store.files g.S.Store.reads g.S.Store.faults c.args.store.now)
     (store_at g.S.Store.files g.S.Store.reads g.S.Store.faults c.load.new.store) c.args.head.now c.in-Err.refusal c.in-Err.ensures.files c.in-Err.ensures.reads
     (record { later = c.in-Err.ensures.cause.later; device = c.in-Err.ensures.cause.device }) c.in-Err.ensures.never_bad)
 
 pub returns-clause-opened : goal.returns-clause-opened
-returns-clause-opened g c = queries_opened c.args.base.now (store_at g.S.Store.files g.S.Store.reads g.S.Store.faults c.args.store.now)
+returns-clause-opened g c = parts_opened c.args.base.now (store_at g.S.Store.files g.S.Store.reads g.S.Store.faults c.args.store.now)
     (store_at g.S.Store.files g.S.Store.reads g.S.Store.faults c.load.new.store) c.args.head.now c.in-Ok.lex c.new-searcher.result c.new-searcher.ensures
     c.in-Ok.ensures.files c.in-Ok.ensures.reads c.in-Ok.ensures.cause.later c.in-Ok.ensures.stands
 

@@ -3,8 +3,7 @@ use Rattle.mg_dev.specs.StreamLaws.{grew_nothing}
 use Rattle.mg_dev.specs.declared.part.Part.TheVariants as part
 use Rattle.mg_text.proofs.CallerLemmas.{adds_none}
 use Rattle.mg_session.specs.Texts.{Texting, TextsStand}
-use Rattle.mg_session.proofs.PhraseReplyLaws.{short_document}
-use Rattle.mg_session.proofs.TextsLaws.{same_pages}
+use Rattle.mg_session.proofs.TextsLaws.{same_pages, short_document}
 use Rattle.mg_session.proofs.texts.Texts.load_doc.Goals as goal
 
 pub returns-in-Err-clause-content : goal.returns-in-Err-clause-content

@@ -1,7 +1,6 @@
 use Rattle.std.proofs.Common.{arith, sym, subst, ◌∙◌, ap}
 use Rattle.mg_session.specs.Texts.{Texting, TextsStand}
-use Rattle.mg_session.proofs.PhraseReplyLaws.{short_document}
-use Rattle.mg_session.proofs.TextsLaws.{same_pages, texts_reader}
+use Rattle.mg_session.proofs.TextsLaws.{same_pages, short_document, texts_reader}
 use Rattle.mg_session.proofs.texts.TextsDocuments.doc.Goals as goal
 
 pub returns-in-Some-clause-content : goal.returns-in-Some-clause-content

@@ -1,14 +1,14 @@
 use Rattle.std.proofs.Common.{subst}
 use Rattle.mg_query.specs.AllOf.{IsAllOf}
 use Rattle.mg_session.proofs.PhraseReplyLaws.{none_counted}
-use Rattle.mg_session.proofs.phrase_searcher.PhraseSearcher.answer_read.Goals as goal
+use Rattle.mg_session.proofs.phrase_searcher.PhraseSearcher.answer_joined.Goals as goal
 
 pub answer_words-requires-clause-joined : goal.answer_words-requires-clause-joined
-answer_words-requires-clause-joined g c = subst (IsAllOf c.args.read.now.phrase) c.in-Some.is c.requires.joined
+answer_words-requires-clause-joined g c = subst (IsAllOf c.args.phrase.now) c.in-Some.is c.requires.joined
 
 pub returns-in-None-clause-answer : goal.returns-in-None-clause-answer
-returns-in-None-clause-answer g c = λ collection over.
-    none_counted _ collection c.args.read.now.phrase _ _ _ _ (subst (IsAllOf c.args.read.now.phrase) c.in-None.is c.requires.joined)
+returns-in-None-clause-answer g c = λ code collection over.
+    none_counted code collection c.args.phrase.now _ _ _ _ (subst (IsAllOf c.args.phrase.now) c.in-None.is c.requires.joined)
     c.answer_none.ensures.content c.answer_none.ensures.sound
 
 pub returns-in-None-clause-cause : goal.returns-in-None-clause-cause
