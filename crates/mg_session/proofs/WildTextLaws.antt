@@ -382,38 +382,28 @@ matched base files terms all collection p ns old new sources is none added room 
 pub wild_stop : (collection : List ℕ) (p : Pattern) (w : Option (List ℕ)) (error : ShowErr) → ShowIsNotBad (Err error) → WildAnswered collection p w w (Err error)
 wild_stop collection p w error sound = record { put = grew_nothing w (match_text collection p); sound = sound }
 
+-- it was printed, or a part of it
+pub wild_put : {collection : List ℕ} {p : Pattern} {ns : List ℕ} {marks : DocumentMarks} {w0 w1 : Option (List ℕ)} {result : Result (Unit {0}) ShowErr} →
+    Matched collection p ns marks → AfterPut w0 w1 (term_rows collection (terms_at collection ns) ++ numbers_text (marked_to marks marks.all)) result →
+    ShowIsNotBad result → WildAnswered collection p w0 w1 result
+wild_put {collection} {p} {ns} {marks} {w0} {w1} {result} m put sound = record { put = subst (λ t. AfterPut w0 w1 t result) (sym m.whole) put; sound = sound }
+
+-- ---- rows of terms and then of documents, where nothing had waited
+
 -- a row of a term was refused
-pub wild_terms_cut : (collection : List ℕ) (p : Pattern) (ns : List ℕ) (marks : DocumentMarks) (w0 w1 : Option (List ℕ)) (p0 : List ℕ) (error : ShowErr) →
-    Matched collection p ns marks → p0 ≡ [] → GrewByPrefix w0 w1 (p0 ++ term_rows collection (terms_at collection ns)) → ShowIsNotBad (Err error) →
-    WildAnswered collection p w0 w1 (Err error)
-wild_terms_cut collection p ns marks w0 w1 p0 error m none grew sound = record {
-  put = subst (GrewByPrefix w0 w1) (sym m.whole) (grew_first w0 w1 (term_rows collection (terms_at collection ns)) (numbers_text (marked_to marks marks.all))
-      (pass_refused w0 w1 p0 (term_rows collection (terms_at collection ns)) none grew));
-  sound = sound;
-}
+pub terms_refused : {w0 w1 : Option (List ℕ)} {p0 : List ℕ} (rows more : List ℕ) → p0 ≡ [] → GrewByPrefix w0 w1 (p0 ++ rows) → GrewByPrefix w0 w1 (rows ++ more)
+terms_refused {w0} {w1} {p0} rows more none grew = grew_first w0 w1 rows more (pass_refused w0 w1 p0 rows none grew)
 
 -- a row of a document or the count was refused
-pub wild_marked_cut : (collection : List ℕ) (p : Pattern) (ns : List ℕ) (marks : DocumentMarks) (w0 w1 w2 : Option (List ℕ)) (p0 p1 : List ℕ)
-    (error : ShowErr) → Matched collection p ns marks → p0 ≡ [] → Passed w0 w1 p0 p1 (term_rows collection (terms_at collection ns)) →
-    GrewByPrefix w1 w2 (p1 ++ numbers_text (marked_to marks marks.all)) → ShowIsNotBad (Err error) →
-    WildAnswered collection p w0 w2 (Err error)
-wild_marked_cut collection p ns marks w0 w1 w2 p0 p1 error m none rows grew sound = record {
-  put = subst (GrewByPrefix w0 w2) (sym m.whole) (pass_refused w0 w2 p0 _ none
-      (pass_cut w0 w1 w2 p0 p1 (term_rows collection (terms_at collection ns)) (numbers_text (marked_to marks marks.all)) rows grew));
-  sound = sound;
-}
+pub numbers_refused : {w0 w1 w2 : Option (List ℕ)} {p0 p1 rows : List ℕ} (more : List ℕ) → p0 ≡ [] → Passed w0 w1 p0 p1 rows → GrewByPrefix w1 w2 (p1 ++ more) →
+    GrewByPrefix w0 w2 (rows ++ more)
+numbers_refused {w0} {w1} {w2} {p0} {p1} {rows} more none passed grew = pass_refused w0 w2 p0 _ none (pass_cut w0 w1 w2 p0 p1 rows more passed grew)
 
 -- what waited was put or refused
-pub wild_end : (collection : List ℕ) (p : Pattern) (ns : List ℕ) (marks : DocumentMarks) (w0 w1 w2 w3 : Option (List ℕ)) (p0 p1 p2 : List ℕ)
-    (result : Result (Unit {0}) ShowErr) → Matched collection p ns marks → p0 ≡ [] → Passed w0 w1 p0 p1 (term_rows collection (terms_at collection ns)) →
-    Passed w1 w2 p1 p2 (numbers_text (marked_to marks marks.all)) →
-    AfterPut w2 w3 p2 result → ShowIsNotBad result → WildAnswered collection p w0 w3 result
-wild_end collection p ns marks w0 w1 w2 w3 p0 p1 p2 result m none rows numbers put sound =
-    let both = pass_both w0 w1 w2 p0 p1 p2 (term_rows collection (terms_at collection ns)) (numbers_text (marked_to marks marks.all)) rows numbers in
-    record {
-      put = subst (λ x. AfterPut w0 w3 x result) (sym m.whole) (pass_put w0 w2 w3 p0 p2 _ result none both put);
-      sound = sound;
-    }
+pub all_put : {T E : Type 0} {w0 w1 w2 : Option (List ℕ)} (w3 : Option (List ℕ)) {p0 p1 p2 rows more : List ℕ} (result : Result T E) → p0 ≡ [] →
+    Passed w0 w1 p0 p1 rows → Passed w1 w2 p1 p2 more → AfterPut w2 w3 p2 result → AfterPut w0 w3 (rows ++ more) result
+all_put {T} {E} {w0} {w1} {w2} w3 {p0} {p1} {p2} {rows} {more} result none passed numbers put =
+    pass_put w0 w2 w3 p0 p2 _ result none (pass_both w0 w1 w2 p0 p1 p2 rows more passed numbers) put
 
 -- ---- what is left of the store
 

@@ -1,5 +1,5 @@
 //! The answer to a pattern: the terms that match it, and the documents that have one of them.
-ghost use Rattle.std.specs.Prelude.{◌≡◌, ◌<◌, [], ◌∷◌, All, length};
+ghost use Rattle.std.specs.Prelude.{◌≡◌, ◌<◌, ◌++◌, ℕ, [], ◌∷◌, All, length};
 ghost use Rattle.mg_dev.specs.Causes.{HasPutCause, HasLack};
 ghost use Rattle.mg_dev.specs.Each.{ForEach};
 ghost use Rattle.mg_dev.specs.Moments.{Between};
@@ -9,7 +9,8 @@ ghost use Rattle.mg_defs.specs.WildSession.{numbers_text, term_row};
 ghost use Rattle.mg_post.specs.Cursor.{CursorFits};
 ghost use Rattle.mg_post.specs.TermLists.{ReadsLists};
 ghost use Rattle.mg_rank.specs.Ranked.{ForList, ForTerm, PostWithin};
-ghost use Rattle.mg_reply.specs.Printed.{Passes};
+ghost use Rattle.mg_reply.specs.Printed.{Passes, Puts};
+ghost use Rattle.mg_text.specs.Reading.{ShowIsNotBad};
 ghost use Rattle.mg_wild.specs.Patterns.{sides_of};
 ghost use Rattle.mg_session.specs.Answering.{HasShowCause, HasShowLack};
 ghost use Rattle.mg_session.specs.DocumentSets.{marked_to};
@@ -190,6 +191,38 @@ fn pass_marked<O: Sink>(
     pending.count(out, total)
 }
 
+/// Shows the terms with these numbers, each with how many documents have it, and then the marked
+/// documents, rising, and how many they are.
+fn show_matching<O: Sink>(
+    terms: &Rotated,
+    numbers: &[u32],
+    marked: &DocumentSet,
+    out: &mut O,
+) -> Result<(), ShowErr>
+    requires each { length terms.now.infos ≡ length terms.now.terms }
+    requires terms { All (λ n. n < length terms.now.terms) numbers.now }
+    ensures content { ForLexTerms terms.now
+        (λ collection. Puts O.written out.old out.new result
+        (rows_at numbers.now collection ++ numbers_text (marked_to marked.now marked.now.all))) }
+    ensures sound { ShowIsNotBad result }
+    ensures cause { (s : ℕ) → HasShowCause result s s (O.faults out.old) (O.faults out.new) }
+    ensures lack { HasShowLack (O.lacks out.old) (O.lacks out.new) result }
+{
+    let mut pending = Pending::new();
+    match pass_terms(&mut pending, out, terms, numbers) {
+        Ok(()) => {}
+        Err(refusal) => return Err(ShowErr::from(refusal)),
+    }
+    match pass_marked(&mut pending, out, marked) {
+        Ok(()) => {}
+        Err(refusal) => return Err(ShowErr::from(refusal)),
+    }
+    match pending.flush(out) {
+        Ok(()) => Ok(()),
+        Err(refusal) => Err(ShowErr::from(refusal)),
+    }
+}
+
 /// Shows the terms that match a pattern, each with how many documents have it, and then the documents
 /// that have one of them, rising, and how many they are. All lists are read before anything is shown.
 ///
@@ -225,20 +258,7 @@ pub(crate) fn answer_pattern<S: Store, O: Sink>(
     let numbers = matching.as_slice();
     marked.clear();
     match mark_all(lists, store, terms, numbers, marked) {
-        Ok(()) => {}
-        Err(refusal) => return Err(ShowErr::from(refusal)),
-    }
-    let mut pending = Pending::new();
-    match pass_terms(&mut pending, out, terms, numbers) {
-        Ok(()) => {}
-        Err(refusal) => return Err(ShowErr::from(refusal)),
-    }
-    match pass_marked(&mut pending, out, marked) {
-        Ok(()) => {}
-        Err(refusal) => return Err(ShowErr::from(refusal)),
-    }
-    match pending.flush(out) {
-        Ok(()) => Ok(()),
+        Ok(()) => show_matching(terms, numbers, marked, out),
         Err(refusal) => Err(ShowErr::from(refusal)),
     }
 }

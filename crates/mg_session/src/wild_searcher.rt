@@ -1,5 +1,6 @@
 //! An answerer of patterns over the open parts of a set.
-ghost use Rattle.std.specs.Prelude.{◌≡◌, ◌≤◌, ℕ, IfOk, IsSome, length};
+ghost use Rattle.std.specs.Prelude.{◌≡◌, ◌≤◌, ℕ, List, IfOk, IfSome, IsSome, length};
+ghost use Rattle.mg_defs.specs.Patterns.{pattern_of};
 ghost use Rattle.mg_defs.specs.WildSession.{bad_pattern};
 ghost use Rattle.mg_dev.specs.Causes.{HasPutCause, HasLack};
 ghost use Rattle.mg_dev.specs.Each.{ForEach};
@@ -8,6 +9,7 @@ ghost use Rattle.mg_dev.specs.Runs.{RefusedFor};
 ghost use Rattle.mg_dev.specs.declared.fault.Fault.TheVariants.{TooManyRotations};
 ghost use Rattle.mg_rank.specs.Ranked.{PostWithin};
 ghost use Rattle.mg_reply.specs.Printed.{Puts};
+ghost use Rattle.mg_wild.specs.Patterns.{bad_of};
 ghost use Rattle.mg_session.specs.Answering.{HasShowCause, HasShowLack};
 ghost use Rattle.mg_session.specs.Opening.{KeptByPatterns, SetOpened};
 ghost use Rattle.mg_session.specs.WildAnswers.{ReadsNoOther, wild_pages};
@@ -33,10 +35,8 @@ use std::marker::{Model, PhantomData};
 /// the terms, how many documents there are and how many can be marked.
 #[derive(Drop)]
 pub(crate) struct WildSearcher<'a, S: Store> {
-    alloc: Global,
-    base: &'a str,
+    lists: Lists<'a>,
     terms: Rotated,
-    all: u32,
     marked: DocumentSet,
     store: PhantomData<S>,
 }
@@ -46,7 +46,7 @@ impl<'a, S: Store> Model for WildSearcher<'a, S> {
 
     ghost Value = { WildParts };
 
-    ghost view = { λ s. record { base = s.base.now; terms = s.terms; all = s.all; room = s.marked.all } };
+    ghost view = { λ s. record { base = s.lists.base.now; terms = s.terms; all = s.lists.all; room = s.marked.all } };
 }
 
 /// The fault of a lexicon whose terms are not held.
@@ -77,6 +77,23 @@ fn put_bad_pattern<O: Sink>(out: &mut O, at: u32) -> Result<(), PutErr>
     }
 }
 
+/// Writes why a line is no pattern, where that is known.
+fn refuse_pattern<O: Sink>(out: &mut O, why: PatternErr) -> Result<(), ShowErr>
+    ensures replied { (line : List ℕ) → IfSome (bad_of why) (λ bad. pattern_of line ≡ bad) →
+        (collection : List ℕ) →
+        RepliesToPattern O.written out.old out.new result line collection }
+    ensures cause { (s : ℕ) → HasShowCause result s s (O.faults out.old) (O.faults out.new) }
+    ensures lack { HasShowLack (O.lacks out.old) (O.lacks out.new) result }
+{
+    match why {
+        PatternErr::Bad { at } => match put_bad_pattern(out, at) {
+            Ok(()) => Ok(()),
+            Err(refusal) => Err(ShowErr::from(refusal)),
+        },
+        PatternErr::Memory => Err(ShowErr::Part(PartErr::Memory)),
+    }
+}
+
 impl<'a, S: Store> WildSearcher<'a, S> {
     /// Over a base with these terms and so many documents, which are marked in this set.
     pub(crate) fn new(
@@ -94,10 +111,8 @@ impl<'a, S: Store> WildSearcher<'a, S> {
         } }
     {
         WildSearcher {
-            alloc,
-            base,
+            lists: Lists { alloc, base, all },
             terms,
-            all,
             marked,
             store: PhantomData,
         }
@@ -152,20 +167,18 @@ impl<'a, S: Store> WildSearcher<'a, S> {
             (O.faults out.old) (O.faults out.new) }
         ensures lack { HasShowLack (O.lacks out.old) (O.lacks out.new) result }
     {
-        let pattern = match read_pattern(self.alloc, line) {
+        let pattern = match read_pattern(self.lists.alloc, line) {
             Ok(pattern) => pattern,
-            Err(PatternErr::Bad { at }) => match put_bad_pattern(out, at) {
-                Ok(()) => return Ok(()),
-                Err(refusal) => return Err(ShowErr::from(refusal)),
-            },
-            Err(PatternErr::Memory) => return Err(ShowErr::Part(PartErr::Memory)),
+            Err(why) => return refuse_pattern(out, why),
         };
-        let lists = Lists {
-            alloc: self.alloc,
-            base: self.base,
-            all: self.all,
-        };
-        answer_pattern(&lists, store, &self.terms, &mut self.marked, &pattern, out)
+        answer_pattern(
+            &self.lists,
+            store,
+            &self.terms,
+            &mut self.marked,
+            &pattern,
+            out,
+        )
     }
 }
 

@@ -1,0 +1,14 @@
+use Rattle.mg_session.proofs.ReplyLaws.{put_sound}
+use Rattle.mg_session.proofs.WildReplyLaws.{line_bad, line_unread}
+use Rattle.mg_session.proofs.wild_searcher.refuse_pattern.Goals as goal
+
+pub returns-in-Ok-clause-replied : goal.returns-in-Ok-clause-replied
+returns-in-Ok-clause-replied g c = λ line said collection.
+    line_bad collection line c.in-Bad.at _ _ _ (rw c.in-Bad.is at said) c.in-Ok.ensures.content tt
+
+pub returns-in-Err-clause-replied : goal.returns-in-Err-clause-replied
+returns-in-Err-clause-replied g c = λ line said collection.
+    line_bad collection line c.in-Bad.at _ _ _ (rw c.in-Bad.is at said) c.in-Err.ensures.content (put_sound c.in-Err.refusal _ c.from.ensures)
+
+pub returns-in-Memory-clause-replied : goal.returns-in-Memory-clause-replied
+returns-in-Memory-clause-replied g c = λ line said collection. line_unread collection line _ _ tt
