@@ -6,3 +6,5 @@ pub use Rattle.mg_post.proofs.ListHeads.{has_at, later, none_at}
 pub use Rattle.mg_post.proofs.TermLaws.{cursor_later}
 -- the pages that may be read for some documents are within those of the list
 pub use Rattle.mg_post.proofs.WholeListLaws.{pages_in_list}
+-- the pages of the first blocks of a list are within those of the list
+pub use Rattle.mg_post.proofs.ListReadingLaws.{pages_read}

@@ -24,7 +24,7 @@ pub record Suffix (whole left : List Posting) : Type 0 where
   pub passed : List Posting
   pub is : passed ++ left ≡ whole
 
-order : (a b : ℕ) → (a < b) ⊎ (b ≤ a)
+pub order : (a b : ℕ) → (a < b) ⊎ (b ≤ a)
 order a b = grind arith
 
 forward_suffix : (doc : ℕ) (ps : List Posting) → Suffix ps (forward_to doc ps)
@@ -35,7 +35,7 @@ forward_suffix doc (p ∷ ps) =
       | inr above ↦ record { passed = []; is = forward_here doc p ps above }
     ]
 
-from_suffix : (all d doc : ℕ) (ps : List Posting) → Rises all d ps → Suffix ps (from_doc doc ps)
+pub from_suffix : (all d doc : ℕ) (ps : List Posting) → Rises all d ps → Suffix ps (from_doc doc ps)
 from_suffix all d doc ps h = subst (Suffix ps) (forward_from all d doc ps h) (forward_suffix doc ps)
 
 inside_some : (all d doc : ℕ) (a : List Posting) → Rises all d a → 0 < length a → doc ≤ last_doc d a → 0 < length (from_doc doc a)
@@ -47,7 +47,7 @@ inside_some all d doc (p ∷ a) h some le =
       | inr above ↦ rw (from_here doc p a above) (omega arith)
     ]
 
-head_front : (a b : List Posting) → 0 < length a → head_of (a ++ b) ≡ head_of a
+pub head_front : (a b : List Posting) → 0 < length a → head_of (a ++ b) ≡ head_of a
 head_front [] b some = absurd (omega arith)
 head_front (p ∷ a) b some = refl
 
@@ -203,7 +203,7 @@ starts ps = record {
 
 -- ---- the next posting
 
-after_current : (all d : ℕ) (p : Posting) (rest : List Posting) → Rises all d (p ∷ rest) → (p.doc ≤ all) × (from_doc (p.doc + 1) (p ∷ rest) ≡ rest)
+pub after_current : (all d : ℕ) (p : Posting) (rest : List Posting) → Rises all d (p ∷ rest) → (p.doc ≤ all) × (from_doc (p.doc + 1) (p ∷ rest) ≡ rest)
 unfolding Rises
 after_current all d p rest h = (h.0.within, from_next (p.doc + 1) p rest (omega arith) ∙ from_above all p.doc (p.doc + 1) rest h.1 (omega arith))
 
@@ -282,7 +282,7 @@ same_file p q d e calm = record {
 two_parts : Post ≡ Skip → ⊥
 two_parts e = cc
 
-part_is : (p q : Part) → Some p ≡ Some q → p ≡ q
+pub part_is : (p q : Part) → Some p ≡ Some q → p ≡ q
 part_is p q e = cc
 
 pub reads_two : (c v : Cursoring) (d0 d1 d2 : Seen) → c.post.part ≡ Post → c.skip.part ≡ Skip → Calm (feeding_of 4096 c.skip) (feeding_of 4096 v.skip) d0 d1 →

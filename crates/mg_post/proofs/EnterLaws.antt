@@ -3,6 +3,7 @@ use Rattle.std.proofs.Common.{arith, suc, zero, ◌≡◌, ◌+◌, ◌*◌, ◌
 use Rattle.std.proofs.lemmas.Grind.{common_steps}
 use Rattle.std.proofs.lemmas.List.{take-append-drop, drop-drop, length-drop}
 use Rattle.std.proofs.Math.Seq.{take-add}
+use Rattle.mg_dev.specs.declared.part.Part.{Part}
 use Rattle.mg_defs.specs.Bits.{Shows}
 use Rattle.mg_defs.specs.declared.Posting.{Posting}
 use Rattle.mg_defs.specs.Lists.{bits_after, last_doc, Rises, doc_before, bits_before, block_of, block_pages}
@@ -105,8 +106,15 @@ count_most f0 f1 d0 d1 from to is within =
     let some : f1.count ≤ f0.count + to_read 4096 f0.held from to = subst (λ n. f1.count ≤ f0.count + to_read n f0.held from to) is within.feed in
     omega (arith, some, to_read_most f0.held from to)
 
+-- the device's count of a feed's own part
+pub device_most : (f0 f1 : Feeding) (d0 d1 : Seen) (part : Part) (from to : ℕ) → f0.page ≡ 4096 → f0.part ≡ Some part → ReadsWithin f0 f1 d0 d1 from to →
+    d1.reads part ≤ d0.reads part + pages from to
+device_most f0 f1 d0 d1 part from to is own within =
+    let some : d1.reads part ≤ d0.reads part + to_read 4096 f0.held from to = subst (λ n. d1.reads part ≤ d0.reads part + to_read n f0.held from to) is (within.device part own) in
+    omega (arith, some, to_read_most f0.held from to)
+
 -- the pages of a block, by the place where it was read from and to
-pages_is : (b post_at place end k before : ℕ) (ps filled : List Posting) → filled ≡ block_of k ps → before ≡ doc_before (64 * k) ps →
+pub pages_is : (b post_at place end k before : ℕ) (ps filled : List Posting) → filled ≡ block_of k ps → before ≡ doc_before (64 * k) ps →
     place ≡ post_at + bits_before b (64 * k) ps → end ≡ place + length (bits_after b before filled) →
     pages place end ≡ block_pages b post_at k ps
 unfolding block_pages
@@ -126,6 +134,21 @@ entered b post_at place end block doc before counted ps filled held p is forward
 }
 
 -- a block that was refused was read on its pages alone
+pub block_within : (told : Option (List ℕ)) (f0 f1 : Feeding) (d0 d1 : Seen) (post_at all b place before count docs k : ℕ) (ps : List Posting) →
+    count ≡ min (docs - 64 * k) 64 → docs ≡ length ps →
+    before ≡ doc_before (64 * k) ps → place ≡ post_at + bits_before b (64 * k) ps → Rises all 0 ps → Shows told post_at (bits_after b 0 ps) → post_at + length (bits_after b 0 ps) ≤ 2 ^ 63 →
+    ((qs : List Posting) → Rises all before qs → count ≤ length qs → place + length (bits_after b before qs) ≤ 2 ^ 63 →
+    Shows told place (bits_after b before qs) → ReadsWithin f0 f1 d0 d1 place (place + length (bits_after b before (take count qs)))) →
+    (to : ℕ) × ReadsWithin f0 f1 d0 d1 place to × (pages place to ≡ block_pages b post_at k ps)
+block_within told f0 f1 d0 d1 post_at all b place before count docs k ps counted whole from at rises shows small answers =
+    let within : ReadsWithin f0 f1 d0 d1 place (place + length (bits_after b before (take count (drop (64 * k) ps)))) =
+    answers (drop (64 * k) ps) (rw from (rest_rises all (64 * k) ps rises)) (omega (arith, length-drop (64 * k) ps))
+    (rw from (omega (arith, parted_length b (64 * k) ps))) (rw from (rest_shown told post_at place b (64 * k) ps at shows)) in (
+      place + length (bits_after b before (take count (drop (64 * k) ps))),
+      within,
+      pages_is b post_at place (place + length (bits_after b before (take count (drop (64 * k) ps)))) k before ps (take count (drop (64 * k) ps)) (block_is count docs k ps counted whole) from at refl,
+    )
+
 pub refused_pages : (told : Option (List ℕ)) (f0 f1 : Feeding) (d0 d1 : Seen) (post_at all b place before count docs k : ℕ) (ps : List Posting) →
     f0.page ≡ 4096 → count ≡ min (docs - 64 * k) 64 → docs ≡ length ps →
     before ≡ doc_before (64 * k) ps → place ≡ post_at + bits_before b (64 * k) ps → Rises all 0 ps → Shows told post_at (bits_after b 0 ps) → post_at + length (bits_after b 0 ps) ≤ 2 ^ 63 →
@@ -133,16 +156,8 @@ pub refused_pages : (told : Option (List ℕ)) (f0 f1 : Feeding) (d0 d1 : Seen) 
     Shows told place (bits_after b before qs) → ReadsWithin f0 f1 d0 d1 place (place + length (bits_after b before (take count qs)))) →
     f1.count ≤ f0.count + block_pages b post_at k ps
 refused_pages told f0 f1 d0 d1 post_at all b place before count docs k ps page counted whole from at rises shows small answers =
-    let within : ReadsWithin f0 f1 d0 d1 place (place + length (bits_after b before (take count (drop (64 * k) ps)))) =
-    answers (drop (64 * k) ps) (rw from (rest_rises all (64 * k) ps rises)) (omega (arith, length-drop (64 * k) ps))
-    (rw from (omega (arith, parted_length b (64 * k) ps))) (rw from (rest_shown told post_at place b (64 * k) ps at shows)) in
-    let most : f1.count ≤ f0.count + pages place (place + length (bits_after b before (take count (drop (64 * k) ps)))) = count_most f0 f1 d0 d1 place _ page within in
-    omega (
-      arith,
-      most,
-      pages_is b post_at place (place + length (bits_after b before (take count (drop (64 * k) ps)))) k before ps
-          (take count (drop (64 * k) ps)) (block_is count docs k ps counted whole) from at refl,
-    )
+    let w = block_within told f0 f1 d0 d1 post_at all b place before count docs k ps counted whole from at rises shows small answers in
+    omega (arith, count_most f0 f1 d0 d1 place w.0 page w.1, w.2)
 
 -- ---- one block alone
 

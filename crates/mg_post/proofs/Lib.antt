@@ -13,5 +13,6 @@ mod StepLaws
 mod LifeLaws
 mod TermLaws
 mod WholeListLaws
+mod ListReadingLaws
 pub mod CallerLemmas
 pub mod ListHeads

@@ -273,11 +273,11 @@ post_cause refusal err.Memory c files doc is missing = tt
 post_cause Device (err.Bad bad) c files doc is missing = absurd cc
 post_cause (Damaged at) (err.Bad bad) c files doc is missing = λ post. subst (BlockIsMissing c files doc) (sym is.at_is) (missing at refl)
 
-pub entry_cause : (refusal : Refusal) (e : PartErr) (fact : ℕ → Type 0) → IsRefused refusal Skip e → OnDamage refusal fact → IfNames Skip e fact
-entry_cause refusal err.Device fact is lacks = tt
-entry_cause refusal err.Memory fact is lacks = tt
-entry_cause Device (err.Bad bad) fact is lacks = absurd cc
-entry_cause (Damaged at) (err.Bad bad) fact is lacks = λ skip. subst fact (sym is.at_is) lacks
+pub own_cause : (refusal : Refusal) (own : Part) (e : PartErr) (fact : ℕ → Type 0) → IsRefused refusal own e → OnDamage refusal fact → IfNames own e fact
+own_cause refusal own err.Device fact is lacks = tt
+own_cause refusal own err.Memory fact is lacks = tt
+own_cause Device own (err.Bad bad) fact is lacks = absurd cc
+own_cause (Damaged at) own (err.Bad bad) fact is lacks = λ named. subst fact (sym is.at_is) lacks
 
 pub no_entry_cause : (refusal : Refusal) (e : PartErr) (fact : ℕ → Type 0) → IsRefused refusal Post e → IfNames Skip e fact
 no_entry_cause refusal err.Device fact is = tt

@@ -31,17 +31,17 @@ use Rattle.mg_post.specs.declared.refusal.Refusal.{Refusal}
 use Rattle.mg_post.specs.declared.refusal.Refusal.TheVariants.{Device, Damaged}
 use Rattle.mg_post.proofs.CursorLaws.{at_end, in_block, next_beyond, next_low, next_within, on_block, raised_by, raised_most, reads_two, refused_answer, same_file, walks_of}
 use Rattle.mg_post.proofs.FindLaws.{any_cause, reads_within}
-use Rattle.mg_post.proofs.SoundLaws.{entry_cause, goes_next, in_held, names_none, names_own, names_post, names_skip, next_few, next_held, next_inside, next_is, next_sound, no_entry_cause, post_cause, skip_cause}
+use Rattle.mg_post.proofs.SoundLaws.{goes_next, in_held, names_none, names_own, names_post, names_skip, next_few, next_held, next_inside, next_is, next_sound, no_entry_cause, own_cause, post_cause, skip_cause}
 
 -- ---- refusals
 
-not_memory : (refusal : Refusal) (own : Part) (e : PartErr) → IsRefused refusal own e → e ≡ err.Memory → ⊥
+pub not_memory : (refusal : Refusal) (own : Part) (e : PartErr) → IsRefused refusal own e → e ≡ err.Memory → ⊥
 not_memory Device own e is same = cc
 not_memory (Damaged at) own err.Device is same = is
 not_memory (Damaged at) own err.Memory is same = is
 not_memory (Damaged at) own (err.Bad bad) is same = cc
 
-part_cause : (T V : Type 0) (refusal : Refusal) (own : Part) (e : PartErr) (before now : ℕ) → IsRefused refusal own e → RefusalCause {T = T} (Err refusal) before now →
+pub part_cause : (T V : Type 0) (refusal : Refusal) (own : Part) (e : PartErr) (before now : ℕ) → IsRefused refusal own e → RefusalCause {T = T} (Err refusal) before now →
     IsCaused {T = V} before now (Err e)
 part_cause T V Device own e before now is rose = subst (λ x. IsCaused {T = V} before now (Err x)) (sym is) rose
 part_cause T V (Damaged at) own err.Device before now is rose = absurd is
@@ -249,7 +249,7 @@ module _ {Dev : Type 0} {device : Dev → Seen} {c : Cursoring} {d0 d1 : Dev} {d
         names_none refusal Skip Post e _ is
         (s.does.told ps c.parameter (at_blocks c (device d0).files blocks ps k.count stands.entries) (walks_of c.ended ps c.reached c.last c.held left k.on at.on).last_is);
     block = skip_cause refusal e c (device d0).files doc is;
-    entry = entry_cause refusal e _ is (subst (λ n. OnDamage refusal (LacksAnEntry (told_at (device d0).files c.skip.name) c.skip_at c.all c.last c.reached n)) k.count s.does.lacks);
+    entry = own_cause refusal Skip e _ is (subst (λ n. OnDamage refusal (LacksAnEntry (told_at (device d0).files c.skip.name) c.skip_at c.all c.last c.reached n)) k.count s.does.lacks);
     kept = record { reached = refl; last = refl; held = refl; ended = refl };
     files = s.calm.files;
     memory = λ same. not_memory refusal Skip e is cc;

@@ -12,4 +12,5 @@ pub mod CursorSteps
 pub mod Laws
 pub mod TermLists
 pub mod WholeLists
+pub mod ListReading
 pub mod Writing

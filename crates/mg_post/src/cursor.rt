@@ -103,7 +103,7 @@ fn count_blocks(docs: u32) -> u32
 }
 
 /// The parameter of a list of so many postings; any for a list of none.
-fn parameter_for(all: u32, docs: u32) -> u64
+pub fn parameter_for(all: u32, docs: u32) -> u64
     ensures value { 1 ≤ docs → result ≡ golomb_parameter all docs }
     ensures some { 1 ≤ result }
     ensures small { result < 2 ^ 48 }

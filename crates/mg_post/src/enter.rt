@@ -50,7 +50,7 @@ fn place_of(byte: u64, bits: u64) -> Option<u64>
 }
 
 /// The place of so many bits behind a byte, or 2^64 - 1 where it is more.
-fn place_or_most(byte: u64, bits: u64) -> u64
+pub fn place_or_most(byte: u64, bits: u64) -> u64
     ensures { result ≡ min (8 * byte + bits) (2 ^ 64 - 1) }
 {
     byte.saturating_mul(8).saturating_add(bits)

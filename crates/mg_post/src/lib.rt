@@ -15,6 +15,7 @@ mod cursor;
 mod enter;
 mod find;
 mod laws;
+mod list_reader;
 mod put;
 mod read;
 mod refusal;
@@ -26,5 +27,6 @@ pub use laws::{
     cursor_still_fits, documents_are_among, infos_fit, list_of_a_term_stands, list_still_stands,
     lists_stand, lists_stay, post_is_short,
 };
+pub use list_reader::ListReader;
 pub use mg_defs::Posting;
 pub use writer::ListWriter;
