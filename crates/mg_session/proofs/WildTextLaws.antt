@@ -28,7 +28,6 @@ use Rattle.mg_defs.proofs.SortedLaws.{same-refl}
 use Rattle.mg_laws.proofs.MatchLists.{match_lists}
 use Rattle.mg_layout.specs.Infos.{IsInfoOf}
 use Rattle.mg_layout.specs.declared.term_info.TermInfo.{TermInfo}
-use Rattle.mg_post.specs.TermLists.{ReadsLists}
 use Rattle.mg_reply.specs.Pending.{AfterPass, Passed}
 use Rattle.mg_reply.proofs.CallerLemmas.{pass_nothing, pass_both, pass_cut, pass_more, pass_part, pass_put, pass_refused}
 use Rattle.mg_text.specs.Reading.{ShowIsNotBad}
@@ -36,7 +35,7 @@ use Rattle.mg_wild.specs.Loading.{HasTermsOf, TellsOf}
 use Rattle.mg_wild.specs.Terms.{LexTerms}
 use Rattle.mg_session.specs.DocumentSets.{DocumentMarks, IsNextBehind, has_doc, marked_to}
 use Rattle.mg_session.specs.WildAnswers.{NeverReadByPatterns, ReadsNoOther, WildAnswered, WildSources}
-use Rattle.mg_session.specs.WildMarks.{AddsLists, term_rows, terms_at}
+use Rattle.mg_session.specs.WildMarks.{AddsLists, ReadsPost, term_rows, terms_at}
 use Rattle.mg_session.proofs.MarkLaws.{marked_end, marked_hit, marked_miss, marked_next, marked_none}
 
 -- ---- the numbers of the terms that match
@@ -416,35 +415,19 @@ unread_post part.Places never = λ e. absurd cc
 unread_post part.Lex never = absurd never
 unread_post part.LexAt never = λ e. absurd cc
 unread_post part.Post never = absurd never
-unread_post part.Skip never = absurd never
+unread_post part.Skip never = λ e. absurd cc
 unread_post part.Weights never = λ e. absurd cc
 unread_post part.Run never = λ e. absurd cc
 unread_post part.MergeA never = λ e. absurd cc
 unread_post part.MergeB never = λ e. absurd cc
 unread_post part.Plain never = λ e. absurd cc
 
-unread_skip : (p : Part) → NeverReadByPatterns p → p ≢ part.Skip
-unread_skip part.Head never = absurd never
-unread_skip part.Words never = λ e. absurd cc
-unread_skip part.Nonwords never = λ e. absurd cc
-unread_skip part.Text never = λ e. absurd cc
-unread_skip part.Places never = λ e. absurd cc
-unread_skip part.Lex never = absurd never
-unread_skip part.LexAt never = λ e. absurd cc
-unread_skip part.Post never = absurd never
-unread_skip part.Skip never = absurd never
-unread_skip part.Weights never = λ e. absurd cc
-unread_skip part.Run never = λ e. absurd cc
-unread_skip part.MergeA never = λ e. absurd cc
-unread_skip part.MergeB never = λ e. absurd cc
-unread_skip part.Plain never = λ e. absurd cc
-
 pub nothing_read : (f : Option Files) (r : Reads) (n : ℕ) → ReadsNoOther f f r r n n
 nothing_read f r n = record { files = refl; faults = omega arith; unread = λ p never. refl }
 
-pub lists_read : (f g : Option Files) (r s : Reads) (m n : ℕ) → g ≡ f → m ≤ n → ReadsLists r s → ReadsNoOther f g r s m n
+pub lists_read : (f g : Option Files) (r s : Reads) (m n : ℕ) → g ≡ f → m ≤ n → ReadsPost r s → ReadsNoOther f g r s m n
 lists_read f g r s m n files later reads = record {
   files = files;
   faults = later;
-  unread = λ p never. reads.others p (unread_post p never) (unread_skip p never);
+  unread = λ p never. reads.others p (unread_post p never);
 }

@@ -19,12 +19,11 @@ use Rattle.mg_text.specs.Reading.{ShowIsNotBad}
 use Rattle.mg_wild.specs.Loading.{HasTermsOf, TellsOf}
 use Rattle.mg_wild.specs.Terms.{LexTerms}
 
--- a session of patterns reads the head, the lexicon and the lists alone
+-- a session of patterns reads the head, the lexicon and the lists alone, and no skip entry
 abbrev pub NeverReadByPatterns : Part → Type 0
 NeverReadByPatterns part.Head = ⊥
 NeverReadByPatterns part.Lex = ⊥
 NeverReadByPatterns part.Post = ⊥
-NeverReadByPatterns part.Skip = ⊥
 NeverReadByPatterns _ = Unit {0}
 
 -- the pages of Post that a pattern may read: those of the lists of the terms that match it

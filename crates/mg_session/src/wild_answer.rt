@@ -6,9 +6,9 @@ ghost use Rattle.mg_dev.specs.Moments.{Between};
 ghost use Rattle.mg_dev.specs.PartCauses.{HasPartCause};
 ghost use Rattle.mg_defs.specs.PageBounds.{list_pages, ranked_bound};
 ghost use Rattle.mg_defs.specs.WildSession.{numbers_text, term_row};
-ghost use Rattle.mg_post.specs.Cursor.{CursorFits};
-ghost use Rattle.mg_post.specs.TermLists.{ReadsLists};
-ghost use Rattle.mg_rank.specs.Ranked.{ForList, ForTerm, PostWithin};
+ghost use Rattle.mg_bits.specs.Pages.{Fits};
+ghost use Rattle.mg_post.specs.ListReading.{ForReader, SameSource, current_doc};
+ghost use Rattle.mg_rank.specs.Ranked.{ForTerm, PostWithin};
 ghost use Rattle.mg_reply.specs.Printed.{Passes, Puts};
 ghost use Rattle.mg_text.specs.Reading.{ShowIsNotBad};
 ghost use Rattle.mg_wild.specs.Patterns.{sides_of};
@@ -16,39 +16,41 @@ ghost use Rattle.mg_session.specs.Answering.{HasShowCause, HasShowLack};
 ghost use Rattle.mg_session.specs.DocumentSets.{marked_to};
 ghost use Rattle.mg_session.specs.Replying.{AnswersPattern};
 ghost use Rattle.mg_session.specs.WildAnswers.{ForLexTerms, ReadsNoOther, WildSources, pattern_pages};
-ghost use Rattle.mg_session.specs.WildMarks.{MarksLists, MarksTerms, rows_at, terms_at};
+ghost use Rattle.mg_session.specs.WildMarks.{MarksLists, MarksTerms, ReadsBase, ReadsPost, rows_at, terms_at};
 
 use crate::document_set::DocumentSet;
 use crate::lists::Lists;
 use mg_dev::{PartErr, PutErr, ShowErr, Sink, Store};
 use mg_layout::TermInfo;
-use mg_post::{Cursor, cursor_pages_are_within};
+use mg_post::ListReader;
 use mg_reply::Pending;
 use mg_wild::{Pattern, Rotated};
 
-/// Marks the documents of the list that a cursor stands before.
+/// Marks the documents of the list that a reader stands before.
 fn mark_postings<S: Store>(
-    cursor: &mut Cursor<'_, S>,
+    reader: &mut ListReader<'_, S>,
     store: &mut S,
     all: u32,
     marked: &mut DocumentSet,
 ) -> Result<(), PartErr>
-    requires all { cursor.old.all ≡ all }
+    requires all { reader.old.all ≡ all }
+    requires first { current_doc reader.old ≡ 0 }
     requires room { marked.old.all ≡ all }
-    requires fits { CursorFits cursor.old (S.files store.old) }
+    requires fits { Fits reader.old.post (S.files store.old) }
+    ensures fits { Fits reader.new.post (S.files store.new) }
+    ensures same { SameSource reader.old reader.new }
     ensures room { marked.new.all ≡ all }
-    ensures answer { ForList (S.files store.old) 0 cursor.old
+    ensures answer { ForReader (S.files store.old) 0 reader.old
         (λ base collection t. MarksLists (t ∷ []) marked.old marked.new result collection) }
-    ensures pages { ForList (S.files store.old) 0 cursor.old
+    ensures pages { ForReader (S.files store.old) 0 reader.old
         (λ base collection t. PostWithin S.reads store.old store.new (list_pages collection t)) }
-    ensures reads { ReadsLists (S.reads store.old) (S.reads store.new) }
+    ensures reads { ReadsPost (S.reads store.old) (S.reads store.new) }
     ensures files { S.files store.new ≡ S.files store.old }
     ensures cause { HasPartCause (S.faults store.old) (S.faults store.new) result }
 {
-    cursor_pages_are_within();
     let mut last = 0;
     while last < all {
-        let posting = match cursor.next_behind(store, last) {
+        let posting = match reader.next(store) {
             Ok(Some(posting)) => posting,
             Ok(None) => return Ok(()),
             Err(refusal) => return Err(refusal),
@@ -62,28 +64,67 @@ fn mark_postings<S: Store>(
 /// Marks the documents of a term's list.
 fn mark_list<S: Store>(
     lists: &Lists<'_>,
+    reader: &mut ListReader<'_, S>,
     store: &mut S,
     info: &TermInfo,
     marked: &mut DocumentSet,
 ) -> Result<(), PartErr>
+    requires over { ReadsBase lists.now.base.now lists.now.all reader.old }
     requires room { marked.old.all ≡ lists.now.all }
+    requires fits { Fits reader.old.post (S.files store.old) }
+    ensures over { ReadsBase lists.now.base.now lists.now.all reader.new }
+    ensures fits { Fits reader.new.post (S.files store.new) }
     ensures room { marked.new.all ≡ lists.now.all }
     ensures answer { ForTerm lists.now.base.now (S.files store.old) info.now lists.now.all
         (λ collection t. MarksLists (t ∷ []) marked.old marked.new result collection) }
     ensures pages { ForTerm lists.now.base.now (S.files store.old) info.now lists.now.all
         (λ collection t. PostWithin S.reads store.old store.new (list_pages collection t)) }
-    ensures reads { ReadsLists (S.reads store.old) (S.reads store.new) }
+    ensures reads { ReadsPost (S.reads store.old) (S.reads store.new) }
     ensures files { S.files store.new ≡ S.files store.old }
     ensures cause { HasPartCause (S.faults store.old) (S.faults store.new) result }
 {
-    let mut cursor = match Cursor::start(lists.alloc, lists.base, info, lists.all) {
-        Ok(cursor) => cursor,
-        Err(_lack) => return Err(PartErr::Memory),
-    };
-    mark_postings(&mut cursor, store, lists.all, marked)
+    reader.open(info);
+    mark_postings(reader, store, lists.all, marked)
 }
 
-/// Marks the documents that have one of the terms with these numbers.
+/// Marks the documents that have one of the terms with these numbers. One reader goes over all their
+/// lists, so that lists on one page are read at once.
+fn mark_lists<S: Store>(
+    lists: &Lists<'_>,
+    reader: &mut ListReader<'_, S>,
+    store: &mut S,
+    terms: &Rotated,
+    numbers: &[u32],
+    marked: &mut DocumentSet,
+) -> Result<(), PartErr>
+    requires over { ReadsBase lists.now.base.now lists.now.all reader.old }
+    requires fits { Fits reader.old.post (S.files store.old) }
+    requires each { length terms.now.infos ≡ length terms.now.terms }
+    requires terms { All (λ n. n < length terms.now.terms) numbers.now }
+    requires room { marked.old.all ≡ lists.now.all }
+    ensures room { marked.new.all ≡ lists.now.all }
+    ensures answer { ForEach
+        (WildSources lists.now.base.now (S.files store.old) terms.now lists.now.all)
+        (MarksTerms numbers.now marked.old marked.new result) }
+    ensures pages { ForEach
+        (WildSources lists.now.base.now (S.files store.old) terms.now lists.now.all)
+        (λ collection. PostWithin S.reads store.old store.new
+        (ranked_bound collection (terms_at collection numbers.now))) }
+    ensures reads { ReadsPost (S.reads store.old) (S.reads store.new) }
+    ensures files { S.files store.new ≡ S.files store.old }
+    ensures cause { HasPartCause (S.faults store.old) (S.faults store.new) result }
+{
+    for number in numbers {
+        let info = terms.info(*number);
+        match mark_list(lists, reader, store, &info, marked) {
+            Ok(()) => {}
+            Err(refusal) => return Err(refusal),
+        }
+    }
+    Ok(())
+}
+
+/// The same with a reader of its own.
 fn mark_all<S: Store>(
     lists: &Lists<'_>,
     store: &mut S,
@@ -102,18 +143,14 @@ fn mark_all<S: Store>(
         (WildSources lists.now.base.now (S.files store.old) terms.now lists.now.all)
         (λ collection. PostWithin S.reads store.old store.new
         (ranked_bound collection (terms_at collection numbers.now))) }
-    ensures reads { ReadsLists (S.reads store.old) (S.reads store.new) }
+    ensures reads { ReadsPost (S.reads store.old) (S.reads store.new) }
     ensures files { S.files store.new ≡ S.files store.old }
     ensures cause { HasPartCause (S.faults store.old) (S.faults store.new) result }
 {
-    for number in numbers {
-        let info = terms.info(*number);
-        match mark_list(lists, store, &info, marked) {
-            Ok(()) => {}
-            Err(refusal) => return Err(refusal),
-        }
+    match ListReader::start(lists.alloc, lists.base, lists.all) {
+        Ok(mut reader) => mark_lists(lists, &mut reader, store, terms, numbers, marked),
+        Err(_lack) => Err(PartErr::Memory),
     }
-    Ok(())
 }
 
 /// Passes on a term that matches, and how many documents have it.

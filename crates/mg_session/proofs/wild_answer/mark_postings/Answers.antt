@@ -1,8 +1,6 @@
 use Rattle.std.proofs.Common.{arith, ◌≤◌, ◌<◌, ◌+◌, sym, ◌∙◌, subst, refl}
-use Rattle.mg_defs.specs.Lists.{postings}
-use Rattle.mg_defs.specs.PageBounds.{numbers_in}
 use Rattle.mg_post.specs.TermLists.{ListsStand}
-use Rattle.mg_post.proofs.CallerLemmas.{cursor_later, none_at, pages_in_list}
+use Rattle.mg_post.proofs.CallerLemmas.{none_at, pages_read}
 use Rattle.mg_session.proofs.WildListLaws.{marking_end, marking_next, marking_start, or_list}
 use Rattle.mg_session.proofs.wild_answer.mark_postings.Goals as goal
 
@@ -12,8 +10,10 @@ loop-last-init g c = record {
   room = c.requires.room;
   fits = c.requires.fits;
   all = c.requires.all;
+  same = record { post = refl; all = refl };
+  current = c.requires.first;
   files = refl;
-  reads = record { later = λ p. omega arith; others = λ p a b. refl };
+  reads = record { later = λ p. omega arith; others = λ p a. refl };
   faults = omega arith;
   walk = λ base collection t stand list. marking_start collection t c.args.marked.now;
   list = λ base collection t stand list. list;
@@ -24,7 +24,7 @@ pub returns-in-Ok-None-clause-answer : goal.returns-in-Ok-None-clause-answer
 returns-in-Ok-None-clause-answer g c = λ base collection t stand list.
     let stand2 = subst (λ fs. ListsStand base fs collection) (sym c.loop-last.invariant.files) stand in
     let f = c.loop-last.invariant.list base collection t stand list in
-    let a = (rw c.in-Ok-None.field-0-is at c.in-Ok-None.ensures.answer) base collection t stand2 f in
+    let a = (rw c.in-Ok-None.field-0-is at c.in-Ok-None.ensures.answer) c.loop-last.last base collection t stand2 f in
     marking_end collection t c.loop-last.last c.args.marked.now c.loop-last.marked (c.loop-last.invariant.walk base collection t stand list)
     (λ d low le. none_at collection t c.loop-last.last d (sym a.found_is) low le)
 
@@ -32,38 +32,42 @@ pub returns-in-Err-clause-answer : goal.returns-in-Err-clause-answer
 returns-in-Err-clause-answer g c = λ base collection t stand list.
     let stand2 = subst (λ fs. ListsStand base fs collection) (sym c.loop-last.invariant.files) stand in
     let f = c.loop-last.invariant.list base collection t stand list in
-    or_list c.in-Err.refusal _ _ (c.in-Err.ensures.answer base collection t stand2 f)
+    or_list c.in-Err.refusal _ _ (c.in-Err.ensures.answer c.loop-last.last base collection t stand2 f)
 
 pub loop-last-preserved : goal.loop-last-preserved
 loop-last-preserved g c =
+    let inv = c.loop-last.invariant in
     let from = (rw c.in-Ok-Some.field-0-is at c.in-Ok-Some.ensures.sound) in
-    let later : c.loop-last.last < c.in-Ok-Some.posting.doc = omega (arith, from.from) in
-    let within : c.in-Ok-Some.posting.doc ≤ c.args.all = omega (arith, from.within, c.loop-last.invariant.all) in record {
+    let later : c.loop-last.last < c.in-Ok-Some.posting.doc = omega (arith, from.from, inv.current) in
+    let within : c.in-Ok-Some.posting.doc ≤ c.args.all = omega (arith, from.within, inv.all) in record {
       most = within;
-      room = c.mark.ensures.room ∙ c.loop-last.invariant.room;
-      fits = c.in-Ok-Some.ensures.fits;
-      all = c.next_behind.ensures.same.all ∙ c.loop-last.invariant.all;
-      files = c.next_behind.ensures.files ∙ c.loop-last.invariant.files;
+      room = c.mark.ensures.room ∙ inv.room;
+      fits = c.next.ensures.fits;
+      all = c.next.ensures.same.all ∙ inv.all;
+      same = record { post = c.next.ensures.same.post ∙ inv.same.post; all = c.next.ensures.same.all ∙ inv.same.all };
+      current = (rw c.in-Ok-Some.field-0-is at c.in-Ok-Some.ensures.current);
+      files = c.next.ensures.files ∙ inv.files;
       reads = record {
-        later = λ p. omega (arith, c.loop-last.invariant.reads.later p, c.next_behind.ensures.reads.later p);
-        others = λ p a b. c.next_behind.ensures.reads.others p a b ∙ c.loop-last.invariant.reads.others p a b;
+        later = λ p. omega (arith, inv.reads.later p, c.next.ensures.later p);
+        others = λ p a. c.next.ensures.others p a ∙ inv.reads.others p a;
       };
-      faults = omega (arith, c.loop-last.invariant.faults, c.next_behind.ensures.cause.later);
+      faults = omega (arith, inv.faults, c.next.ensures.cause.later);
       walk = λ base collection t stand list.
-          let stand2 = subst (λ fs. ListsStand base fs collection) (sym c.loop-last.invariant.files) stand in
-          let f = c.loop-last.invariant.list base collection t stand list in
-          let a = (rw c.in-Ok-Some.field-0-is at c.in-Ok-Some.ensures.answer) base collection t stand2 f in
+          let stand2 = subst (λ fs. ListsStand base fs collection) (sym inv.files) stand in
+          let f = inv.list base collection t stand list in
+          let a = (rw c.in-Ok-Some.field-0-is at c.in-Ok-Some.ensures.answer) c.loop-last.last base collection t stand2 f in
           marking_next collection t c.loop-last.last c.args.marked.now c.loop-last.marked _ c.in-Ok-Some.posting
-          (c.loop-last.invariant.walk base collection t stand list) (sym a.found_is) later (omega (arith, within, c.requires.all, list.over.all_is)) c.mark.ensures.marked;
+          (inv.walk base collection t stand list) (sym a.found_is) later (omega (arith, within, c.requires.all, list.all)) c.mark.ensures.marked;
       list = λ base collection t stand list.
-          let stand2 = subst (λ fs. ListsStand base fs collection) (sym c.loop-last.invariant.files) stand in
-          let f = c.loop-last.invariant.list base collection t stand list in
-          let a = (rw c.in-Ok-Some.field-0-is at c.in-Ok-Some.ensures.answer) base collection t stand2 f in
-          cursor_later base collection (numbers_in (postings collection t)) t (c.loop-last.last + 1) c.in-Ok-Some.posting.doc _ from.from a.cursor;
+          let stand2 = subst (λ fs. ListsStand base fs collection) (sym inv.files) stand in
+          let f = inv.list base collection t stand list in
+          let a = (rw c.in-Ok-Some.field-0-is at c.in-Ok-Some.ensures.answer) c.loop-last.last base collection t stand2 f in
+          a.reader;
       post = λ base collection t stand list.
-          let stand2 = subst (λ fs. ListsStand base fs collection) (sym c.loop-last.invariant.files) stand in
-          let f = c.loop-last.invariant.list base collection t stand list in
-          omega (arith, c.loop-last.invariant.post base collection t stand list, c.next_behind.ensures.post base collection t stand2 f);
+          let stand2 = subst (λ fs. ListsStand base fs collection) (sym inv.files) stand in
+          let f = inv.list base collection t stand list in
+          let more = c.in-Ok-Some.ensures.post c.loop-last.last base collection t stand2 f in
+          omega (arith, inv.post base collection t stand list, more);
     }
 
 pub mark-requires-clause-some : goal.mark-requires-clause-some
@@ -75,36 +79,43 @@ mark-requires-clause-within g c = let from = (rw c.in-Ok-Some.field-0-is at c.in
 pub returns-clause-answer : goal.returns-clause-answer
 returns-clause-answer g c = λ base collection t stand list.
     marking_end collection t c.loop-last.last c.args.marked.now c.loop-last.marked (c.loop-last.invariant.walk base collection t stand list)
-    (λ d low le. absurd (omega (arith, c.loop-last-test.false, c.requires.all, list.over.all_is, low, le)))
+    (λ d low le. absurd (omega (arith, c.loop-last-test.false, c.requires.all, list.all, low, le)))
 
 pub returns-in-Ok-None-clause-pages : goal.returns-in-Ok-None-clause-pages
 returns-in-Ok-None-clause-pages g c = λ base collection t stand list.
     let stand2 = subst (λ fs. ListsStand base fs collection) (sym c.loop-last.invariant.files) stand in
     let f = c.loop-last.invariant.list base collection t stand list in
-    omega (
-      arith,
-      c.loop-last.invariant.post base collection t stand list,
-      c.next_behind.ensures.post base collection t stand2 f,
-      c.next_behind.ensures.within base collection t stand2 f,
-    )
+    omega (arith, c.loop-last.invariant.post base collection t stand list, c.next.ensures.most c.loop-last.last base collection t stand2 f)
 
 pub returns-in-Err-clause-pages : goal.returns-in-Err-clause-pages
 returns-in-Err-clause-pages g c = λ base collection t stand list.
     let stand2 = subst (λ fs. ListsStand base fs collection) (sym c.loop-last.invariant.files) stand in
     let f = c.loop-last.invariant.list base collection t stand list in
-    omega (
-      arith,
-      c.loop-last.invariant.post base collection t stand list,
-      c.next_behind.ensures.post base collection t stand2 f,
-      c.next_behind.ensures.within base collection t stand2 f,
-    )
+    omega (arith, c.loop-last.invariant.post base collection t stand list, c.next.ensures.most c.loop-last.last base collection t stand2 f)
 
 pub returns-clause-pages : goal.returns-clause-pages
 returns-clause-pages g c = λ base collection t stand list.
-    omega (
-      arith,
-      c.loop-last.invariant.post base collection t stand list,
-      c.cursor_pages_are_within.ensures base collection (numbers_in (postings collection t)) t c.loop-last.last _
-          (c.loop-last.invariant.list base collection t stand list),
-      pages_in_list collection (numbers_in (postings collection t)) t,
-    )
+    let f = c.loop-last.invariant.list base collection t stand list in
+    omega (arith, c.loop-last.invariant.post base collection t stand list, pages_read collection t c.loop-last.reader.reached f.reached)
+
+pub returns-in-Ok-None-clause-same : goal.returns-in-Ok-None-clause-same
+returns-in-Ok-None-clause-same g c =
+    let before = c.loop-last.invariant.same in
+    let step = c.next.ensures.same in
+    record { post = step.post ∙ before.post; all = step.all ∙ before.all }
+
+pub returns-in-Err-clause-same : goal.returns-in-Err-clause-same
+returns-in-Err-clause-same g c =
+    let before = c.loop-last.invariant.same in
+    let step = c.next.ensures.same in
+    record { post = step.post ∙ before.post; all = step.all ∙ before.all }
+
+pub returns-in-Ok-None-clause-reads : goal.returns-in-Ok-None-clause-reads
+returns-in-Ok-None-clause-reads g c =
+    let before = c.loop-last.invariant.reads in
+    record { later = λ p. omega (arith, before.later p, c.next.ensures.later p); others = λ p a. c.next.ensures.others p a ∙ before.others p a }
+
+pub returns-in-Err-clause-reads : goal.returns-in-Err-clause-reads
+returns-in-Err-clause-reads g c =
+    let before = c.loop-last.invariant.reads in
+    record { later = λ p. omega (arith, before.later p, c.next.ensures.later p); others = λ p a. c.next.ensures.others p a ∙ before.others p a }
