@@ -6,7 +6,7 @@ ghost use Rattle.mg_post.specs.Cursor.{CursorFits};
 use mg_dev::{Part, PartErr, Store};
 use mg_layout::TermInfo;
 use mg_mem::SureStore;
-use mg_post::{Cursor, Posting};
+use mg_post::{Cursor, ListReader, Posting};
 use std::alloc::{AllocError, Global};
 use std::test::Fail;
 
@@ -122,5 +122,45 @@ fn skips_each(alloc: Global) -> Result<(bool, [u64; 4]), PartErr> {
 fn a_long_list_is_skipped(rt: HostRuntime) -> Result<(), Fail> {
     // A block in the middle costs one page of Post. Entry 2,343 is the one; a page has 256.
     assert!(rt; skips_each(rt.alloc())? == (true, [1, 10, 1, 23]));
+    Ok(())
+}
+
+// What the lexicon tells of a term that stands once in each of two documents.
+static FIRST: TermInfo = TermInfo {
+    number: 0,
+    docs: 2,
+    post_at: 0,
+    skip_at: 0,
+};
+
+// And of a second one, whose list stands behind.
+static SECOND: TermInfo = TermInfo {
+    number: 1,
+    docs: 2,
+    post_at: 1,
+    skip_at: 1,
+};
+
+// What a reader tells of both lists, and how many pages of Post and of Skip it read.
+fn reads_both(alloc: Global) -> Result<([Option<Posting>; 4], [u64; 2]), PartErr> {
+    let post = vec![in alloc; 0u8; 2]?;
+    let mut store = SureStore::new(alloc);
+    store.put_file("set.post", &post)?;
+    let mut reader = ListReader::start(alloc, "set", 2)?;
+    reader.open(&FIRST);
+    let first = reader.next(&mut store)?;
+    let last = reader.next(&mut store)?;
+    let none = reader.next(&mut store)?;
+    reader.open(&SECOND);
+    let again = reader.next(&mut store)?;
+    let reads = [store.reads_of(Part::Post), store.reads_of(Part::Skip)];
+    Ok(([first, last, none, again], reads))
+}
+
+#[test]
+fn lists_on_one_page_are_read_at_once(rt: HostRuntime) -> Result<(), Fail> {
+    let one = Some(Posting { doc: 1, freq: 1 });
+    let two = Some(Posting { doc: 2, freq: 1 });
+    assert!(rt; reads_both(rt.alloc())? == ([one, two, None, one], [1, 0]));
     Ok(())
 }
