@@ -10,34 +10,12 @@ import tempfile
 ROOT = pathlib.Path(__file__).resolve().parent.parent
 sys.path.append(str(ROOT / "tools"))
 
-from refusals import refused_at
+from edits import place_of, read_edit
+from refusals import not_judged, refused_at
 from wrong_bodies_page import GATE, LEFT_OUT, crates_of, edits_of, faults, named_edits
 
 # The crates that are dearest to prove, of which the gate tries no edit.
 DEAREST = ("mg_session", "mg_check", "mg_check_text", "mg_make", "mg_merge", "mg_runs", "mg_post", "mg_args", "mg_top")
-
-
-def not_applied(edit):
-    """Why an edit cannot be applied, None where it can: each old text stands once in its file, after the pairs before it."""
-    crate, texts, path, pairs = edit.parent.parent, {}, None, 0
-    lines = edit.read_text().splitlines()
-    for line, behind in zip(lines, [*lines[1:], ""]):
-        kind, _, text = line.partition(": ")
-        if kind == "file":
-            path = crate / text
-            if not path.is_file():
-                return f"there is no file {text}"
-            texts.setdefault(path, path.read_text())
-        elif kind == "old":
-            if texts[path].count(text) != 1:
-                return f"an old text stands {texts[path].count(text)} times in {path.name}"
-            if not behind.startswith("new:"):
-                return "an old text has no new one"
-            new = behind.removeprefix("new:").removeprefix(" ")
-            if new == text:
-                return "a new text is the old one"
-            texts[path], pairs = texts[path].replace(text, new), pairs + 1
-    return None if pairs else "it has no pair of texts"
 
 
 def all_edits():
@@ -49,8 +27,9 @@ def edits_apply(suite):
     """Every edit can be applied, and the names of a crate's edits differ."""
     edits = all_edits()
     suite.check("there are wrong bodies", len(edits) > 200, True)
-    whys = {str(edit.relative_to(ROOT)): not_applied(edit) for edit in edits}
-    suite.check("edits that cannot be applied", {name: why for name, why in whys.items() if why}, {})
+    read = {str(edit.relative_to(ROOT)): read_edit(edit, edit.parent.parent) for edit in edits}
+    suite.check("edits that cannot be applied", {name: why for name, (_, why) in read.items() if why}, {})
+    suite.check("edits that cost a whole proof", [name for name, (it, why) in read.items() if not why and not it.places], [])
     names = [(edit.parent.parent, edit.name) for edit in edits]
     suite.check("no crate has two edits of a name", len(set(names)), len(names))
     others = [path for path in (ROOT / "crates").glob(f"*/{LEFT_OUT}/*") if path.suffix != ".edit"]
@@ -145,13 +124,64 @@ fn high::write_set: no proof: expected answers in ./proofs/write_set/Answers.ant
 ]
 
 
+# What the prover told of a check, its status, and the begin of why it shows nothing of a contract.
+JUDGED = [
+    (1, "fn low::next: not proved\nlogic=not-proved\n", None),
+    (0, "logic=proved functions=1\n", None),
+    (1, "src/lib.rt:3:1: error: `number` is not in scope\nlogic=not-proved\n", "the edited text is not read: src/lib.rt:3:1"),
+    (1, "src/lib.rt:3:1: error: `returns-clause-far`: expected type `2`\nlogic=not-proved\n", None),
+    (1, "error[E0308]: mismatched types\n", "it did not reach the prover"),
+]
+
+# A file, and in each line of it that a number ends the place that the prover is asked to check for an edit there.
+PLACES = """const STEP: u32 = 1; // low::bytes
+pub fn next(number: u32) -> u32
+    ensures more { result ≡ number + 1 } // low::bytes::next
+{
+    fn inner() { // low::bytes::next
+    }
+    inner(); // low::bytes::next
+}
+
+impl<'a, S: Store> Feed for PageFeed<'a, S> {
+    type Dev = S; // low::bytes
+
+    fn byte(&mut self) -> u8 {
+        1 // low::bytes::PageFeedFeed::byte
+    }
+}
+
+impl Canon {
+    pub(crate) fn get(&self) -> u8 {
+        2 // low::bytes::Canon::get
+    }
+}
+
+static ROWS: [u8; 1] = [1]; // low::bytes
+"""
+
+
 def refusals_are_read(suite):
-    """The function and the clauses that the prover's output tells of."""
+    """The function and the clauses that the prover's output tells of, and what shows nothing."""
+    for status, output, wanted in JUDGED:
+        why = not_judged(status, output, ["src/lib.rt"])
+        suite.check(f"what shows nothing: {output}", why[: len(wanted)] if why and wanted else why, wanted)
     for file, output, wanted in REFUSALS:
         suite.check(f"the refusal of {wanted[0]}", refused_at(output, [file]), wanted)
 
 
-# A library, and a crate above it: one of its wrong bodies is refused by its clause, the other does the same.
+def places_are_found(suite):
+    """The function or the module that is checked for an edit."""
+    for line in re.findall(r".* // .*", PLACES):
+        text, _, wanted = line.partition(" // ")
+        found = place_of("low", "src/bytes.rt", PLACES, PLACES.index(line) + len(text))
+        suite.check(f"the place of {text.strip()}", found, wanted)
+    suite.check("a definition has no place", place_of("low", "specs/Next.antt", PLACES, 9), "")
+    suite.check("a place of the root file", place_of("low", "src/lib.rt", PLACES, 9), "low")
+
+
+# A library, and a crate above it. Of its wrong bodies one is refused by its function, one does the same, and the third is of a
+# constant that the function of another module reads.
 SMALL = {
     "HANDLES": "Handles allowed: none.\n",
     "crates.txt": "low:\nhigh: low\n",
@@ -167,10 +197,13 @@ pub fn next(number: u32) -> u32
     number + 1
 }
 """,
-    "crates/high/src/lib.rt": """//! A number further on.
+    "crates/high/src/lib.rt": """//! Numbers further on.
 #![tactic(auto)]
 ghost use Rattle.std.specs.Prelude.{◌≡◌, ◌+◌, ◌<◌};
 
+mod step;
+
+use crate::step::STEP;
 use low::next;
 
 /// The second number behind another.
@@ -180,7 +213,17 @@ pub fn second(number: u32) -> u32
 {
     next(next(number))
 }
+
+/// The number a step behind another.
+pub fn behind(number: u32) -> u32
+    requires small { number < 9 }
+    ensures step { result ≡ number + 3 }
+{
+    number + STEP
+}
 """,
+    "crates/high/src/step.rt": "//! A step.\n\n/// How far a step goes.\npub(crate) const STEP: u32 = 3;\n",
+    "crates/high/wrong-bodies/a_step_is_longer.edit": "file: src/step.rt\nold: 3;\nnew: 4;\n",
     "crates/high/wrong-bodies/the_first_is_told.edit": "file: src/lib.rt\nold:     next(next(number))\nnew:     next(number)\n",
     "crates/high/wrong-bodies/the_same_is_told.edit": "file: src/lib.rt\nold:     next(next(number))\nnew:     next(number + 1)\n",
 }
@@ -201,13 +244,14 @@ def tool_tries(suite):
         run = subprocess.run(tool, capture_output=True, text=True)
         table = (root / "table").read_text()
         rows = [[cell.strip() for cell in line.strip("|").split("|")] for line in table.splitlines()[4:]]
-        suite.check("rows of wrong bodies", [row[:4] for row in rows], [
-            ["high", "the_first_is_told", "high::second", "far"],
-            ["high", "the_same_is_told", "", "NOT REFUSED"],
+        suite.check("rows of wrong bodies", [row[:5] for row in rows], [
+            ["high", "a_step_is_longer", "high::behind", "step", "crate"],
+            ["high", "the_first_is_told", "high::second", "far", "function"],
+            ["high", "the_same_is_told", "", "NOT REFUSED", "crate"],
         ])
-        suite.check("a wrong body that is not refused", (run.returncode, run.stdout.splitlines()[-1]), (1, "1 refused, 1 not refused"))
+        suite.check("a wrong body that is not refused", (run.returncode, run.stdout.splitlines()[-1]), (1, "2 refused, 1 not refused"))
         left = sorted(path.name for path in (root / "crates" / "high").iterdir())
         suite.check("the crate is left as it was", left, ["src", "wrong-bodies"])
 
 
-PARTS = [edits_apply, edits_are_named, faults_are_refused, statuses_have_faults, tool_lists, refusals_are_read, tool_tries]
+PARTS = [edits_apply, edits_are_named, faults_are_refused, statuses_have_faults, tool_lists, refusals_are_read, places_are_found, tool_tries]

@@ -4,58 +4,64 @@
     python3 tools/wrong_bodies.py --list | --page
 
 A wrong body is an edit `crates/NAME/wrong-bodies/*.edit`, in the form of those in `must-fail/`. The gate tries
-only those in `must-fail/`, since it proves a crate that has any twice. Here the repository is copied to a temporary
-folder, each crate's wrong bodies stand in the copy's `must-fail/`, and the kit's own `rt must-fail` tries them there;
-with --all those of the gate too. The libraries below are taken along, so that they are not proved again: what
-`rt check` keeps of them in `crates/NAME/out/`, or what a whole `rt ci` over just these files left there. Crates are
-tried side by side, one for each processor and 4 GB of memory.
+only those in `must-fail/`, since it proves a crate that has any twice; with --all they are tried here too.
 
-Each edit gives a row: the crate, the edit, the function that is refused first and its clause, and the seconds that the
-check took; with --table the rows are written to a file too. Where no clause is told, the prover refused the edit for
+An edit changes one function, mostly. So that function is checked alone, over the libraries below: what is refused there is
+refused in the whole crate. What is proved there is tried once more in the whole crate, from nothing; so is an edit whose
+place is not found. Where the crate's own library is not at hand, the function is first checked as it stands.
+
+Edits are tried side by side, in a copy of the repository, as many as `tools/jobs.sh` tells. The libraries below are taken
+along, so that they are not proved again: what `rt check` keeps of them in `crates/NAME/out/`, or what a whole `rt ci` over
+just these files left there.
+
+Each edit gives a row: the crate, the edit, the function that is refused first and its clause, what was checked, and the
+seconds; with --table the rows are written to a file too. Where no clause is told, the prover refused the edit for
 another reason, as a body that it does not cover: such an edit shows nothing. The exit status is 1 where an edit is not
 refused. --list prints the table of faults of docs/WRONG-BODIES.md and tries nothing; --page writes that page's list of edits anew.
 """
 
 import argparse
+import functools
 import importlib.machinery
 import importlib.util
 import os
 import pathlib
-import re
 import shutil
 import subprocess
 import sys
 import tempfile
-import threading
 import time
 from dataclasses import dataclass
 
-from refusals import refused_at
+from copied import copy_crates, is_left_by_gate, take_kept_work
+from edits import read_edit
+from refusals import not_judged, refused_at
 from wrong_bodies_page import GATE, LEFT_OUT, PAGE, ROOT, crates_of, edits_of, faults, write_page
 
-MEMORY = 4 << 30
-# What the kit's rt must have: `rt must-fail` prints neither the clause that refuses an edit nor the seconds.
-NEEDED = ("AT_LIMIT", "REFUSED", "checked", "edits_of", "free", "in_lanes", "linked", "must_fail", "need", "processors", "rtlib", "seeded")
-ROW = "| {:<12} | {:<60} | {:<44} | {:<24} | {:>5} |"
+# All that is used of the kit's rt: `checked` checks a copy of a crate with other texts, `in_lanes` runs tasks side by side.
+NEEDED = ("checked", "in_lanes", "rtlib")
+ROW = "| {:<14} | {:<60} | {:<48} | {:<24} | {:<8} | {:>5} |"
+ONE_JOB = ["--jobs", "1"]
 
 
 @dataclass
 class Tried:
-    """An edit that was tried: whether the prover refused it, where first, and how long the check took."""
+    """An edit that was tried: whether the prover refused it, where first, over what, and how long the checks took."""
 
     crate: str
     edit: str
-    is_refused: bool
-    said: str
-    function: str
-    clause: str
     seconds: float
+    is_refused: bool = False
+    function: str = ""
+    clause: str = ""
+    over: str = "crate"
+    said: str = ""
 
     def row(self):
         """The edit's row of the table."""
         clause = self.clause or "no clause is told"
         clause = clause if self.is_refused else "NOT REFUSED"
-        return ROW.format(self.crate, self.edit, self.function, clause, round(self.seconds))
+        return ROW.format(self.crate, self.edit, self.function, clause, self.over, round(self.seconds))
 
 
 def stop(why):
@@ -79,158 +85,99 @@ def kit():
     return module
 
 
-def with_all_below(chosen, crates):
-    """These crates and all below them."""
-    found, left = set(), list(chosen)
-    while left:
-        name = left.pop()
-        if name in crates and name not in found:
-            found.add(name)
-            left += crates[name][1]
-    return found
+class Trial:
+    """The crates of the copy, and what is known of them as they stand."""
 
+    def __init__(self, rt, crates):
+        self.rt = rt
+        self.crates = crates
+        self.left_by_gate = {name for name in crates if is_left_by_gate(name)}
+        self.takes_left = False
+        self.is_sound = functools.cache(self.is_proved)
 
-def linked(source, to):
-    """Makes a hard link, or a copy where the file system has none."""
-    try:
-        os.link(source, to)
-    except OSError:
-        shutil.copy2(source, to)
+    def check(self, crate, texts, place):
+        """Checks a crate with these texts in place of its own: a place of it, or the whole where there is none."""
+        return self.rt.checked(crate, texts, [*ONE_JOB, *(["--only", place] if place else [])], None)
 
+    def is_proved(self, name, place):
+        """Whether a crate is proved as it stands: its library is at hand, or the place of an edit is proved alone."""
+        crate = self.crates[name]
+        return crate.is_built() or name in self.left_by_gate or self.check(crate, {}, place).returncode == 0
 
-def copy_repository(room, chosen, folders):
-    """Copies the crates that are tried and those below them, with the wrong bodies where the gate's edits stand."""
-    crates = crates_of(ROOT)
-    names = with_all_below(chosen, crates)
-    (room / "crates").mkdir()
-    shutil.copy2(ROOT / "HANDLES", room)
-    (room / "crates.txt").write_text("".join(f"{crates[name][0]}\n" for name in crates if name in names))
-    for name in names:
-        source, to = ROOT / "crates" / name, room / "crates" / name
-        shutil.copytree(source, to, ignore=shutil.ignore_patterns("out", GATE, LEFT_OUT))
-        # What rt builds anew it removes first, so that a link keeps the original.
-        if (source / "out" / "rlib").is_dir():
-            shutil.copytree(source / "out" / "rlib", to / "out" / "rlib", copy_function=linked)
-        if name in chosen:
-            (to / GATE).mkdir()
-            for path in edits_of(ROOT, name, folders):
-                shutil.copy2(path, to / GATE)
-
-
-def is_left_by_gate(name):
-    """Whether the gate left the library of a crate, and none of the crate's files is newer."""
-    crate = ROOT / "crates" / name
-    library = crate / "out" / "rlib" / f"{name}.rlib"
-    if not library.is_dir() or (crate / "out" / "rlib" / "stamp").exists():
-        return False
-    sources = [ROOT / "crates.txt", *(path for part in ("src", "specs", "proofs") for path in (crate / part).rglob("*"))]
-    # What an earlier run kept is linked with the time of that run, so the folder's own time tells when the gate left it.
-    return max(path.stat().st_mtime for path in sources) <= library.stat().st_mtime
-
-
-def take_kept_work(crate):
-    """Copies what is kept of a library's proof where the library itself is not at hand."""
-    name = os.path.basename(crate.folder)
-    kept = ROOT / "crates" / name / "out" / "incremental"
-    if not crate.is_built() and kept.is_dir():
-        shutil.copytree(kept, pathlib.Path(crate.folder) / "out" / "incremental")
-
-
-def watch(rt, watched):
-    """Has each check of an edit leave in `watched`, by its crate, what it said and how long it took."""
-    checked, must_fail, here = rt.checked, rt.must_fail, threading.local()
-
-    def watched_check(crate, texts, flags, kept):
-        ran = checked(crate, texts, flags, kept)
-        here.output, here.edited = ran.stdout, list(texts)
-        return ran
-
-    def watched_edit(crate, edit, flags, kept=None):
-        here.output, here.edited, start = "", [], time.monotonic()
-        kind, said = must_fail(crate, edit, flags, kept)
-        function, clause = refused_at(here.output, here.edited)
-        name = pathlib.Path(edit).stem
-        end = Tried(crate.name, name, kind in (rt.REFUSED, rt.AT_LIMIT), said, function, clause, time.monotonic() - start)
-        watched[crate.name].append(end)
-        return kind, said
-
-    rt.checked, rt.must_fail = watched_check, watched_edit
-
-
-def library(crate):
-    """Builds a library where it is not at hand; whether it stands."""
-    with tempfile.TemporaryFile("w+", errors="replace") as crate.out:
-        if not crate.build_rlib(["--jobs", "1"], anew=False):
+    def library(self, crate):
+        """Builds a library where it is not at hand; whether it stands."""
+        if self.takes_left:
             return True
-        crate.out.seek(0)
-        print(crate.out.read(), end="", flush=True)
-    print(f"wrong_bodies: {crate.name} is not proved, so nothing above it was tried", flush=True)
-    return False
-
-
-def edits(rt, crate, watched, given):
-    """Tries a crate's edits over a proof of the crate as it stands, and prints their rows; whether all were refused."""
-    if not all(given[dep.name, "lib"] for dep in crate.below()):
+        with tempfile.TemporaryFile("w+", errors="replace") as crate.out:
+            if not crate.build_rlib(ONE_JOB, anew=False):
+                return True
+            crate.out.seek(0)
+            print(crate.out.read(), end="", flush=True)
+        print(f"wrong_bodies: {crate.name} is not proved, so nothing above it was tried", flush=True)
         return False
-    good, bad = rt.edits_of(crate)
-    flags = ["--jobs", "1"]
-    room = rt.seeded(crate, flags)
-    if not room:
-        print(f"wrong_bodies: {crate.name} is not proved, so none of its edits was tried", flush=True)
-        return False
-    for number, edit in enumerate(good):
-        over = f"{room}/{number}"
-        rt.linked(f"{room}/seed", over)
-        rt.must_fail(crate, edit, flags, over)
-        shutil.rmtree(over)
-        if not watched[crate.name][-1].is_refused:
-            # As in the gate, what is still proved over kept work is tried from nothing.
-            del watched[crate.name][-1]
-            rt.must_fail(crate, edit, flags)
-        end = watched[crate.name][-1]
-        print(end.row() if end.is_refused else f"{end.row()}\n{end.said}", flush=True)
-    shutil.rmtree(room)
-    for name in bad:
-        print(f"wrong_bodies: {name} is no edit", flush=True)
-    return not bad and all(end.is_refused for end in watched[crate.name])
+
+    def refusal(self, crate, edited, place):
+        """What a check of an edit at one place gives: whether it is refused, the function and the clause, and why not."""
+        if not self.is_sound(crate.name, place):
+            return False, "", "", f"{place or crate.name} is not proved as it stands"
+        ran = self.check(crate, edited.texts, place)
+        why = not_judged(ran.returncode, ran.stdout, edited.texts)
+        if why or not ran.returncode:
+            return False, "", "", why or "the crate is still proved with this edit"
+        return True, *refused_at(ran.stdout, list(edited.texts)), ""
+
+    def edit(self, name, path):
+        """Tries an edit, at its places alone and then in the whole crate, and prints its row."""
+        start = time.monotonic()
+        edited, why = read_edit(path, pathlib.Path(self.crates[name].folder))
+        end = Tried(name, path.stem, 0, said=why)
+        for place in [*edited.places, ""] if edited else []:
+            end.is_refused, end.function, end.clause, end.said = self.refusal(self.crates[name], edited, place)
+            end.over = place and "function" or "crate"
+            if end.is_refused:
+                break
+        end.seconds = time.monotonic() - start
+        print(end.row() if end.is_refused else f"{end.row()}\n{path.name}: {end.said}", flush=True)
+        return end
 
 
-def tasks_of(rt, crates, chosen, watched):
-    """The tasks of a run: each library below, and the edits of each chosen crate once those below it stand."""
-    needed = {dep.name for crate in crates if crate.name in chosen for dep in crate.below()}
+def tasks_of(trial, chosen, folders):
+    """The tasks of a run: each library below, and each edit once the libraries below its crate stand."""
+    needed = {dep.name for name in chosen for dep in trial.crates[name].below()}
     # The gate's libraries fit each other alone, so they are taken all or none.
-    are_left = all(is_left_by_gate(name) for name in needed)
+    trial.takes_left = needed <= trial.left_by_gate
     tasks = {}
-    for crate in crates:
-        waits, lines, memory = [(dep.name, "lib") for dep in crate.below()], crate.count(rb"\n"), rt.need(crate)
-        if crate.name in needed:
-            call = lambda given, jobs, it=crate: are_left or library(it)
-            tasks[crate.name, "lib"] = (waits, lines, memory, call)
-        if crate.name in chosen:
-            call = lambda given, jobs, it=crate: edits(rt, it, watched, given)
-            tasks[crate.name, "edits"] = (waits, lines, memory, call)
+    for name, crate in trial.crates.items():
+        waits, lines = [(dep.name, "lib") for dep in crate.below()], crate.count(rb"\n")
+        if name in needed:
+            call = lambda given, jobs, it=crate: trial.library(it)
+            tasks[name, "lib"] = (waits, lines, 0, call)
+    for name in chosen:
+        waits = [(dep.name, "lib") for dep in trial.crates[name].below()]
+        for path in edits_of(ROOT, name, folders):
+            call = lambda given, jobs, it=(name, path), waits=waits: all(given[key] for key in waits) and trial.edit(*it)
+            tasks[name, "edits", path.stem] = (waits, 1, 0, call)
     return tasks
 
 
 def try_all(rt, chosen, folders):
-    """Tries the edits of these crates in a copy; what was seen of each, and whether all were refused."""
-    watched = {name: [] for name in chosen}
-    watch(rt, watched)
+    """Tries the edits of these crates in a copy; what was seen of each, None where it was not tried."""
     with tempfile.TemporaryDirectory(prefix="wrong-bodies-") as room:
-        copy_repository(pathlib.Path(room), chosen, folders)
+        copy_crates(pathlib.Path(room), chosen)
+        # Its first call sets a signal's handler, which only the main thread may.
         rt.rtlib.guarded()
         crates = sorted(rt.rtlib.crates_below(room), key=lambda it: len(it.below()))
         for crate in crates:
             take_kept_work(crate)
-        ends = rt.in_lanes(tasks_of(rt, crates, chosen, watched))
-    are_refused = all(ends[name, "edits"] for name in chosen)
-    return [end for name in chosen for end in watched[name]], are_refused
+        tasks = tasks_of(Trial(rt, {crate.name: crate for crate in crates}), chosen, folders)
+        ends = rt.in_lanes(tasks)
+    return [ends[key] or None for key in tasks if key[1] == "edits"]
 
 
 def head():
     """The lines above the rows of a table."""
-    rule = "|".join("-" * (width + 2) for width in (12, 60, 44, 24))
-    return [ROW.format("crate", "edit", "refused at", "by", "s"), f"|{rule}|------:|"]
+    rule = "|".join("-" * (width + 2) for width in (14, 60, 48, 24, 8))
+    return [ROW.format("crate", "edit", "refused at", "by", "over", "s"), f"|{rule}|------:|"]
 
 
 def write_table(file, tried, seconds, jobs):
@@ -240,7 +187,6 @@ def write_table(file, tried, seconds, jobs):
     line = f"{len(tried)} edits at commit {commit.stdout.strip()} on {time.strftime('%Y-%m-%d')}: {refused} refused"
     line += f", in {round(seconds / 60)} minutes with {jobs} side by side."
     file.write_text("\n".join([line, "", *head(), *[end.row() for end in tried]]) + "\n")
-    return line
 
 
 def listed():
@@ -257,7 +203,7 @@ def options():
     parser = argparse.ArgumentParser(description=__doc__.split("\n")[0])
     parser.add_argument("crates", nargs="*", metavar="CRATE", help="crates whose wrong bodies are tried; all if none")
     parser.add_argument("--all", action="store_true", help="the edits of the gate too")
-    parser.add_argument("--jobs", type=int, metavar="N", help="how many crates are tried side by side")
+    parser.add_argument("--jobs", metavar="N", help="how many edits are tried side by side")
     parser.add_argument("--table", type=pathlib.Path, metavar="FILE", help="a file that the table is written to")
     parser.add_argument("--list", action="store_true", help="print the table of faults, and try nothing")
     parser.add_argument("--page", action="store_true", help="write the page's list of edits anew, and try nothing")
@@ -277,16 +223,17 @@ def main():
         stop(f"{unknown[0]} has no edit in crates/{unknown[0]}/{LEFT_OUT}")
     chosen = [name for name in having if not asked.crates or name in asked.crates]
     rt = kit()
-    jobs = asked.jobs or max(1, min(rt.processors(), rt.free() // MEMORY))
-    os.environ["RT_JOBS"] = str(jobs)
+    jobs = asked.jobs or subprocess.run([ROOT / "tools" / "jobs.sh"], capture_output=True, text=True).stdout.strip()
+    os.environ["RT_JOBS"] = jobs
     print("\n".join(head()), flush=True)
     start = time.monotonic()
-    tried, are_refused = try_all(rt, chosen, folders)
+    ends = try_all(rt, chosen, folders)
+    tried = [end for end in ends if end]
     if asked.table:
         write_table(asked.table, tried, time.monotonic() - start, jobs)
     refused = sum(end.is_refused for end in tried)
     print(f"{refused} refused, {len(tried) - refused} not refused")
-    return 0 if are_refused else 1
+    return 0 if refused == len(ends) else 1
 
 
 if __name__ == "__main__":
