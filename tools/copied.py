@@ -1,7 +1,6 @@
 """A copy of the repository's crates, with what is kept of their proofs."""
 
 import os
-import pathlib
 import shutil
 
 from wrong_bodies_page import GATE, LEFT_OUT, ROOT, crates_of
@@ -52,8 +51,15 @@ def is_left_by_gate(name):
     return max(path.stat().st_mtime for path in sources) <= library.stat().st_mtime
 
 
-def take_kept_work(crate):
-    """Copies what is kept of a library's proof where the library itself is not at hand."""
+def kept_work(crate):
+    """The folder of the copy that keeps what checks of a crate proved; rt takes it where it builds the library."""
+    return f"{crate.folder}/out/incremental"
+
+
+def take_kept_work(crate, is_tried):
+    """Copies what is kept of a crate's proof where the crate is tried, or its library is not at hand."""
     kept = ROOT / "crates" / crate.name / "out" / "incremental"
-    if not crate.is_built() and kept.is_dir():
-        shutil.copytree(kept, pathlib.Path(crate.folder) / "out" / "incremental")
+    if kept.is_dir() and (is_tried or not crate.is_built()):
+        shutil.copytree(kept, kept_work(crate))
+    elif is_tried:
+        os.makedirs(kept_work(crate))

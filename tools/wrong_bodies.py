@@ -10,9 +10,10 @@ An edit changes one function, mostly. So that function is checked alone, over th
 refused in the whole crate. What is proved there is tried once more in the whole crate, from nothing; so is an edit whose
 place is not found. Where the crate's own library is not at hand, the function is first checked as it stands.
 
-Edits are tried side by side, in a copy of the repository, as many as `tools/jobs.sh` tells. The libraries below are taken
-along, so that they are not proved again: what `rt check` keeps of them in `crates/NAME/out/`, or what a whole `rt ci` over
-just these files left there.
+Crates are tried side by side, in a copy of the repository, as many as `tools/jobs.sh` tells, and the edits of a crate in
+turn, over what `rt check` kept of it and what the checks before proved. The libraries below are taken along, so that they
+are not proved again: what `rt check` keeps of them in `crates/NAME/out/`, or what a whole `rt ci` over just these files
+left there.
 
 Each edit gives a row: the crate, the edit, the function that is refused first and its clause, what was checked, and the
 seconds; with --table the rows are written to a file too. Where no clause is told, the prover refused the edit for
@@ -33,7 +34,7 @@ import tempfile
 import time
 from dataclasses import dataclass
 
-from copied import copy_crates, is_left_by_gate, take_kept_work
+from copied import copy_crates, is_left_by_gate, kept_work, take_kept_work
 from edits import read_edit
 from refusals import not_judged, refused_at
 from wrong_bodies_page import GATE, LEFT_OUT, PAGE, ROOT, crates_of, edits_of, faults, write_page
@@ -96,8 +97,10 @@ class Trial:
         self.is_sound = functools.cache(self.is_proved)
 
     def check(self, crate, texts, place):
-        """Checks a crate with these texts in place of its own: a place of it, or the whole where there is none."""
-        return self.rt.checked(crate, texts, [*ONE_JOB, *(["--only", place] if place else [])], None)
+        """Checks a crate with these texts in place of its own: a place of it over what was kept, or the whole from nothing."""
+        if not place:
+            return self.rt.checked(crate, texts, ONE_JOB, None)
+        return self.rt.checked(crate, texts, [*ONE_JOB, "--only", place], kept_work(crate))
 
     def is_proved(self, name, place):
         """Whether a crate is proved as it stands: its library is at hand, or the place of an edit is proved alone."""
@@ -140,9 +143,15 @@ class Trial:
         print(end.row() if end.is_refused else f"{end.row()}\n{path.name}: {end.said}", flush=True)
         return end
 
+    def edits(self, name, paths):
+        """Tries a crate's edits in turn, each over what the checks before it proved."""
+        tried = [self.edit(name, path) for path in paths]
+        shutil.rmtree(kept_work(self.crates[name]))
+        return tried
+
 
 def tasks_of(trial, chosen, folders):
-    """The tasks of a run: each library below, and each edit once the libraries below its crate stand."""
+    """The tasks of a run: each library below, and the edits of each crate once the libraries below it stand."""
     needed = {dep.name for name in chosen for dep in trial.crates[name].below()}
     # The gate's libraries fit each other alone, so they are taken all or none.
     trial.takes_left = needed <= trial.left_by_gate
@@ -152,26 +161,26 @@ def tasks_of(trial, chosen, folders):
         if name in needed:
             call = lambda given, jobs, it=crate: trial.library(it)
             tasks[name, "lib"] = (waits, lines, 0, call)
-    for name in chosen:
-        waits = [(dep.name, "lib") for dep in trial.crates[name].below()]
-        for path in edits_of(ROOT, name, folders):
-            call = lambda given, jobs, it=(name, path), waits=waits: all(given[key] for key in waits) and trial.edit(*it)
-            tasks[name, "edits", path.stem] = (waits, 1, 0, call)
+        if name in chosen:
+            # A library and its edits share what is kept of the crate.
+            waits, paths = [*waits, *([(name, "lib")] if name in needed else [])], edits_of(ROOT, name, folders)
+            call = lambda given, jobs, it=(name, paths), waits=waits: trial.edits(*it) if all(given[key] for key in waits) else []
+            tasks[name, "edits"] = (waits, lines * len(paths), 0, call)
     return tasks
 
 
 def try_all(rt, chosen, folders):
-    """Tries the edits of these crates in a copy; what was seen of each, None where it was not tried."""
+    """Tries the edits of these crates in a copy; what was seen of each that could be tried."""
     with tempfile.TemporaryDirectory(prefix="wrong-bodies-") as room:
         copy_crates(pathlib.Path(room), chosen)
         # Its first call sets a signal's handler, which only the main thread may.
         rt.rtlib.guarded()
         crates = sorted(rt.rtlib.crates_below(room), key=lambda it: len(it.below()))
         for crate in crates:
-            take_kept_work(crate)
+            take_kept_work(crate, crate.name in chosen)
         tasks = tasks_of(Trial(rt, {crate.name: crate for crate in crates}), chosen, folders)
         ends = rt.in_lanes(tasks)
-    return [ends[key] or None for key in tasks if key[1] == "edits"]
+    return [end for name in chosen for end in ends[name, "edits"]]
 
 
 def head():
@@ -203,7 +212,7 @@ def options():
     parser = argparse.ArgumentParser(description=__doc__.split("\n")[0])
     parser.add_argument("crates", nargs="*", metavar="CRATE", help="crates whose wrong bodies are tried; all if none")
     parser.add_argument("--all", action="store_true", help="the edits of the gate too")
-    parser.add_argument("--jobs", metavar="N", help="how many edits are tried side by side")
+    parser.add_argument("--jobs", metavar="N", help="how many crates are tried side by side")
     parser.add_argument("--table", type=pathlib.Path, metavar="FILE", help="a file that the table is written to")
     parser.add_argument("--list", action="store_true", help="print the table of faults, and try nothing")
     parser.add_argument("--page", action="store_true", help="write the page's list of edits anew, and try nothing")
@@ -227,13 +236,12 @@ def main():
     os.environ["RT_JOBS"] = jobs
     print("\n".join(head()), flush=True)
     start = time.monotonic()
-    ends = try_all(rt, chosen, folders)
-    tried = [end for end in ends if end]
+    tried = try_all(rt, chosen, folders)
     if asked.table:
         write_table(asked.table, tried, time.monotonic() - start, jobs)
     refused = sum(end.is_refused for end in tried)
     print(f"{refused} refused, {len(tried) - refused} not refused")
-    return 0 if refused == len(ends) else 1
+    return 0 if refused == sum(len(edits_of(ROOT, name, folders)) for name in chosen) else 1
 
 
 if __name__ == "__main__":
