@@ -21,7 +21,7 @@ use Rattle.mg_defs.specs.InputLimit.{is_quit, ended_lines, has_quit, is_too_much
 use Rattle.mg_defs.specs.Limits.{input_limit}
 use Rattle.mg_defs.proofs.SessionLaws.{Gives, gives_end, gives_line, ends_long, ends_short}
 use Rattle.mg_defs.proofs.LimitLaws.{ends_always, ended-line, ended-none}
-use Rattle.mg_reply.specs.Reading.{IsFirst, RunsOn, piece_bytes}
+use Rattle.mg_reply.specs.Reading.{IsFirst, RunsOn, buffer_bytes}
 use Rattle.mg_reply.specs.Served.{Served, Counted, AnsweredSome, LeftEnough, PrintedInTurn, RepliedInTurn, TakenAhead}
 use Rattle.mg_reply.proofs.ReadingLaws.{first_line, left_now, empty}
 
@@ -236,7 +236,7 @@ answered_asked hearing After old new next reply answering before left left2 w0 w
 
 -- the line that was taken last, with what was taken behind it
 pub ahead_line : (held : List ℕ) {line : List ℕ} {size : ℕ} {left now : Option (List ℕ)} → IsFirst line size left (prepended held now) →
-    length held ≤ piece_bytes → TakenAhead left now
+    length held ≤ buffer_bytes → TakenAhead left now
 ahead_line held {line} {left} {now} first few =
     elim first.ends [
       | inl e ↦ record {
@@ -257,7 +257,7 @@ ahead_line held {line} {left} {now} first few =
 
 -- a line that went on to the limit
 pub ahead_past : (held : List ℕ) {size : ℕ} {left now : Option (List ℕ)} → RunsOn size left (prepended held now) →
-    length held ≤ piece_bytes → TakenAhead left now
+    length held ≤ buffer_bytes → TakenAhead left now
 ahead_past held {left} {now} on few = record {
   line = on.front;
   behind = on.byte ∷ held;
@@ -269,7 +269,7 @@ ahead_past held {left} {now} on few = record {
 
 -- a line in which the input failed
 pub ahead_broken : (held : List ℕ) {left now : Option (List ℕ)} →
-    ((front : List ℕ) × HasNoEnd front × (left ≡ prepended front (prepended held now))) → length held ≤ piece_bytes → TakenAhead left now
+    ((front : List ℕ) × HasNoEnd front × (left ≡ prepended front (prepended held now))) → length held ≤ buffer_bytes → TakenAhead left now
 ahead_broken held {left} {now} broken few = record {
   line = broken.0;
   behind = held;
@@ -279,7 +279,7 @@ ahead_broken held {left} {now} broken few = record {
 }
 
 -- no line
-pub ahead_none : (held : List ℕ) {left now : Option (List ℕ)} → prepended held now ≡ left → length held ≤ piece_bytes → TakenAhead left now
+pub ahead_none : (held : List ℕ) {left now : Option (List ℕ)} → prepended held now ≡ left → length held ≤ buffer_bytes → TakenAhead left now
 ahead_none held {left} {now} same few = record { line = []; behind = held; plain = tt; few = omega (arith, few); taken = sym same }
 
 -- no line was taken up since
@@ -307,7 +307,7 @@ line_next line size left after first rest told =
 pub turn_long : (held : List ℕ) {A : Type 0} {hearing : Hearing} {After : A → A → List Question → Type 0} {old new : A}
     {reply : Settings → List ℕ → List ℕ} {before left end w0 w1 w2 : Option (List ℕ)} {now : Settings} {line : List ℕ} {size : ℕ} →
     After new new [] → Served hearing After old new reply before left w0 w1 now → IsFirst line size left (prepended held end) →
-    length held ≤ piece_bytes → 1024 < length line → GrewByPrefix w1 w2 line_too_long → RepliedInTurn hearing After old new reply before end w0 w2
+    length held ≤ buffer_bytes → 1024 < length line → GrewByPrefix w1 w2 line_too_long → RepliedInTurn hearing After old new reply before end w0 w2
 unfolding asked line_text
 turn_long held {new} {left} {end} {w1} {now} {line} {size} none s first few long grew = record {
   then = new;
@@ -327,7 +327,7 @@ turn_long held {new} {left} {end} {w1} {now} {line} {size} none s first few long
 -- a line that was answered, in part or whole
 pub turn_answers : (held : List ℕ) {A : Type 0} {hearing : Hearing} {After : A → A → List Question → Type 0} {old then new : A}
     {reply answering : Settings → List ℕ → List ℕ} {before left end w0 w1 w2 : Option (List ℕ)} {now : Settings} {line cut : List ℕ} {size : ℕ} →
-    Served hearing After old then reply before left w0 w1 now → IsFirst line size left (prepended held end) → length held ≤ piece_bytes →
+    Served hearing After old then reply before left w0 w1 now → IsFirst line size left (prepended held end) → length held ≤ buffer_bytes →
     Answered reply answering now line cut → After then new (asked_by now cut (heard hearing now cut)) →
     GrewByPrefix w1 w2 (answer hearing answering now cut) → RepliedInTurn hearing After old new reply before end w0 w2
 unfolding asked line_text

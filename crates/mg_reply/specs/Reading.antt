@@ -1,4 +1,4 @@
--- Lines of an input whose bytes come in pieces.
+-- Lines of an input that is read a buffer at a time.
 use Rattle.std.specs.Prelude.{◌≡◌, ℕ, ◌+◌, ◌<◌, ◌≤◌, List, [], ◌∷◌, ◌++◌, length, take, MatchOption, Ok, Err, ◌⊎◌}
 use Rattle.std.specs.declared.result.Result.{Result}
 use Rattle.std.specs.declared.option.Option.{Option}
@@ -12,8 +12,8 @@ use Rattle.mg_reply.specs.declared.reader.LineErr.{LineErr}
 use Rattle.mg_reply.specs.declared.reader.LineErr.TheVariants.{Read, TooMuch}
 
 -- the most bytes that are taken from an input at once
-abbrev pub piece_bytes : ℕ
-piece_bytes = 4096
+abbrev pub buffer_bytes : ℕ
+buffer_bytes = 4096
 
 -- what a line reader holds: bytes that were taken and not used, the line's first bytes, and how many bytes were used
 pub record Reading : Type 0 where
@@ -27,7 +27,7 @@ AfterByte before after (Ok byte) = MatchOption byte ((after ≡ before) × IsAtE
     (λ b. before ≡ prepended (b ∷ []) after)
 AfterByte before after (Err e) = after ≡ before
 
--- a piece was taken from the front, and is held whole
+-- the buffer was filled from the front of the input, and holds what was taken
 abbrev pub AfterFill : List ℕ → Option (List ℕ) → Option (List ℕ) → Result ℕ Failed → Type 0
 AfterFill held before after (Ok count) = (before ≡ prepended held after) × (length held ≡ count)
     × (count ≡ 0 → IsAtEnd before)

@@ -15,7 +15,7 @@ use Rattle.mg_defs.specs.Lines.{HasNoEnd, lines}
 use Rattle.mg_defs.specs.declared.session.Hearing.{Hearing}
 use Rattle.mg_defs.specs.Session.{replies, Question, questions, heard_questions, asked, line_text}
 use Rattle.mg_defs.specs.InputLimit.{is_quit, ended_lines, IsReadEnough}
-use Rattle.mg_reply.specs.Reading.{piece_bytes}
+use Rattle.mg_reply.specs.Reading.{buffer_bytes}
 use Rattle.mg_reply.specs.declared.serve.ServeErr.{ServeErr}
 use Rattle.mg_reply.specs.declared.serve.ServeErr.TheVariants as serve
 
@@ -75,16 +75,16 @@ pub record TookUp {A : Type 0} (hearing : Hearing) (After : A → A → List Que
   pub answered : After old new (asked hearing now line)
   pub front : GrewByPrefix written_old written (line_text hearing reply now line)
 
--- Of an input that had this left no more was taken than a line, its end, and a piece behind it.
+-- Of an input that had this left no more was taken than a line, its end, and a buffer behind it.
 pub record TakenAhead (left now : Option (List ℕ)) : Type 0 where
   pub line : List ℕ
   pub behind : List ℕ
   pub plain : HasNoEnd line
-  pub few : length behind ≤ piece_bytes + 1
+  pub few : length behind ≤ buffer_bytes + 1
   pub taken : left ≡ prepended (line ++ behind) now
 
 -- No reply is held back: those to the first lines were written whole when a line more was taken up, or none was; no more
--- of the input was taken by then than that line and a piece behind it.
+-- of the input was taken by then than that line and a buffer behind it.
 pub record RepliedInTurn {A : Type 0} (hearing : Hearing) (After : A → A → List Question → Type 0) (old new : A)
     (reply : Settings → List ℕ → List ℕ) (input input_now written_old written : Option (List ℕ)) : Type 0 where
   -- the moment at which that line was taken up
@@ -97,7 +97,7 @@ pub record RepliedInTurn {A : Type 0} (hearing : Hearing) (After : A → A → L
   pub ahead : TakenAhead left input_now
 
 -- The same of an input and an output alone: the replies were written to all but what was left of a told input at a moment,
--- and no more was taken since than a line and a piece behind it.
+-- and no more was taken since than a line and a buffer behind it.
 pub record PrintedInTurn (hearing : Hearing) (reply : Settings → List ℕ → List ℕ)
     (input input_now written_old written : Option (List ℕ)) : Type 0 where
   pub now : Settings

@@ -5,7 +5,7 @@
 //! ([`Answerer`]) and for both ways in which lines are heard ([`Hearing`]), so a scan of plain
 //! documents, a search of a built set and sessions without commands are the same loop.
 //! [`serve_lines`] promises the whole output from the replies by which the answerer answers, where
-//! there are such: files that stand for nothing have none. Input and output go in large pieces: a
+//! there are such: files that stand for nothing have none. Input and output are buffered: a
 //! [`LineReader`] keeps what is past a line's end, and a [`Pending`] lets texts wait for the sink.
 //!
 //! The session's lines, commands and texts are this program's own; the kinds of query that it
@@ -13,8 +13,8 @@
 #![tactic(auto)]
 
 mod command;
-mod held;
 mod hit;
+mod input_buffer;
 mod line;
 mod pending;
 mod reader;

@@ -12,7 +12,7 @@ use std::marker::Model;
 /// How many bytes may wait.
 const SIZE: usize = 8192;
 
-/// Bytes that wait for a sink, so that it gets them in large pieces.
+/// Bytes that wait for a sink, so that it gets many at once.
 ///
 /// It is no sink of its own: each call names the sink, and what was passed on is only there after
 /// `flush`. After a refused call it is not used again.

@@ -1,12 +1,12 @@
-//! Lines of an input whose bytes come in pieces.
+//! Lines of an input that is read a buffer at a time.
 ghost use Rattle.std.specs.Prelude.{◌≡◌, ◌+◌, ◌-◌, ◌<◌, ◌≤◌, [], IsErrOf, length};
 ghost use Rattle.mg_dev.specs.Causes.{Rose};
 ghost use Rattle.mg_dev.specs.Streams.{prepended};
 ghost use Rattle.mg_defs.specs.Lines.{without_return};
-ghost use Rattle.mg_reply.specs.Reading.{AfterLine, IsEvent, piece_bytes};
+ghost use Rattle.mg_reply.specs.Reading.{AfterLine, IsEvent, buffer_bytes};
 ghost use Rattle.mg_reply.specs.declared.reader.LineErr.TheVariants.{Read};
 
-use crate::held::Held;
+use crate::input_buffer::InputBuffer;
 use crate::line::{LineBuf, cut_return};
 use mg_dev::Source;
 use std::marker::Model;
@@ -39,14 +39,14 @@ const MOST: u64 = 1024;
 
 /// Reads the lines of an input, in fixed memory.
 ///
-/// A line ends at byte 0x0A, or at the end of the input where it is not empty. The reader takes the
-/// input's bytes in pieces as large as they come and keeps what is past a line's end for the next
+/// A line ends at byte 0x0A, or at the end of the input where it is not empty. The reader fills its
+/// buffer by one read of the input and keeps what is past a line's end for the next
 /// call, so the input itself may be ahead of the lines. Contracts see it as the bytes that it holds,
 /// the first 1,024 bytes of the line, and the number of bytes of all lines so far. After a refusal
 /// it is not used again.
 #[derive(Drop)]
 pub struct LineReader {
-    held: Held,
+    held: InputBuffer,
     line: LineBuf,
     used: u64,
 }
@@ -79,7 +79,7 @@ impl LineReader {
         ensures { result ≡ record { held = []; line = []; used = 0 } }
     {
         LineReader {
-            held: Held::new(),
+            held: InputBuffer::new(),
             line: LineBuf::new(),
             used: 0,
         }
@@ -91,7 +91,7 @@ impl LineReader {
     pub fn next<I: Source>(&mut self, input: &mut I) -> Result<LineEvent, LineErr>
         ensures line { AfterLine self.old self.new (prepended self.old.held (I.left input.old))
             (prepended self.new.held (I.left input.new)) result }
-        ensures few { length self.new.held ≤ piece_bytes }
+        ensures few { length self.new.held ≤ buffer_bytes }
         ensures later { I.faults input.old ≤ I.faults input.new }
         ensures read { IsErrOf result LineErr.Read →
             Rose (I.faults input.old) (I.faults input.new) }

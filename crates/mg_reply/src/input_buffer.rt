@@ -1,21 +1,21 @@
-//! Bytes that come in pieces, taken one at a time.
+//! The buffer of an input: filled at once, given byte by byte.
 ghost use Rattle.std.specs.Prelude.{◌≡◌, ℕ, ◌+◌, ◌-◌, ◌<◌, ◌≤◌, List, [], ◌∷◌, length, take, drop, IsTrue, ◌↔◌};
 ghost use Rattle.mg_dev.specs.Causes.{HasCause};
 ghost use Rattle.mg_dev.specs.Streams.{prepended};
-ghost use Rattle.mg_reply.specs.Reading.{AfterByte, AfterFill, piece_bytes};
+ghost use Rattle.mg_reply.specs.Reading.{AfterByte, AfterFill, buffer_bytes};
 
 use mg_dev::{Failed, Source};
 use std::marker::Model;
 
-/// Bytes that were taken from a source and not used yet.
+/// Bytes that were taken from a source and not used yet, at most 4,096.
 #[derive(Drop)]
-pub struct Held {
+pub struct InputBuffer {
     buffer: [u8; 4096],
     at: usize,
     end: usize,
 }
 
-impl Model for Held {
+impl Model for InputBuffer {
     ghost use Rattle.std.specs.Prelude.{List, ℕ, take, drop, ◌-◌, ◌≤◌};
 
     ghost Value = { List ℕ };
@@ -25,22 +25,22 @@ impl Model for Held {
     ghost invariant = { λ h. (h.at ≤ h.end) × (h.end ≤ 4096) };
 }
 
-impl Held {
-    pub fn new() -> Held
+impl InputBuffer {
+    pub fn new() -> InputBuffer
         ensures { result ≡ [] }
     {
-        Held {
+        InputBuffer {
             buffer: [0; 4096],
             at: 0,
             end: 0,
         }
     }
 
-    /// Takes a new piece where none is held.
+    /// Fills the buffer, which has to be empty, by one read of the input.
     fn fill<I: Source>(&mut self, input: &mut I) -> Result<usize, Failed>
         requires { self.old ≡ [] }
         ensures filled { AfterFill self.new (I.left input.old) (I.left input.new) result }
-        ensures few { length self.new ≤ piece_bytes }
+        ensures few { length self.new ≤ buffer_bytes }
         ensures cause { HasCause (I.faults input.old) (I.faults input.new) result }
     {
         self.at = 0;
@@ -53,7 +53,7 @@ impl Held {
     fn first(&mut self) -> u8
         requires { 0 < length self.old }
         ensures is { self.old ≡ result ∷ self.new }
-        ensures few { length self.old ≤ piece_bytes }
+        ensures few { length self.old ≤ buffer_bytes }
     {
         let byte = self.buffer[self.at];
         self.at += 1;
@@ -66,11 +66,11 @@ impl Held {
         self.at == self.end
     }
 
-    /// Takes the next byte: a held one, or the first of a new piece.
+    /// Takes the next byte: one from the buffer, which is filled first where it is empty.
     pub fn byte<I: Source>(&mut self, input: &mut I) -> Result<Option<u8>, Failed>
         ensures took { AfterByte (prepended self.old (I.left input.old))
             (prepended self.new (I.left input.new)) result }
-        ensures few { length self.new ≤ piece_bytes }
+        ensures few { length self.new ≤ buffer_bytes }
         ensures cause { HasCause (I.faults input.old) (I.faults input.new) result }
     {
         if !self.is_empty() {

@@ -1,5 +1,5 @@
 use Rattle.mg_reply.proofs.ReadingLaws.{from_held, filled_none, filled_some}
-use Rattle.mg_reply.proofs.held.Held.byte.Goals as goal
+use Rattle.mg_reply.proofs.input_buffer.InputBuffer.byte.Goals as goal
 
 pub returns-then-not-is_empty-clause-took : goal.returns-then-not-is_empty-clause-took
 returns-then-not-is_empty-clause-took g c = from_held _ _ _ _ c.first.ensures.is
