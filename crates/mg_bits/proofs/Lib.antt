@@ -13,5 +13,8 @@ mod EightBytes
 mod ByteLaws
 mod HeldPages
 mod Growing
+mod PutLaws
+mod ReadLaws
+mod WindowLaws
 mod CodeLaws
 mod SameNames

@@ -1,10 +1,13 @@
 -- What contracts see of a bit writer, and what its calls do.
-use Rattle.std.specs.Prelude.{◌≡◌, ◌+◌, ◌≤◌, ◌++◌, ℕ, List, length, take}
+use Rattle.std.specs.Prelude.{◌≡◌, ◌+◌, ◌≤◌, ◌<◌, ◌++◌, ℕ, List, length, take, OnOk}
 use Rattle.std.specs.Option.{IsSome}
 use Rattle.std.specs.declared.option.Option.{Option}
-use Rattle.mg_dev.specs.Files.{Files, bytes_at}
+use Rattle.std.specs.declared.result.Result.{Result}
+use Rattle.mg_dev.specs.Causes.{HasPutCause}
+use Rattle.mg_dev.specs.Files.{Files, Reads, bytes_at}
+use Rattle.mg_dev.specs.declared.device.PutErr.{PutErr}
 use Rattle.mg_defs.specs.Bits.{Bits, bits_of, digits, to_byte}
-use Rattle.mg_bits.specs.Writer.{AreBytes}
+use Rattle.mg_bits.specs.Writer.{AreBytes, KeepsBytes, WroteTo}
 
 -- a bit writer: the full name of its file, the bits that it still holds, and how many were written
 pub record BitWriting : Type 0 where
@@ -41,3 +44,22 @@ pub record GrewBy (old new bits : Bits) : Type 0 where
 abbrev pub GrewBits : List ℕ → Option Files → Option Files → Bits → Type 0
 GrewBits name files_before files_now bits = IsSome files_before →
     GrewBy (bits_of (bytes_at files_before name)) (bits_of (bytes_at files_now name)) bits
+
+-- bits are put behind those that a writer took, or the first of them before the call is refused
+pub record PutsBits (old new : BitWriting) (piece : Bits) (result : Result (Unit {0}) PutErr) (files_before files_now : Option Files)
+    (reads_before reads_now : Reads) (faults_before faults_now : ℕ) : Type 0
+  where
+    -- where the call is not refused, they were written
+    pub bits : OnOk result (WroteBits old new files_before files_now piece)
+    -- whatever it answers, the file grew by the first of the bits that were held or put
+    pub grew : GrewBits old.name files_before files_now (old.buffered ++ piece)
+    -- fewer bits than a page has are held
+    pub held : length new.buffered < 32768
+    -- the writer writes to the same file
+    pub name : new.name ≡ old.name
+    -- where the numbers of that file were bytes, they still are
+    pub still : KeepsBytes old.name files_before files_now
+    -- no other file changed, and no part was read
+    pub wrote : WroteTo old.name files_before files_now reads_before reads_now
+    -- a device's failure has a cause
+    pub cause : HasPutCause faults_before faults_now result

@@ -1,5 +1,6 @@
 pub mod Feed
 pub mod Pages
+pub mod ByteReads
 pub mod Windows
 pub mod FeedLaws
 pub mod Keeping

@@ -1,10 +1,12 @@
 -- What a call that reads bits does to a bit reader and its device, by the functions that tell what contracts see of both.
-use Rattle.std.specs.Prelude.{◌+◌, ℕ}
+use Rattle.std.specs.Prelude.{◌≡◌, ◌+◌, ◌<◌, ◌^◌, ℕ, IfOk, MatchResult, OnErr, OnOk}
+use Rattle.std.specs.declared.option.Option.{Option}
 use Rattle.std.specs.declared.result.Result.{Result}
+use Rattle.mg_dev.specs.Files.{Files}
 use Rattle.mg_defs.specs.Bits.{Bits, FromPlace}
 use Rattle.mg_bits.specs.Feed.{Feeding, Device, Read, ReadPart}
 use Rattle.mg_bits.specs.Reading.{Reading}
-use Rattle.mg_bits.specs.Reader.{EndHolds}
+use Rattle.mg_bits.specs.Reader.{DeviceCause, EndHolds}
 use Rattle.mg_bits.specs.declared.bit_err.BitErr.{BitErr}
 
 -- so many bits were read from the reader's place on
@@ -29,3 +31,29 @@ abbrev pub NextEndHolds : {Fed Dev : Type 0} → (Fed → Feeding) → (Dev → 
     Result ℕ BitErr → Type 0
 NextEndHolds feeding device old new before count result =
     FromNext feeding device old before (EndHolds result (feeding old.feed).page old.place count (feeding new.feed).held)
+
+-- so many bits are asked for from the reader's place on, and the answer tells this of them
+pub record ReadsNext {Fed Dev T : Type 0} (feeding : Fed → Feeding) (device : Dev → Device) (agrees : Fed → Option Files → Type 0)
+    (old new : Reading Fed) (before now : Dev) (count : ℕ) (result : Result T BitErr) (tells : Bits → Type 0) : Type 0
+  where
+    -- the page that is held agrees with what the device holds
+    pub fits : agrees new.feed (device now).files
+    -- where the call is not refused, these bits were read
+    pub read : OnOk result (ReadNext feeding device old new before now count)
+    -- where it is refused, some of them were
+    pub part : OnErr result (ReadNextPart feeding device old new before now count)
+    -- the place is behind them, or where it was if the call is refused
+    pub place : MatchResult result (λ _. new.place ≡ old.place + count) (λ _. new.place ≡ old.place)
+    -- the bits are as the answer tells
+    pub told : FromNext feeding device old before tells
+    -- a device's failure has a cause
+    pub cause : DeviceCause result (device before).faults (device now).faults
+
+-- so many bits are asked for as a number
+pub record ReadsNumber {Fed Dev : Type 0} (feeding : Fed → Feeding) (device : Dev → Device) (agrees : Fed → Option Files → Type 0)
+    (old new : Reading Fed) (before now : Dev) (count : ℕ) (result : Result ℕ BitErr) (tells : Bits → Type 0) : Type 0
+  where
+    -- they are read, or some of them
+    pub next : ReadsNext feeding device agrees old new before now count result tells
+    -- so many bits write the number
+    pub below : IfOk result (λ value. value < 2 ^ count)

@@ -5,7 +5,7 @@ ghost use Rattle.mg_bits.specs.Feed.{HasBits, HoldsBits, KeepsPage, ToldBits};
 ghost use Rattle.mg_defs.specs.Bits.{Begins, digits};
 ghost use Rattle.mg_bits.specs.Keeping.{Keeps};
 ghost use Rattle.mg_bits.specs.Reader.{AnswersBit, AnswersBits, AnswersPiece, DeviceCause, at_place};
-ghost use Rattle.mg_bits.specs.NextBits.{ReadNextPart, ReadNext, NextEndHolds, FromNext};
+ghost use Rattle.mg_bits.specs.NextBits.{ReadNextPart, ReadNext, ReadsNext, ReadsNumber, NextEndHolds, FromNext};
 
 use crate::kept_bits::KeptBits;
 use crate::{BitErr, Feed};
@@ -94,19 +94,10 @@ impl<F: Feed> BitReader<F> {
         requires place { self.old.place + count < 2 ^ 64 }
         requires some { 0 < count }
         requires room { self.old.place % 8 + count ≤ 8 }
-        ensures fits { F.fits self.new.feed (F.device dev.new).files }
-        ensures read { OnOk result (ReadNext F.feeding F.device self.old self.new dev.old dev.new
-            count) }
-        ensures part { OnErr result (ReadNextPart F.feeding F.device self.old self.new dev.old
-            dev.new count) }
-        ensures place { MatchResult result (λ _. self.new.place ≡ self.old.place + count)
-            (λ _. self.new.place ≡ self.old.place) }
-        ensures below { IfOk result (λ value. value < 2 ^ count) }
+        ensures number { ReadsNumber F.feeding F.device F.fits self.old self.new dev.old dev.new
+            count result (AnswersPiece result self.old.place count) }
         ensures keeps { KeepsPage (F.feeding self.old.feed) (F.feeding self.new.feed)
             self.old.place }
-        ensures told { FromNext F.feeding F.device self.old dev.old
-            (AnswersPiece result self.old.place count) }
-        ensures cause { DeviceCause result (F.device dev.old).faults (F.device dev.new).faults }
     {
         let place = self.place;
         self.kept = KeptBits::none();
@@ -156,18 +147,9 @@ impl<F: Feed> BitReader<F> {
         requires fits { F.fits self.old.feed (F.device dev.old).files }
         requires place { self.old.place + count < 2 ^ 64 }
         requires count { count ≤ 64 }
-        ensures fits { F.fits self.new.feed (F.device dev.new).files }
-        ensures read { OnOk result (ReadNext F.feeding F.device self.old self.new dev.old dev.new
-            count) }
-        ensures part { OnErr result (ReadNextPart F.feeding F.device self.old self.new dev.old
-            dev.new count) }
-        ensures place { MatchResult result (λ _. self.new.place ≡ self.old.place + count)
-            (λ _. self.new.place ≡ self.old.place) }
-        ensures below { IfOk result (λ value. value < 2 ^ count) }
-        ensures told { FromNext F.feeding F.device self.old dev.old
-            (AnswersBits result self.old.place count) }
+        ensures number { ReadsNumber F.feeding F.device F.fits self.old self.new dev.old dev.new
+            count result (AnswersBits result self.old.place count) }
         ensures end { NextEndHolds F.feeding F.device self.old self.new dev.old count result }
-        ensures cause { DeviceCause result (F.device dev.old).faults (F.device dev.new).faults }
     {
         let start = self.place();
         let mut value = 0u64;
@@ -216,28 +198,22 @@ impl<F: Feed> BitReader<F> {
     fn bit_of_feed(&mut self, dev: &mut F::Dev) -> Result<bool, BitErr>
         requires fits { F.fits self.old.feed (F.device dev.old).files }
         requires place { self.old.place + 1 < 2 ^ 64 }
-        ensures fits { F.fits self.new.feed (F.device dev.new).files }
-        ensures read { OnOk result (ReadNext F.feeding F.device self.old self.new dev.old dev.new
-            1) }
-        ensures part { OnErr result (ReadNextPart F.feeding F.device self.old self.new dev.old
-            dev.new 1) }
-        ensures place { MatchResult result (λ _. self.new.place ≡ self.old.place + 1)
-            (λ _. self.new.place ≡ self.old.place) }
-        ensures told { FromNext F.feeding F.device self.old dev.old
+        ensures { ReadsNext F.feeding F.device F.fits self.old self.new dev.old dev.new 1 result
             (AnswersBit result self.old.place) }
-        ensures cause { DeviceCause result (F.device dev.old).faults (F.device dev.new).faults }
     {
         self.keep();
         match self.kept_bit() {
             Some(bit) => Ok(bit),
-            None => Ok(self.piece(dev, 1)? == 1),
+            None => match self.piece(dev, 1) {
+                Ok(value) => Ok(value == 1),
+                Err(refusal) => Err(refusal),
+            },
         }
     }
 
     /// Keeps the bits of the next bit's byte, and of those behind it, that the page that is held has.
     fn keep(&mut self)
-        ensures feed { self.new.feed ≡ self.old.feed }
-        ensures place { self.new.place ≡ self.old.place }
+        ensures { self.new ≡ self.old }
     {
         self.kept = bits_at(&self.feed, self.place / 8);
     }
@@ -251,7 +227,7 @@ impl<F: Feed> BitReader<F> {
             result (λ bit. Begins (bit ∷ [])) }
         ensures held { OnSome result (HoldsBits (F.feeding self.old.feed) self.old.place 1) }
         ensures some { OnSome result (self.new.place ≡ self.old.place + 1) }
-        ensures none { IfNone result (self.new.place ≡ self.old.place) }
+        ensures none { IfNone result (self.new ≡ self.old) }
     {
         let place = self.place;
         let kept = self.kept;

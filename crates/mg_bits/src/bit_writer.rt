@@ -3,9 +3,10 @@ ghost use Rattle.std.specs.Prelude.{◌≡◌, ◌+◌, ◌*◌, ◌/◌, ◌%�
 ghost use Rattle.mg_dev.specs.Names.{full_name};
 ghost use Rattle.mg_dev.specs.Files.{AfterReset, bytes_at};
 ghost use Rattle.mg_dev.specs.Causes.{HasPutCause};
+ghost use Rattle.mg_dev.specs.Moments.{Between};
 ghost use Rattle.mg_defs.specs.Bits.{digits, bits_of, to_byte};
-ghost use Rattle.mg_bits.specs.Writer.{KeepsBytes, WroteTo};
-ghost use Rattle.mg_bits.specs.BitWriting.{GrewBits, Holds, WroteBits, bits_put, bits_filled};
+ghost use Rattle.mg_bits.specs.Writer.{WroteTo};
+ghost use Rattle.mg_bits.specs.BitWriting.{GrewBits, Holds, PutsBits, WroteBits, bits_put, bits_filled};
 
 use crate::PageWriter;
 use mg_dev::{FileRef, PutErr, Store};
@@ -92,7 +93,10 @@ impl<'a> BitWriter<'a> {
         while left > 0 {
             let size = left.min(8);
             left -= size;
-            self.put_piece(store, low(value >> left, size), size)?;
+            match self.put_piece(store, low(value >> left, size), size) {
+                Ok(()) => {}
+                Err(refusal) => return Err(refusal),
+            }
         }
         Ok(())
     }
@@ -113,9 +117,15 @@ impl<'a> BitWriter<'a> {
             (S.reads store.old) (S.reads store.new) }
         ensures cause { HasPutCause (S.faults store.old) (S.faults store.new) result }
     {
-        let size = (8 - (self.place % 8) as u32) % 8;
-        self.put_piece(store, 0, size)?;
-        Ok(())
+        let size = self.bits_to_byte();
+        self.put_piece(store, 0, size)
+    }
+
+    /// The number of bits from the place to the next byte.
+    fn bits_to_byte(&self) -> u32
+        ensures { result ≡ to_byte self.now.place }
+    {
+        (8 - (self.place % 8) as u32) % 8
     }
 
     /// Ends the file: writes zero-bits to the next byte and appends what is held. Then the file
@@ -138,28 +148,21 @@ impl<'a> BitWriter<'a> {
             (S.reads store.old) (S.reads store.new) }
         ensures cause { HasPutCause (S.faults store.old) (S.faults store.new) result }
     {
-        self.align(store)?;
-        self.flush(store)?;
-        Ok(())
+        let size = self.bits_to_byte();
+        match self.put_piece(store, 0, size) {
+            Ok(()) => self.flush(store),
+            Err(refusal) => Err(refusal),
+        }
     }
 
     /// Appends the bytes that are held.
     fn flush<S: Store>(&mut self, store: &mut S) -> Result<(), PutErr>
         requires whole { self.old.place % 8 ≡ 0 }
-        ensures bits { OnOk result (WroteBits self.old self.new (S.files store.old)
-            (S.files store.new) []) }
-        ensures grew { GrewBits self.old.name (S.files store.old) (S.files store.new)
-            self.old.buffered }
-        ensures held { length self.new.buffered < 32768 }
+        ensures put { Between S.files S.reads S.faults store.old store.new
+            (PutsBits self.old self.new [] result) }
         ensures nothing { OnOk result (self.new.buffered ≡ []) }
-        ensures name { self.new.name ≡ self.old.name }
-        ensures still { KeepsBytes self.old.name (S.files store.old) (S.files store.new) }
-        ensures wrote { WroteTo self.old.name (S.files store.old) (S.files store.new)
-            (S.reads store.old) (S.reads store.new) }
-        ensures cause { HasPutCause (S.faults store.old) (S.faults store.new) result }
     {
-        self.bytes.finish(store)?;
-        Ok(())
+        self.bytes.finish(store)
     }
 
     /// Writes at most eight bits.
@@ -168,16 +171,8 @@ impl<'a> BitWriter<'a> {
         requires place { self.old.place ≤ 2 ^ 63 + 2 ^ 62 + 64 }
         requires size { size ≤ 8 }
         requires bits { bits < 2 ^ size }
-        ensures bits { OnOk result (WroteBits self.old self.new (S.files store.old)
-            (S.files store.new) (digits size bits)) }
-        ensures grew { GrewBits self.old.name (S.files store.old) (S.files store.new)
-            (self.old.buffered ++ digits size bits) }
-        ensures held { length self.new.buffered < 32768 }
-        ensures name { self.new.name ≡ self.old.name }
-        ensures still { KeepsBytes self.old.name (S.files store.old) (S.files store.new) }
-        ensures wrote { WroteTo self.old.name (S.files store.old) (S.files store.new)
-            (S.reads store.old) (S.reads store.new) }
-        ensures cause { HasPutCause (S.faults store.old) (S.faults store.new) result }
+        ensures { Between S.files S.reads S.faults store.old store.new
+            (PutsBits self.old self.new (digits size bits) result) }
     {
         let total = self.count + size;
         let word = join(self.rest, self.count, bits, size);

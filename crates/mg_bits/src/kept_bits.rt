@@ -2,7 +2,7 @@
 ghost use Rattle.std.specs.Prelude.{◌≡◌};
 
 /// Bits that a bit reader keeps of the page that its feed holds.
-#[derive(Clone, Copy, Debug)]
+#[derive(Clone, Copy)]
 pub struct KeptBits {
     /// The place of the first of them.
     pub start: u64,

@@ -5,6 +5,7 @@ ghost use Rattle.mg_dev.specs.Files.{Files, SameReads, bytes_at};
 ghost use Rattle.mg_dev.specs.Names.{full_name};
 ghost use Rattle.mg_dev.specs.Causes.{HasCause, Rose};
 ghost use Rattle.mg_defs.specs.Bits.{Begins, digits};
+ghost use Rattle.mg_bits.specs.ByteReads.{AsksByte};
 ghost use Rattle.mg_bits.specs.Feed.{Calm, HasBits, HoldsBits, ReadPart, ReadsWithin, of_store, held_after, page_of, ToldBytes, OnRange, ToldBits};
 ghost use Rattle.mg_bits.specs.FeedLaws.{same_page};
 ghost use Rattle.mg_bits.specs.Pages.{Fits, SameFile, Looked, IsFilled, feeding_of, CopiedBehind, AsFeed};
@@ -93,23 +94,9 @@ impl<'a, S: Store> PageFeed<'a, S> {
     /// held.
     #[inline(never)]
     fn turn(&mut self, store: &mut S, at: u64) -> Result<Option<u8>, Failed>
-        requires fits { Fits self.old (S.files store.old) }
-        ensures fits { Fits self.new (S.files store.new) }
-        ensures file { SameFile self.old self.new }
-        ensures looked { Between S.files S.reads S.faults store.old store.new
-            (Looked self.old.part) }
-        ensures told { IsSome (S.files store.old) →
-            IfOk result (λ byte. byte ≡ slice_get (bytes_at (S.files store.old) self.old.name) at) }
-        ensures calm { AsFeed S.files S.reads S.faults self.old self.new store.old store.new Calm }
-        ensures pages { AsFeed S.files S.reads S.faults self.old self.new store.old store.new
-            (OnRange (8 * at) (8 * at + 1) ReadsWithin) }
-        ensures held { IfOk result (λ byte.
-            OnSome byte (self.new.held ≡ Some (page_of 4096 (8 * at)))) }
-        ensures keeps { self.old.held ≡ Some (page_of 4096 (8 * at)) →
-            self.new.held ≡ self.old.held }
-        ensures turned { self.new.held ≢ self.old.held →
-            Rose (S.reads store.old self.old.part) (S.reads store.new self.old.part) }
-        ensures cause { HasCause (S.faults store.old) (S.faults store.new) result }
+        requires { Fits self.old (S.files store.old) }
+        ensures { Between S.files S.reads S.faults store.old store.new
+            (AsksByte self.old self.new at result) }
     {
         let file = self.file;
         let mut window = self.window;

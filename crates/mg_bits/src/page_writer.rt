@@ -2,8 +2,9 @@
 ghost use Rattle.std.specs.Prelude.{◌≡◌, ◌<◌, ◌+◌, ◌++◌, ◌∷◌, [], IfOk, OnOk, length, take, IsSome};
 ghost use Rattle.mg_dev.specs.Names.{full_name};
 ghost use Rattle.mg_dev.specs.Causes.{HasPutCause};
-ghost use Rattle.mg_dev.specs.Files.{AfterAppend, AfterReset, GrewInPart, SameReads, grown};
-ghost use Rattle.mg_bits.specs.Writer.{Writing, put_to, KeepsBytes, WroteTo, Wrote};
+ghost use Rattle.mg_dev.specs.Files.{AfterReset, GrewInPart, grown};
+ghost use Rattle.mg_dev.specs.Moments.{Between};
+ghost use Rattle.mg_bits.specs.Writer.{Appends, KeepsBytes, Writing, Wrote, WroteTo, put_to};
 
 use mg_dev::{FileRef, PutErr, Store};
 use std::alloc::Global;
@@ -36,12 +37,8 @@ impl<'a> Model for PageWriter<'a> {
 
 /// Adds bytes at a file's end.
 fn append<S: Store>(store: &mut S, file: &FileRef<'_>, piece: &[u8]) -> Result<(), PutErr>
-    ensures content { AfterAppend (S.files store.old) (S.files store.new)
-        (full_name file.now.base.now file.now.part) piece.now result }
-    ensures still { KeepsBytes (full_name file.now.base.now file.now.part) (S.files store.old)
-        (S.files store.new) }
-    ensures reads { SameReads (S.reads store.old) (S.reads store.new) }
-    ensures cause { HasPutCause (S.faults store.old) (S.faults store.new) result }
+    ensures { Between S.files S.reads S.faults store.old store.new
+        (Appends (full_name file.now.base.now file.now.part) piece.now result) }
 {
     store.append(file, piece)
 }

@@ -1,13 +1,11 @@
 //! One page of a file, kept in a buffer.
-ghost use Rattle.std.specs.Prelude.{◌≡◌, ◌≢◌, ◌+◌, ◌-◌, ◌*◌, ◌/◌, ◌%◌, ◌≤◌, ◌<◌, ◌^◌, Option, Some, None, IfOk, IfSome, OnOk, OnSome, slice_get, length, IsSome};
+ghost use Rattle.std.specs.Prelude.{◌≡◌, ◌+◌, ◌-◌, ◌*◌, ◌/◌, ◌%◌, ◌≤◌, ◌<◌, ◌^◌, Some, None, IfSome, slice_get, length, IsSome};
 ghost use Rattle.std.specs.Bool.{OnTrue, OnFalse};
-ghost use Rattle.mg_dev.specs.Files.{bytes_at};
-ghost use Rattle.mg_dev.specs.Causes.{HasCause, Rose};
-ghost use Rattle.mg_bits.specs.Feed.{Calm, ReadsWithin, lacks, page_of, OnRange};
 ghost use Rattle.mg_defs.specs.Bits.{bits_of, digits};
-ghost use Rattle.mg_bits.specs.Pages.{IsFirst, IsWordIn};
-ghost use Rattle.mg_dev.specs.Names.{file_name};
-ghost use Rattle.mg_bits.specs.Windows.{KeptFrom, AsWindow};
+ghost use Rattle.mg_bits.specs.ByteReads.{ReadsByte, TurnsTo};
+ghost use Rattle.mg_bits.specs.Feed.{lacks};
+ghost use Rattle.mg_bits.specs.Pages.{IsWordIn};
+ghost use Rattle.mg_bits.specs.Windows.{AsWindow, IsWindow};
 
 use mg_dev::{Failed, FileRef, Store};
 
@@ -73,22 +71,10 @@ fn load<S: Store>(
     number: u64,
 ) -> Result<(), Failed>
     requires fits { length page.old * number < 2 ^ 64 }
-    requires within { window.old.count ≤ length page.old }
-    requires first { IsFirst window.old.held (length page.old) window.old.first window.old.count }
-    requires agrees { KeptFrom file.now window.old page.old (S.files store.old) }
-    ensures within { window.new.count ≤ length page.new }
-    ensures first { IsFirst window.new.held (length page.new) window.new.first window.new.count }
-    ensures agrees { KeptFrom file.now window.new page.new (S.files store.new) }
-    ensures calm { AsWindow S.files S.reads S.faults file.now page.old window.old window.new
-        store.old store.new Calm }
-    ensures device { S.reads store.new file.now.part ≤ S.reads store.old file.now.part
-        + lacks window.old.held number }
-    ensures feed { window.new.reads ≤ window.old.reads + lacks window.old.held number }
-    ensures held { OnOk result (window.new.held ≡ Some number) }
-    ensures keeps { window.old.held ≡ Some number → window.new.held ≡ window.old.held }
-    ensures turned { window.new.held ≢ window.old.held →
-        Rose (S.reads store.old file.now.part) (S.reads store.new file.now.part) }
-    ensures cause { HasCause (S.faults store.old) (S.faults store.new) result }
+    requires window { IsWindow file.now window.old page.old (S.files store.old) }
+    ensures window { IsWindow file.now window.new page.new (S.files store.new) }
+    ensures turn { AsWindow S.files S.reads S.faults file.now page.old window.old window.new
+        store.old store.new (TurnsTo file.now.part number result) }
 {
     if is_held(window.held, number) {
         return Ok(());
@@ -155,28 +141,13 @@ pub fn window_byte<S: Store>(
     requires number { number ≡ at / length page.old }
     requires offset { offset ≡ at % length page.old }
     requires some { 0 < length page.old }
-    requires within { window.old.count ≤ length page.old }
-    requires first { IsFirst window.old.held (length page.old) window.old.first window.old.count }
-    requires agrees { KeptFrom file.now window.old page.old (S.files store.old) }
-    ensures within { window.new.count ≤ length page.new }
-    ensures first { IsFirst window.new.held (length page.new) window.new.first window.new.count }
-    ensures agrees { KeptFrom file.now window.new page.new (S.files store.new) }
-    ensures told { IsSome (S.files store.old) →
-        IfOk result (λ byte. byte ≡ slice_get (bytes_at (S.files store.old) (file_name file.now))
-        at) }
-    ensures calm { AsWindow S.files S.reads S.faults file.now page.old window.old window.new
-        store.old store.new Calm }
-    ensures pages { AsWindow S.files S.reads S.faults file.now page.old window.old window.new
-        store.old store.new (OnRange (8 * at) (8 * at + 1) ReadsWithin) }
-    ensures held { IfOk result (λ byte.
-        OnSome byte (window.new.held ≡ Some (page_of (length page.old) (8 * at)))) }
-    ensures keeps { window.old.held ≡ Some (page_of (length page.old) (8 * at)) →
-        window.new.held ≡ window.old.held }
-    ensures turned { window.new.held ≢ window.old.held →
-        Rose (S.reads store.old file.now.part) (S.reads store.new file.now.part) }
-    ensures cause { HasCause (S.faults store.old) (S.faults store.new) result }
+    requires window { IsWindow file.now window.old page.old (S.files store.old) }
+    ensures window { IsWindow file.now window.new page.new (S.files store.new) }
+    ensures byte { AsWindow S.files S.reads S.faults file.now page.old window.old window.new
+        store.old store.new (ReadsByte file.now.part at result) }
 {
-    load(store, file, page, window, number)?;
-    let byte = byte_in(&page[..window.count], offset);
-    Ok(byte)
+    match load(store, file, page, window, number) {
+        Ok(()) => Ok(byte_in(&page[..window.count], offset)),
+        Err(failed) => Err(failed),
+    }
 }

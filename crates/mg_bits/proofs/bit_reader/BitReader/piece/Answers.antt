@@ -1,38 +1,32 @@
-use Rattle.std.proofs.Common.{arith, ◌∙◌, sym}
+use Rattle.std.proofs.Common.{arith, refl, ap, ◌+◌, ◌^◌}
+use Rattle.std.proofs.Math.Pow.{pow_pos}
+use Rattle.std.proofs.lemmas.Nat.{mod_below}
 use Rattle.mg_bits.proofs.Places.{page_of_place}
-use Rattle.mg_bits.proofs.Ranges.{within_piece, held_piece}
-use Rattle.mg_bits.proofs.BitPieces.{told_no_bit}
-use Rattle.mg_bits.proofs.BitPieces.{told_piece}
+use Rattle.mg_bits.proofs.BitPieces.{told_no_bit, told_piece}
+use Rattle.mg_bits.proofs.ReadLaws.{piece_got, piece_refused, told_any}
 use Rattle.mg_bits.proofs.bit_reader.BitReader.piece.Goals as goal
 
-pub returns-in-Err-clause-part : goal.returns-in-Err-clause-part
-returns-in-Err-clause-part g c = rw (← c.self.view_is) record {
-  calm = c.in-Err.ensures.calm;
-  pages = within_piece _ _ _ _ c.self.inside.place c.args.count c.requires.some (rw (← c.self.view_is) at c.requires.room) c.in-Err.ensures.pages;
-}
+pub returns-in-Err-clause-number : goal.returns-in-Err-clause-number
+returns-in-Err-clause-number g c =
+    let e = c.in-Err.ensures in
+    rw (← c.self.view_is)
+    (piece_refused c.requires.some (rw (← c.self.view_is) at c.requires.room) e.fits e.calm e.pages _ refl (told_any _ c.self.inside.place) e.cause.failed)
 
-pub returns-in-Ok-None-clause-part : goal.returns-in-Ok-None-clause-part
-returns-in-Ok-None-clause-part g c = rw (← c.self.view_is) record {
-  calm = c.in-Ok-None.ensures.calm;
-  pages = within_piece _ _ _ _ c.self.inside.place c.args.count c.requires.some (rw (← c.self.view_is) at c.requires.room) c.in-Ok-None.ensures.pages;
-}
+pub returns-in-Ok-None-clause-number : goal.returns-in-Ok-None-clause-number
+returns-in-Ok-None-clause-number g c =
+    let e = c.in-Ok-None.ensures in
+    rw (← c.self.view_is)
+    (piece_refused c.requires.some (rw (← c.self.view_is) at c.requires.room) e.fits e.calm e.pages _ refl
+    (told_no_bit _ c.self.inside.place (rw c.in-Ok-None.field-0-is at e.told)) tt)
 
-pub returns-in-Ok-None-clause-told : goal.returns-in-Ok-None-clause-told
-returns-in-Ok-None-clause-told g c = rw (← c.self.view_is) (told_no_bit _ c.self.inside.place (rw c.in-Ok-None.field-0-is at c.in-Ok-None.ensures.told))
-
-pub returns-in-Ok-Some-clause-read : goal.returns-in-Ok-Some-clause-read
-returns-in-Ok-Some-clause-read g c = rw (← c.self.view_is) record {
-  calm = c.in-Ok-Some.ensures.calm;
-  pages = within_piece _ _ _ _ c.self.inside.place c.args.count c.requires.some (rw (← c.self.view_is) at c.requires.room) c.in-Ok-Some.ensures.pages;
-  held = rw c.in-Ok-Some.field-0-is at c.in-Ok-Some.ensures.held
-      ∙ (rw page_of_place (sym (held_piece _ _ c.self.inside.place c.args.count c.requires.some (rw (← c.self.view_is) at c.requires.room))));
-}
-
-pub returns-in-Ok-Some-clause-told : goal.returns-in-Ok-Some-clause-told
-returns-in-Ok-Some-clause-told g c =
+pub returns-in-Ok-Some-clause-number : goal.returns-in-Ok-Some-clause-number
+returns-in-Ok-Some-clause-number g c =
+    let e = c.in-Ok-Some.ensures in
     let room = rw (← c.self.view_is) at c.requires.room in
     rw (← c.self.view_is, c.field.ensures)
-    (told_piece _ c.self.inside.place c.in-Ok-Some.byte c.args.count _ (omega (arith, room)) (rw c.in-Ok-Some.field-0-is at c.in-Ok-Some.ensures.told))
+    (piece_got c.requires.some room e.fits e.calm e.pages _ (ap (λ n. c.self.inside.place + n) c.from.ensures) (rw c.in-Ok-Some.field-0-is at e.held)
+    (told_piece _ c.self.inside.place c.in-Ok-Some.byte c.args.count _ (omega (arith, room)) (rw c.in-Ok-Some.field-0-is at e.told))
+    (mod_below _ (2 ^ c.args.count) (pow_pos c.args.count)))
 
 pub returns-in-Err-clause-keeps : goal.returns-in-Err-clause-keeps
 returns-in-Err-clause-keeps g c =

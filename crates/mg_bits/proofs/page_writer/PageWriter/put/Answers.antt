@@ -23,3 +23,15 @@ returns-in-Err-clause-grew g c =
     rw (← c.self.view_is)
     (grew_part _ _ _ _ _ c.in-Err.ensures.content (c.deref.ensures.value ∙ whole_page c.self.inside.page.items c.self.inside.used c.args.byte
     (omega (arith, c.self.invariant.0, c.self.invariant.1)) (omega (arith, c.self.invariant.0))))
+
+pub returns-in-Ok-clause-still : goal.returns-in-Ok-clause-still
+returns-in-Ok-clause-still g c = rw (← c.self.view_is) c.in-Ok.ensures.still
+
+pub returns-in-Ok-clause-wrote : goal.returns-in-Ok-clause-wrote
+returns-in-Ok-clause-wrote g c = rw (← c.self.view_is) c.in-Ok.ensures.wrote
+
+pub returns-in-Err-clause-still : goal.returns-in-Err-clause-still
+returns-in-Err-clause-still g c = rw (← c.self.view_is) c.in-Err.ensures.still
+
+pub returns-in-Err-clause-wrote : goal.returns-in-Err-clause-wrote
+returns-in-Err-clause-wrote g c = rw (← c.self.view_is) c.in-Err.ensures.wrote

@@ -13,4 +13,4 @@ pub returns-clause-grew : goal.returns-clause-grew
 returns-clause-grew g c = grew_through _ _ _ _ _ _ _ _ c.in-Ok.ensures.sent (ap (λ w. w.name) c.self-2.view_is ∙ c.in-Ok.ensures.name) c.append.ensures.content
 
 pub returns-clause-wrote : goal.returns-clause-wrote
-returns-clause-wrote g c = wrote_behind _ _ _ _ _ _ _ _ _ _ c.in-Ok.ensures.wrote (ap (λ w. w.name) c.self-2.view_is ∙ c.in-Ok.ensures.name) c.append.ensures.content c.append.ensures.reads
+returns-clause-wrote g c = wrote_behind _ _ _ _ _ _ _ _ _ _ c.in-Ok.ensures.wrote (ap (λ w. w.name) c.self-2.view_is ∙ c.in-Ok.ensures.name) c.append.ensures.content c.append.ensures.wrote.reads
