@@ -1,17 +1,17 @@
 -- Bytes that are read one after the other into a buffer.
-use Rattle.std.proofs.Common.{arith, zero, suc, ◌≡◌, ◌+◌, ◌-◌, ◌*◌, ◌/◌, ◌%◌, ◌≤◌, ◌<◌, ℕ, List, [], ◌∷◌, ◌++◌, length, take, drop, set, Some, slice_get, sym, ◌∙◌, ap, subst, length-take, length-drop}
+use Rattle.std.proofs.Common.{arith, zero, suc, ◌≡◌, ◌+◌, ◌-◌, ◌*◌, ◌/◌, ◌%◌, ◌≤◌, ◌<◌, ℕ, List, [], ◌∷◌, ◌++◌, length, take, drop, set, Some, None, inl, inr, slice_get, sym, ◌∙◌, ap, subst, length-take, length-drop}
 use Rattle.std.specs.declared.option.Option.{Option}
 use Rattle.std.specs.List.{slice_range}
 use Rattle.std.proofs.Math.Nat.{div-add-mod}
 use Rattle.std.proofs.Math.Seq.{take-add}
 use Rattle.std.proofs.lemmas.Slice.{take-put_mid}
-use Rattle.std.proofs.lemmas.List.{drop-drop, drop-take, take-take, take_more, take_more_set}
+use Rattle.std.proofs.lemmas.List.{drop-drop, drop-take, take-take, take_all, take_more, take_more_set}
 use borrow.Rule.Slice.PartMut.{put_mid}
-use Rattle.std.proofs.lemmas.Option.{slice_get_within, get_or_from_slice_get}
-use Rattle.mg_bits.specs.Feed.{Feeding, Device, Calm, HoldsBits, Read, ReadPart, ReadsWithin, page_of}
+use Rattle.std.proofs.lemmas.Option.{slice_get_cases, slice_get_within, get_or_from_slice_get}
+use Rattle.mg_bits.specs.Feed.{Feeding, Device, Calm, HoldsBits, Read, ReadPart, ReadsWithin, held_after, page_of}
 use Rattle.mg_dev.specs.declared.part.Part.{Part}
 use Rattle.mg_dev.specs.Files.{Files, Reads}
-use Rattle.mg_bits.specs.Pages.{IsPageIn, Looked}
+use Rattle.mg_bits.specs.Pages.{IsPageIn, Looked, Paging, SameFile}
 use Rattle.mg_bits.proofs.EightBytes.{page_from, read_held}
 use Rattle.mg_bits.proofs.Places.{slice_get-drop}
 use Rattle.mg_bits.proofs.Ranges.{within_piece, held_piece, read_more, part_more, part_wider}
@@ -93,3 +93,28 @@ looked_twice part f g h r s t a b c one two = record {
   later = λ p. omega (arith, one.later p, two.later p);
   others = λ p apart. two.others p apart ∙ one.others p apart;
 }
+
+-- one look at a file after the other
+pub same_then : {a b c : Paging} → SameFile a b → SameFile b c → SameFile a c
+same_then one two = record { name = two.name ∙ one.name; part = two.part ∙ one.part }
+
+pub looked_then : {part own : Part} {f g h : Option Files} {r s t : Reads} {a b c : ℕ} → own ≡ part → Looked part f g r s a b → Looked own g h s t b c → Looked part f h r t a c
+looked_then {part} {own} {f} {g} {h} {r} {s} {t} {a} {b} {c} same one two = looked_twice part f g h r s t a b c one (subst (λ p. Looked p g h s t b c) same two)
+
+-- the bytes end before the buffer is full
+pub ends_within : (buf bytes : List ℕ) (at i : ℕ) → i < length buf → None ≡ slice_get bytes (at + i) → length (drop at bytes) < length buf
+ends_within buf bytes at i within none = elim ((slice_get_cases bytes (at + i)).1) [
+  | inl found ↦ absurd (let there : None ≡ Some found.0 = none ∙ found.2 in cc)
+  | inr past ↦ omega (arith, length-drop at bytes, past.0, within)
+]
+
+-- the buffer is full
+pub whole_buffer : (buf bytes : List ℕ) (at i : ℕ) → i ≡ length buf → take i buf ≡ take i (drop at bytes) → buf ≡ take (length buf) (drop at bytes)
+whole_buffer buf bytes at i full same = sym (take_all (length buf) buf (omega arith)) ∙ subst (λ n. take n buf ≡ take n (drop at bytes)) full same
+
+pub whole_part : {f0 f1 : Feeding} {d0 d1 : Device} (at i n : ℕ) → i ≡ n → Read f0 f1 d0 d1 (8 * at) (8 * (at + i)) → ReadPart f0 f1 d0 d1 (8 * at) (8 * (at + n))
+whole_part {f0} {f1} {d0} {d1} at i n full read = subst (λ k. ReadPart f0 f1 d0 d1 (8 * at) (8 * (at + k))) full (record { calm = read.calm; pages = read.pages })
+
+pub whole_held : {f0 f1 : Feeding} {d0 d1 : Device} (at i n : ℕ) → i ≡ n → Read f0 f1 d0 d1 (8 * at) (8 * (at + i)) →
+    f1.held ≡ held_after f0.page f0.held (8 * at) (8 * (at + n))
+whole_held {f0} {f1} at i n full read = subst (λ k. f1.held ≡ held_after f0.page f0.held (8 * at) (8 * (at + k))) full read.held

@@ -122,13 +122,6 @@ bits_through w0 w1 f0 f1 f2 s p same one wrote two told =
     (ap (λ n. bits_of (bytes_at f1 n) ++ w1.buffered) (sym wrote.name) ∙ wrote.told told)
     (subst (λ n. GrewBy (bits_of (bytes_at f1 n)) (bits_of (bytes_at f2 n)) (w1.buffered ++ p)) wrote.name (two (same ∙ told)))
 
--- then what is held goes out
-pub bits_out : (w0 w1 : BitWriting) (f0 f1 f2 : Option Files) (s : Bits) → is_some f1 ≡ is_some f0 → GrewBits w0.name f0 f1 (w0.buffered ++ s) →
-    WroteBits w0 w1 f0 f1 s → GrewBits w1.name f1 f2 w1.buffered → GrewBits w0.name f0 f2 (w0.buffered ++ s)
-bits_out w0 w1 f0 f1 f2 s same one wrote two told =
-    let whole : GrewBits w1.name f1 f2 (w1.buffered ++ []) = λ t. subst (λ l. GrewBy (bits_of (bytes_at f1 w1.name)) (bits_of (bytes_at f2 w1.name)) l) (sym (append-nil w1.buffered)) (two t) in
-    subst (λ l. GrewBy (bits_of (bytes_at f0 w0.name)) (bits_of (bytes_at f2 w0.name)) (w0.buffered ++ l)) (append-nil s) (bits_through w0 w1 f0 f1 f2 s [] same one wrote whole told)
-
 -- the first bits of a number are a part of all
 first_digits : (count left value : ℕ) → left ≤ count → digits (count - left) (value / 2 ^ left) ++ digits left (value % 2 ^ left) ≡ digits count value
 first_digits count left value within =

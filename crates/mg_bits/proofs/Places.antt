@@ -99,18 +99,6 @@ calm_once name part page h0 h1 old new f0 f1 a b before now fits one same rose r
   };
 }
 
-pub calm_still : (name : List ℕ) (part : Part) (page : ℕ) (h0 h1 : Option ℕ) (count : ℕ) (files : Option Files) (faults : ℕ) (reads : Reads) →
-    Calm (over_file name part page h0 count) (over_file name part page h1 count) (of_store files faults reads) (of_store files faults reads)
-calm_still name part page h0 h1 count files faults reads = record {
-  source = refl;
-  part = refl;
-  page = refl;
-  files = refl;
-  faults = omega arith;
-  reads = record { later = λ part. omega arith; others = λ part differs. refl };
-  counted = record { later = omega arith; exact = λ own is small. omega arith };
-}
-
 -- the count of the part after one read
 pub one_read : (part : Part) (most : ℕ) (before now : Reads) → most ≡ 1 → OneRead before now part → now part ≤ before part + most
 one_read part most before now one read = omega (arith, read part, with_read-here before part)
@@ -170,10 +158,6 @@ pub told_file : (files : Option Files) (name : List ℕ) (got : Option ℕ) (at 
     IfSome (told_at files name) (λ bytes. got ≡ slice_get bytes at)
 told_file None name got at told = tt
 told_file (Some f) name got at told = told refl
-
--- the page of a byte is held
-pub within_held : (f : Feeding) (d : Device) (at : ℕ) → f.held ≡ Some (at / f.page) → ReadsWithin f f d d (8 * at) (8 * at + 1)
-within_held f d at held = record { device = λ part own. omega arith; feed = omega arith }
 
 pub held_byte : (page at : ℕ) (held : Option ℕ) → held ≡ Some (at / page) → held ≡ Some (page_of page (8 * at))
 held_byte page at held is = is ∙ ap Some (sym (page_of_byte page at))

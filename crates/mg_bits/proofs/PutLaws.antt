@@ -1,7 +1,7 @@
 -- What each way out of a writer's calls promises.
 use Rattle.std.proofs.Common.{arith, ◌≡◌, ◌+◌, ◌*◌, ◌/◌, ◌%◌, ◌<◌, ◌-◌, ◌^◌, ℕ, List, [], ◌∷◌, ◌++◌, length, refl, sym, ◌∙◌, ap, subst, Option, Result, Ok, Err, OnOk, IsSome, unwrap_or, append-nil}
 use Rattle.mg_dev.specs.Causes.{HasPutCause}
-use Rattle.mg_dev.specs.Files.{AfterAppend, Files, GrewInPart, Reads, SameReads, bytes_at, grown}
+use Rattle.mg_dev.specs.Files.{AfterAppend, Files, GrewInPart, Reads, SameReads, bytes_at, grown, written}
 use Rattle.mg_dev.specs.Laws.{file_at-written, append-others, append-told}
 use Rattle.mg_dev.specs.declared.device.PutErr.{PutErr}
 use Rattle.mg_defs.specs.Bits.{Bits, bits_of, digits}
@@ -23,6 +23,11 @@ appended {name} {piece} {r} {f} {g} small after same cause = record {
   wrote = record { told = append-told f g name piece r after; others = λ n apart. append-others f g name n piece r after apart; reads = same };
   cause = cause;
 }
+
+-- an empty file, and nothing held
+pub nothing_put : (name : List ℕ) (f g : Option Files) → g ≡ written f name [] → IsSome f → bytes_at g name ++ [] ≡ []
+nothing_put name f g out told =
+    append-nil (bytes_at g name) ∙ ap (λ files. bytes_at files name) out ∙ ap (λ o. unwrap_or o []) (file_at-written f name [] told)
 
 -- what was held went out
 pub bytes_sent : (name held : List ℕ) (f g : Option Files) → g ≡ grown f name held → IsSome f → bytes_at g name ++ [] ≡ (bytes_at f name ++ held) ++ []

@@ -4,7 +4,7 @@ use Rattle.std.specs.declared.option.Option.{Option}
 use Rattle.std.specs.declared.result.Result.{Result}
 use Rattle.std.proofs.lemmas.List.{take_more_set, take_all}
 use Rattle.mg_dev.specs.Files.{Files, Reads, SameReads, written, grown, bytes_at, file_at, AfterAppend}
-use Rattle.mg_dev.specs.Laws.{told-written, file_at-written, file_at-other, append-others, append-told}
+use Rattle.mg_dev.specs.Laws.{told-written, file_at-written, file_at-other}
 use Rattle.mg_bits.specs.Writer.{Writing, put_to, WroteTo, Wrote}
 
 pub wrote_nothing : (name : List ℕ) (files now : Option Files) (reads reads_now : Reads) → now ≡ files → SameReads reads reads_now → WroteTo name files now reads reads_now
@@ -47,12 +47,10 @@ wrote_through old mid files between now name piece (Ok u) before empty same is a
 }
 wrote_through old mid files between now name piece (Err e) before empty same is after = tt
 
--- an append after other writes
-pub wrote_behind : {E : Type 0} (files mid now : Option Files) (reads reads_mid reads_now : Reads) (name own piece : List ℕ) (r : Result (Unit {0}) E) →
-    WroteTo own files mid reads reads_mid → name ≡ own → AfterAppend mid now name piece r → SameReads reads_mid reads_now →
-    WroteTo own files now reads reads_now
-wrote_behind files mid now reads reads_mid reads_now name own piece r wrote same after still = record {
-  told = append-told mid now name piece r after ∙ wrote.told;
-  others = λ n apart. append-others mid now name n piece r after (λ e. apart (e ∙ same)) ∙ wrote.others n apart;
-  reads = λ part. still part ∙ wrote.reads part;
+-- one call that writes after another
+pub wrote_then : {own name : List ℕ} {f g h : Option Files} {r s t : Reads} → name ≡ own → WroteTo own f g r s → WroteTo name g h s t → WroteTo own f h r t
+wrote_then same one two = record {
+  told = two.told ∙ one.told;
+  others = λ n apart. two.others n (λ is. apart (is ∙ same)) ∙ one.others n apart;
+  reads = λ part. two.reads part ∙ one.reads part;
 }

@@ -43,7 +43,6 @@ fn append<S: Store>(store: &mut S, file: &FileRef<'_>, piece: &[u8]) -> Result<(
     store.append(file, piece)
 }
 
-#[tactic(auto, using(mg_dev::specs::Laws::file_laws))]
 impl<'a> PageWriter<'a> {
     /// A writer of a file, which it empties.
     pub fn start<S: Store>(alloc: Global, store: &mut S, file: FileRef<'a>) -> Result<Self, PutErr>

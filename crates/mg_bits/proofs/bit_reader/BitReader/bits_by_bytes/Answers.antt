@@ -24,8 +24,8 @@ loop-done-preserved g c =
       place = omega (arith, e.next.place);
       value = rw c.join-value.ensures (high_below c.loop-done.done c.min-size.result c.loop-done.value c.in-Ok.more c.loop-done.invariant.value e.below);
       told = rw c.join-value.ensures
-          (told_more ((g.F.Feed.feeding c.args.self.now.feed).source (g.F.Feed.device c.args.dev.now).files) c.args.self.now.place c.loop-done.done c.min-size.result c.loop-done.value c.in-Ok.more e.below
-          c.loop-done.invariant.told
+          (told_more ((g.F.Feed.feeding c.args.self.now.feed).source (g.F.Feed.device c.args.dev.now).files) c.args.self.now.place c.loop-done.done c.min-size.result
+          c.loop-done.value c.in-Ok.more e.below c.loop-done.invariant.told
           (rw (same_told _ _ _ _ c.loop-done.invariant.read.calm, c.loop-done.invariant.place) at e.next.told));
       read = read_step _ _ _ _ _ _ c.args.self.now.place c.loop-done.done c.min-size.result c.loop-done.self.place
           (g.met.F.Feed.whole_pages c.args.self.now.feed).some c.loop-done.invariant.place

@@ -14,4 +14,5 @@ returns-clause-put g c =
 
 pub returns-clause-nothing : goal.returns-clause-nothing
 returns-clause-nothing g c =
-    nothing_held c.finish.new.self c.self.inside.rest _ c.self.inside.place _ (no_rest c.self.inside.count c.self.inside.place (rw (← c.self.view_is) at c.requires.whole) c.self.invariant.2) c.finish.ensures.nothing
+    nothing_held c.finish.new.self c.self.inside.rest _ c.self.inside.place _
+    (no_rest c.self.inside.count c.self.inside.place (rw (← c.self.view_is) at c.requires.whole) c.self.invariant.2) c.finish.ensures.nothing

@@ -1,5 +1,5 @@
 use Rattle.std.proofs.Common.{ap, ◌∙◌}
-use Rattle.mg_bits.proofs.WriterLaws.{wrote_behind, wrote_through}
+use Rattle.mg_bits.proofs.WriterLaws.{wrote_then, wrote_through}
 use Rattle.mg_bits.proofs.Growing.{grew_through, grew_within}
 use Rattle.mg_bits.proofs.page_writer.PageWriter.put_all.Goals as goal
 
@@ -13,4 +13,4 @@ pub returns-clause-grew : goal.returns-clause-grew
 returns-clause-grew g c = grew_through _ _ _ _ _ _ _ _ c.in-Ok.ensures.sent (ap (λ w. w.name) c.self-2.view_is ∙ c.in-Ok.ensures.name) c.append.ensures.content
 
 pub returns-clause-wrote : goal.returns-clause-wrote
-returns-clause-wrote g c = wrote_behind _ _ _ _ _ _ _ _ _ _ c.in-Ok.ensures.wrote (ap (λ w. w.name) c.self-2.view_is ∙ c.in-Ok.ensures.name) c.append.ensures.content c.append.ensures.wrote.reads
+returns-clause-wrote g c = wrote_then (ap (λ w. w.name) c.self-2.view_is ∙ c.in-Ok.ensures.name) c.in-Ok.ensures.wrote c.append.ensures.wrote

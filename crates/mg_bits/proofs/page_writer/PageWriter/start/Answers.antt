@@ -1,5 +1,9 @@
+use Rattle.mg_bits.proofs.PutLaws.{nothing_put}
 use Rattle.mg_bits.proofs.WriterLaws.{wrote_written, wrote_reset}
 use Rattle.mg_bits.proofs.page_writer.PageWriter.start.Goals as goal
+
+pub returns-in-Ok-clause-empty : goal.returns-in-Ok-clause-empty
+returns-in-Ok-clause-empty g c = nothing_put _ _ _ c.in-Ok.ensures.content
 
 pub returns-in-Ok-clause-wrote : goal.returns-in-Ok-clause-wrote
 returns-in-Ok-clause-wrote g c = wrote_written _ _ _ _ _ _ c.in-Ok.ensures.content c.in-Ok.ensures.reads
