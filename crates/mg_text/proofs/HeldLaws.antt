@@ -1,15 +1,16 @@
 -- What of a document went to an empty sink in memory.
-use Rattle.std.proofs.Common.{arith, ◌≡◌, ◌≤◌, ◌-◌, ◌^◌, Option, ℕ, List, [], ◌++◌, length, take, sym, ap, subst, ◌∙◌, Some, Ok, Err}
+use Rattle.std.proofs.Common.{arith, ◌≡◌, ◌≢◌, ◌≤◌, ◌<◌, ◌+◌, ◌-◌, ◌^◌, ◌⊎◌, inl, inr, Option, Result, OnOk, refl, min, ℕ, List, [], ◌++◌, length, take, sym, ap, subst, ◌∙◌, Some, Ok, Err}
 use Rattle.std.proofs.lemmas.Grind.{common_steps}
-use Rattle.std.specs.declared.result.Result.{Result}
 use Rattle.mg_dev.specs.Bads.{IsNotBad}
+use Rattle.mg_dev.specs.PartCauses.{HasPartCause}
 use Rattle.mg_dev.specs.Streams.{AfterPut, appended}
 use Rattle.mg_dev.specs.declared.part_err.PartErr.{PartErr}
 use Rattle.mg_dev.specs.declared.part_err.PartErr.TheVariants.{Device, Memory, Bad}
 use Rattle.mg_dev.specs.declared.show_err.ShowErr.{ShowErr}
 use Rattle.mg_dev.specs.declared.show_err.ShowErr.TheVariants as show
 use Rattle.mg_dev.specs.Files.{Files}
-use Rattle.mg_text.specs.Held.{HasShortDocument}
+use Rattle.mg_text.specs.Held.{AnswersHeld, HasShortDocument, held_answer}
+use Rattle.mg_text.specs.Decoding.{IsShowCaused}
 use Rattle.mg_text.specs.Reading.{ShowIsNotBad, TextReading, TextStands}
 use Rattle.mg_text.proofs.StandLaws.{doc_short}
 
@@ -47,3 +48,38 @@ part_not_bad (Bad bad) fine = fine
 -- no document has more bytes than a collection may have
 pub any_short : (r : TextReading) (files : Option Files) (number : ℕ) (collection : List ℕ) → TextStands r files collection → HasShortDocument r files number (2 ^ 32 - 1) collection
 any_short r files number collection stands = record { stands = stands; short = omega (arith, doc_short collection (number - 1), stands.few) }
+
+-- ---- what is answered once a document was shown
+
+-- the document is longer than its bound
+pub long_answer : {most size : ℕ} (shown : Result (Unit {0}) ShowErr) (refusal : PartErr) → most < size → refusal ≢ Device → AnswersHeld most size shown (Err refusal)
+long_answer shown refusal longer other = record { whole = tt; bad = λ short fine. absurd (omega (arith, longer, short)); device = λ is. absurd (other cc) }
+
+-- it is no longer
+pub short_answer : {most size : ℕ} (shown : Result (Unit {0}) ShowErr) → size ≤ most → AnswersHeld most size shown (held_answer shown)
+short_answer (Ok done) short = record { whole = (refl, short); bad = λ le fine. tt; device = λ is. absurd cc }
+short_answer (Err (show.Part refusal)) short = record { whole = tt; bad = λ le fine. part_not_bad refusal fine; device = λ is. inl cc }
+short_answer (Err show.Write) short = record { whole = tt; bad = λ le fine. tt; device = λ is. inr refl }
+short_answer (Err show.Memory) short = record { whole = tt; bad = λ le fine. tt; device = λ is. absurd cc }
+
+module _ {most size : ℕ} {shown : Result (Unit {0}) ShowErr} where
+  pub held_in_bound : (result : Result (Unit {0}) PartErr) → AnswersHeld most size shown result → OnOk result (size ≤ most)
+  held_in_bound (Ok done) answers = answers.whole.1
+  held_in_bound (Err refusal) answers = tt
+
+  pub held_content : (result : Result (Unit {0}) PartErr) (before now doc : List ℕ) → AnswersHeld most size shown result → before ≡ [] → AfterPut (Some before) (Some now) doc shown → OnOk result (now ≡ doc)
+  held_content (Ok done) before now doc answers empty after = held_whole shown tt before now doc answers.whole.0 empty after
+  held_content (Err refusal) before now doc answers empty after = tt
+
+  -- the sink in memory never fails
+  pub held_cause : (result : Result (Unit {0}) PartErr) (m n before now : ℕ) → AnswersHeld most size shown result → m ≤ n → IsShowCaused shown m n 0 0 before now → HasPartCause m n result
+  held_cause (Ok done) m n before now answers le cause = record { later = le; device = tt }
+  held_cause (Err Memory) m n before now answers le cause = record { later = le; device = tt }
+  held_cause (Err (Bad bad)) m n before now answers le cause = record { later = le; device = tt }
+  held_cause (Err Device) m n before now answers le cause = record { later = le; device = failed (answers.device refl) }
+    where
+      failed : (shown ≡ Err (show.Part Device)) ⊎ (shown ≡ Err show.Write) → min (m + 1) (2 ^ 64 - 1) ≤ n
+      failed (inl is) = subst (λ (r : Result (Unit {0}) ShowErr). IsShowCaused r m n 0 0 before now) is cause
+      failed (inr is) =
+          let never : min (0 + 1) (2 ^ 64 - 1) ≤ 0 = subst (λ (r : Result (Unit {0}) ShowErr). IsShowCaused r m n 0 0 before now) is cause in
+          absurd (omega (arith, never))

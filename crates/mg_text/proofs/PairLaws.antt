@@ -113,17 +113,6 @@ held_decoded f0 f1 f2 d a p q x y before sink b b_now bytes found1 found2 one tw
       shown = shown_held before sink b b_now bytes (one ++ two) shown (subst (Keeps b b_now) (ap (λ l. l ++ found2) is1 ∙ ap (λ l. one ++ l) is2) keeps);
     }
 
--- the same where the reader and what is held are as before
-pub decoded_same : (f0 f1 g1 : Feeding) (d0 d1 : Seen) (a to p q : ℕ) (w0 w1 : Option (List ℕ)) (held kept : Gathering) (bytes : List ℕ) {most : ℕ} → g1 ≡ f1 → q ≡ p → kept ≡ held →
-    Decoded f0 f1 d0 d1 a to p w0 w1 held bytes most → Decoded f0 g1 d0 d1 a to q w0 w1 kept bytes most
-decoded_same f0 f1 g1 d0 d1 a to p q w0 w1 held kept bytes {most} feed place same decoded =
-    subst (λ f. Decoded f0 f d0 d1 a to q w0 w1 kept bytes most) (sym feed)
-    (subst (λ n. Decoded f0 f1 d0 d1 a to n w0 w1 kept bytes most) (sym place)
-    (subst (λ h. Decoded f0 f1 d0 d1 a to p w0 w1 h bytes most) (sym same) decoded))
-
-pub calm_same : (f0 f1 g1 : Feeding) (d0 d1 : Seen) → g1 ≡ f1 → Calm f0 f1 d0 d1 → Calm f0 g1 d0 d1
-calm_same f0 f1 g1 d0 d1 feed calm = subst (λ f. Calm f0 f d0 d1) (sym feed) calm
-
 -- ---- pairs in a list
 
 text_append : (ps qs : List Pair) → text (ps ++ qs) ≡ text ps ++ text qs

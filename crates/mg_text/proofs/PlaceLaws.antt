@@ -1,8 +1,35 @@
 -- A place in the bytes that a page feed filled in.
-use Rattle.std.proofs.Common.{arith, ◌≡◌, ◌^◌, ◌<◌, ℕ, Bool, true, false, List, [], ◌++◌, length, take, drop, min, refl, sym, ◌∙◌, ap, append-nil, length-take}
-use Rattle.mg_bits.specs.Pages.{IsFilled}
+use Rattle.std.proofs.Common.{arith, ◌≡◌, ◌+◌, ◌*◌, ◌^◌, ◌≤◌, ◌<◌, ℕ, Bool, true, false, List, [], ◌++◌, length, take, drop, min, Option, Some, None, refl, sym, ◌∙◌, ap, append-nil, length-take}
+use Rattle.std.proofs.lemmas.Grind.{common_steps}
+use Rattle.mg_dev.specs.Files.{Files, Reads}
+use Rattle.mg_bits.specs.Feed.{ReadPart, of_store, to_read}
+use Rattle.mg_bits.specs.Pages.{Fits, IsFilled, Looked, Paging, SameFile, feeding_of}
 use Rattle.mg_defs.specs.Numbers.{four, eight, four_at, eight_at}
 use Rattle.mg_defs.proofs.NumberLaws.{four_back, eight_back}
+use Rattle.mg_text.specs.Places.{ReadsPlace}
+
+-- four bytes at a multiple of four lie on one page
+four_read : (held : Option ℕ) (index : ℕ) → to_read 4096 held (8 * (4 * index)) (8 * (4 * index + 4)) ≤ 1
+four_read None index = grind (arith, common_steps)
+four_read (Some page) index = grind (arith, common_steps)
+
+-- eight bytes at a multiple of eight lie on one page
+eight_read : (held : Option ℕ) (index : ℕ) → to_read 4096 held (8 * (8 * index)) (8 * (8 * index + 8)) ≤ 1
+eight_read None index = grind (arith, common_steps)
+eight_read (Some page) index = grind (arith, common_steps)
+
+module _ {caused : ℕ → ℕ → Type 0} {old new : Paging} {f g : Option Files} {r s : Reads} {m n : ℕ} (fits : Fits new g) (file : SameFile old new) (looked : Looked old.part f g r s m n) (cause : caused m n) where
+  -- a place of four bytes was looked for
+  pub read_four : (index : ℕ) → ReadPart (feeding_of 4096 old) (feeding_of 4096 new) (of_store f m r) (of_store g n s) (8 * (4 * index)) (8 * (4 * index + 4)) → ReadsPlace old new caused f g r s m n
+  read_four index read = record { fits = fits; file = file; looked = looked; page = omega (arith, read.pages.device old.part refl, four_read old.held index); cause = cause }
+
+  -- a place of eight bytes was looked for
+  pub read_eight : (index : ℕ) → ReadPart (feeding_of 4096 old) (feeding_of 4096 new) (of_store f m r) (of_store g n s) (8 * (8 * index)) (8 * (8 * index + 8)) → ReadsPlace old new caused f g r s m n
+  read_eight index read = record { fits = fits; file = file; looked = looked; page = omega (arith, read.pages.device old.part refl, eight_read old.held index); cause = cause }
+
+-- the same reading, by another cause
+pub read_caused_by : {one other : ℕ → ℕ → Type 0} {old new : Paging} {f g : Option Files} {r s : Reads} {m n : ℕ} → ReadsPlace old new one f g r s m n → other m n → ReadsPlace old new other f g r s m n
+read_caused_by read cause = record { fits = read.fits; file = read.file; looked = read.looked; page = read.page; cause = cause }
 
 four_long : (n : ℕ) → length (four n) ≡ 4
 unfolding four

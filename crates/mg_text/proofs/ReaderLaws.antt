@@ -184,7 +184,7 @@ pub gather_told : (result : Result (Unit {0}) ShowErr) (r : TextReading) (files 
     (feed : Paging) (f1 : Feeding) (d0 d1 : Seen) (before : ℕ) (w0 w1 w2 : Option (List ℕ)) (b0 b : Gathering) (bytes : List ℕ) {most : ℕ} →
     TextStands r files collection → 1 ≤ number → number ≤ r.documents → mid ≡ files → from ≡ place_after r.code collection (number - 1) → place ≡ 8 * from →
     feed ≡ r.text → r.text.part ≡ part.Text → d0.reads part.Text ≡ before → Shown w0 w1 b0 bytes most → length (bytes ++ get_or (documents collection) (number - 1) []) ≤ most →
-    ((w : Option (List ℕ)) (bytes doc : List ℕ) (most : ℕ) → PairsIn r.code (parse doc) → length (parse doc) < 2 ^ 32 → place + length (coded_doc r.code doc) ≤ 2 ^ 63 →
+    ((doc : List ℕ) → PairsIn r.code (parse doc) → length (parse doc) < 2 ^ 32 → (w : Option (List ℕ)) (bytes : List ℕ) (most : ℕ) → place + length (coded_doc r.code doc) ≤ 2 ^ 63 →
     Shows (told_at mid feed.name) place (coded_doc r.code doc) → Shown w w1 b0 bytes most → length (bytes ++ doc) ≤ most →
     Ends result (Decoded (feeding_of 4096 feed) f1 d0 d1 place (place + length (coded_doc r.code doc)) next w w2 b (bytes ++ doc) most)
     (Stopped (feeding_of 4096 feed) f1 d0 d1 place (place + length (coded_doc r.code doc)) w w2 (bytes ++ doc))) →
@@ -197,7 +197,7 @@ gather_told result r files mid collection number from place next feed f1 d0 d1 b
     subst (λ n. AnswersGathered result w0 w2 b (bytes ++ doc) most before (d1.reads part.Text) (pages n (8 * place_after r.code collection number))) here
     (gather_answered result (feeding_of 4096 feed) f1 d0 d1 place (place + length (coded_doc r.code doc)) next (8 * place_after r.code collection number) before
     w0 w2 b (bytes ++ doc) most refl (ap (λ (f : Paging). Some f.part) fed ∙ ap Some own) stood.ends e
-    (told w0 bytes doc most stood.pairs stood.few stood.small stood.shows shown fits))
+    (told doc stood.pairs stood.few w0 bytes most stood.small stood.shows shown fits))
 
 -- the models were refused once the sizes were found to be right
 pub models_refused : (base : List ℕ) (files mid : Option Files) (head : Head) (refusal : PartErr) → mid ≡ files → AnswersTextSizes (stored_at files base head) (Ok tt) →

@@ -1,5 +1,6 @@
 -- What decoding the bits of a document does to the reader of bits, and to where the document's bytes go.
-use Rattle.std.specs.Prelude.{◌≡◌, ℕ, ◌+◌, ◌^◌, ◌≤◌, ◌<◌, ◌++◌, List, length, Some, Ok, Err, MatchResult}
+use Rattle.std.specs.Prelude.{◌≡◌, ℕ, ◌+◌, ◌^◌, ◌≤◌, ◌<◌, ◌++◌, Bool, List, length, take, Some, Ok, Err, MatchResult}
+use Rattle.std.specs.Bool.{OnFalse, OnTrue}
 use Rattle.std.specs.List.{AllByRecursion, flat_map}
 use Rattle.std.specs.declared.option.Option.{Option}
 use Rattle.std.specs.declared.result.Result.{Result}
@@ -12,7 +13,7 @@ use Rattle.mg_dev.specs.declared.part_err.PartErr.{PartErr}
 use Rattle.mg_dev.specs.declared.part_err.PartErr.TheVariants.{Device, Memory, Bad}
 use Rattle.mg_dev.specs.declared.show_err.ShowErr.{ShowErr}
 use Rattle.mg_dev.specs.declared.show_err.ShowErr.TheVariants as show
-use Rattle.mg_bits.specs.Feed.{Feeding, Device as Seen, Read, ReadsWithin}
+use Rattle.mg_bits.specs.Feed.{Calm, Feeding, Device as Seen, Read, ReadsWithin}
 use Rattle.mg_bits.specs.Reading.{Reading}
 use Rattle.mg_defs.specs.Bits.{Bits, Shows}
 use Rattle.mg_defs.specs.CodedText.{StreamCode, TextCode, codeword_of, coded_doc, coded_pair}
@@ -142,76 +143,6 @@ abbrev pub ReadsHeld : {Fed T : Type 0} → (Fed → Feeding) → (Option Files 
 ReadsHeld feeding fits r r_now bits value found = (d : Seen) → fits d.files →
     ReadsCode feeding (λ (seen : Seen). seen) r r_now d d bits value (Ok found)
 
--- where bits stand at a reader's place, bytes were shown or are held, and those of the bits may come too:
--- then these are so too and the reader stands behind them, or it stopped within them
-abbrev pub Decodes : {Fed Dev : Type 0} → (Fed → Feeding) → (Dev → Seen) → Reading Fed → Reading Fed → Dev → Dev →
-    Bits → Option (List ℕ) → Option (List ℕ) → Option (List ℕ) → Gathering → Gathering → List ℕ → List ℕ → ℕ →
-    Result (Unit {0}) ShowErr → Type 0
-Decodes feeding device r r_now d d_now bits before sent sent_now b b_now bytes bytes_now most result =
-    r.place + length bits ≤ 2 ^ 63 → Shows ((feeding r.feed).source (device d).files) r.place bits →
-    Shown before sent b bytes most → length bytes_now ≤ most →
-    Ends result
-    (Decoded (feeding r.feed) (feeding r_now.feed) (device d) (device d_now) r.place (r.place + length bits) r_now.place
-    before sent_now b_now bytes_now most)
-    (Stopped (feeding r.feed) (feeding r_now.feed) (device d) (device d_now) r.place (r.place + length bits) before
-    sent_now bytes_now)
-
--- ---- pieces, pairs and documents, behind whatever bytes were shown or are held
-
--- the piece of a code whose codeword stands at the reader's place
-abbrev pub ShowsPiece : {Fed Dev Out : Type 0} → (Fed → Feeding) → (Dev → Seen) → (Out → Option (List ℕ)) →
-    Reading Fed → Reading Fed → Dev → Dev → Out → Out → Gathering → Gathering → StreamCode →
-    Result (Unit {0}) ShowErr → Type 0
-ShowsPiece feeding device written r r_now d d_now out out_now b b_now code result =
-    (before : Option (List ℕ)) (bytes piece : List ℕ) (most : ℕ) → IsIn code piece →
-    Decodes feeding device r r_now d d_now (codeword_of code piece) before (written out) (written out_now) b b_now
-    bytes (bytes ++ piece) most result
-
--- the pair whose codewords stand there
-abbrev pub ShowsPair : {Fed Dev Out : Type 0} → (Fed → Feeding) → (Dev → Seen) → (Out → Option (List ℕ)) → Reading Fed →
-    Reading Fed → Dev → Dev → Out → Out → Gathering → Gathering → TextCode → Result (Unit {0}) ShowErr → Type 0
-ShowsPair feeding device written r r_now d d_now out out_now b b_now code result =
-    (before : Option (List ℕ)) (bytes : List ℕ) (most : ℕ) (p : Pair) → PairIn code p →
-    Decodes feeding device r r_now d d_now (coded_pair code p) before (written out) (written out_now) b b_now
-    bytes (bytes ++ (p.word ++ p.other)) most result
-
--- the same where the reader holds the bits: whatever device it agrees with and whatever sink there is, none is asked
-abbrev pub ShowsHeld : {Fed : Type 0} → (Fed → Feeding) → (Option Files → Type 0) → Reading Fed → Reading Fed →
-    Gathering → Gathering → TextCode → Type 0
-ShowsHeld feeding fits r r_now b b_now code = (d : Seen) (sink : Option (List ℕ)) → fits d.files →
-    ShowsPair feeding (λ (seen : Seen). seen) (λ (told : Option (List ℕ)). told) r r_now d d sink sink b b_now
-    code (Ok tt)
-
--- the pairs, so many, whose codewords stand there
-abbrev pub ShowsPairs : {Fed Dev Out : Type 0} → (Fed → Feeding) → (Dev → Seen) → (Out → Option (List ℕ)) →
-    Reading Fed → Reading Fed → Dev → Dev → Out → Out → Gathering → Gathering → TextCode → ℕ →
-    Result (Unit {0}) ShowErr → Type 0
-ShowsPairs feeding device written r r_now d d_now out out_now b b_now code count result =
-    (before : Option (List ℕ)) (bytes : List ℕ) (most : ℕ) (ps : List Pair) → PairsIn code ps → count ≡ length ps →
-    Decodes feeding device r r_now d d_now (coded_pairs code ps) before (written out) (written out_now) b b_now
-    bytes (bytes ++ text ps) most result
-
--- the document whose bits stand there
-abbrev pub ShowsDoc : {Fed Dev Out : Type 0} → (Fed → Feeding) → (Dev → Seen) → (Out → Option (List ℕ)) → Reading Fed →
-    Reading Fed → Dev → Dev → Out → Out → Gathering → Gathering → TextCode → Result (Unit {0}) ShowErr → Type 0
-ShowsDoc feeding device written r r_now d d_now out out_now b b_now code result =
-    (before : Option (List ℕ)) (bytes doc : List ℕ) (most : ℕ) → PairsIn code (parse doc) →
-    length (parse doc) < 2 ^ 32 →
-    Decodes feeding device r r_now d d_now (coded_doc code doc) before (written out) (written out_now) b b_now
-    bytes (bytes ++ doc) most result
-
--- that document, if it has at most so many bytes: whole and nothing else, or the first of its bytes
-abbrev pub ShowsWhole : {Fed Dev Out : Type 0} → (Fed → Feeding) → (Dev → Seen) → (Out → Option (List ℕ)) →
-    Reading Fed → Reading Fed → Dev → Dev → Out → Out → ℕ → TextCode → Result (Unit {0}) ShowErr → Type 0
-ShowsWhole feeding device written r r_now d d_now out out_now most code result = (doc : List ℕ) →
-    PairsIn code (parse doc) → length (parse doc) < 2 ^ 32 → length doc ≤ most →
-    r.place + length (coded_doc code doc) ≤ 2 ^ 63 →
-    Shows ((feeding r.feed).source (device d).files) r.place (coded_doc code doc) → Ends result
-    (WholeDoc (feeding r.feed) (feeding r_now.feed) (device d) (device d_now) r.place
-    (r.place + length (coded_doc code doc)) (written out) (written out_now) doc)
-    (Stopped (feeding r.feed) (feeding r_now.feed) (device d) (device d_now) r.place
-    (r.place + length (coded_doc code doc)) (written out) (written out_now) doc)
-
 -- ---- causes
 
 -- the store's failure, the sink's failure and the sink's want of memory each have a cause, and no other memory is wanted
@@ -239,14 +170,143 @@ abbrev pub PutCaused : {Out : Type 0} → (Out → ℕ) → (Out → ℕ) → Ou
 PutCaused faults lacks out out_now b piece result = IsPutCaused result b.left (length piece) (faults out)
     (faults out_now) (lacks out) (lacks out_now)
 
--- the same by the functions that tell a sink's faults and lacks
-abbrev pub ShowCaused : {Out : Type 0} → (Out → ℕ) → (Out → ℕ) → Out → Out → ℕ → ℕ → Result (Unit {0}) ShowErr → Type 0
-ShowCaused faults lacks out out_now before now result = IsShowCaused result before now (faults out) (faults out_now)
-    (lacks out) (lacks out_now)
-
 -- the store's failure has a cause, and no memory is wanted
 abbrev pub IsReadCaused : {T : Type 0} → Result T PartErr → ℕ → ℕ → Type 0
 IsReadCaused (Ok value) before now = Unit {0}
 IsReadCaused (Err Device) before now = Rose before now
 IsReadCaused (Err Memory) before now = ⊥
 IsReadCaused (Err (Bad bad)) before now = Unit {0}
+
+-- ---- the moment before a step and the one after it
+
+-- what decoding changes, at one moment: the feed and the place of the reader of bits, its device, the bytes on their
+-- way, and the sink
+pub record Moment : Type 0 where
+  pub feed : Feeding
+  pub place : ℕ
+  pub device : Seen
+  pub held : Gathering
+  pub sink : SinkAt
+
+-- what relates the moment before a step to the one after it
+abbrev pub DecodingStep : Type 1
+DecodingStep = (old new : Moment) → Type 0
+
+-- a moment, by the functions that tell of a feed, of a device and of a sink
+abbrev pub moment_of : {Fed Dev Out : Type 0} → (Fed → Feeding) → (Dev → Seen) → (Out → Option (List ℕ)) → (Out → ℕ) →
+    (Out → ℕ) → Reading Fed → Dev → Gathering → Out → Moment
+moment_of feeding device written faults lacks r d b out = record {
+  feed = feeding r.feed;
+  place = r.place;
+  device = device d;
+  held = b;
+  sink = sink_at written faults lacks out;
+}
+
+-- where bits stand at the place, and the bytes that they code may come behind those that were shown or are held: all of
+-- them come and the reader stands behind the bits, or it stopped within them
+abbrev pub Brings : Bits → List ℕ → Result (Unit {0}) ShowErr → DecodingStep
+Brings bits bytes result old new = (before : Option (List ℕ)) (first : List ℕ) (most : ℕ) →
+    old.place + length bits ≤ 2 ^ 63 → Shows (old.feed.source old.device.files) old.place bits →
+    Shown before old.sink.written old.held first most → length (first ++ bytes) ≤ most →
+    Ends result
+    (Decoded old.feed new.feed old.device new.device old.place (old.place + length bits) new.place before
+    new.sink.written new.held (first ++ bytes) most)
+    (Stopped old.feed new.feed old.device new.device old.place (old.place + length bits) before new.sink.written
+    (first ++ bytes))
+
+-- the piece of a code whose codeword stands at the place
+abbrev pub ShowsPiece : StreamCode → Result (Unit {0}) ShowErr → DecodingStep
+ShowsPiece code result old new = (piece : List ℕ) → IsIn code piece →
+    Brings (codeword_of code piece) piece result old new
+
+-- the pair whose codewords stand there
+abbrev pub ShowsPair : TextCode → Result (Unit {0}) ShowErr → DecodingStep
+ShowsPair code result old new = (p : Pair) → PairIn code p →
+    Brings (coded_pair code p) (p.word ++ p.other) result old new
+
+-- the pairs, so many, whose codewords stand there
+abbrev pub ShowsPairs : TextCode → ℕ → Result (Unit {0}) ShowErr → DecodingStep
+ShowsPairs code count result old new = (ps : List Pair) → PairsIn code ps → count ≡ length ps →
+    Brings (coded_pairs code ps) (text ps) result old new
+
+-- the first pairs, so many, of those whose codewords stand there and which all may come
+abbrev pub ShowsFirst : TextCode → ℕ → ℕ → DecodingStep
+ShowsFirst code count shown old new = (ps : List Pair) → PairsIn code ps → count ≡ length ps →
+    (before : Option (List ℕ)) (first : List ℕ) (most : ℕ) → old.place + length (coded_pairs code ps) ≤ 2 ^ 63 →
+    Shows (old.feed.source old.device.files) old.place (coded_pairs code ps) →
+    Shown before old.sink.written old.held first most → length (first ++ text ps) ≤ most →
+    Decoded old.feed new.feed old.device new.device old.place
+    (old.place + length (coded_pairs code (take shown ps))) new.place before new.sink.written new.held
+    (first ++ text (take shown ps)) most
+
+-- the document whose bits stand there
+abbrev pub ShowsDoc : TextCode → Result (Unit {0}) ShowErr → DecodingStep
+ShowsDoc code result old new = (doc : List ℕ) → PairsIn code (parse doc) → length (parse doc) < 2 ^ 32 →
+    Brings (coded_doc code doc) doc result old new
+
+-- that document, if it has at most as many bytes as may come: whole and nothing else, or the first of its bytes
+abbrev pub ShowsWhole : TextCode → Result (Unit {0}) ShowErr → DecodingStep
+ShowsWhole code result old new = (doc : List ℕ) → PairsIn code (parse doc) → length (parse doc) < 2 ^ 32 →
+    length doc ≤ old.held.left → old.place + length (coded_doc code doc) ≤ 2 ^ 63 →
+    Shows (old.feed.source old.device.files) old.place (coded_doc code doc) → Ends result
+    (WholeDoc old.feed new.feed old.device new.device old.place (old.place + length (coded_doc code doc))
+    old.sink.written new.sink.written doc)
+    (Stopped old.feed new.feed old.device new.device old.place (old.place + length (coded_doc code doc))
+    old.sink.written new.sink.written doc)
+
+-- what every reading of a number promises, beside the number
+pub record ReadsNumber {T : Type 0} (agrees : Type 0) (result : Result T PartErr) (old new : Feeding) (before now : Seen) :
+    Type 0 where
+  -- what the reader of bits keeps agrees with the files
+  pub fits : agrees
+  -- the reader of bits and its device changed as reading changes them
+  pub calm : Calm old new before now
+  -- a refusal has its cause
+  pub cause : IsReadCaused result before.faults now.faults
+
+-- what every step of decoding promises, beside what it shows
+pub record Steps (agrees : Type 0) (tells : DecodingStep) (result : Result (Unit {0}) ShowErr) (old new : Moment) :
+    Type 0 where
+  -- what the reader of bits keeps agrees with the files
+  pub fits : agrees
+  -- the reader of bits and its device changed as reading changes them
+  pub calm : Calm old.feed new.feed old.device new.device
+  -- what stands at the place is shown
+  pub told : tells old new
+  -- the sink was given no more bytes than might come
+  pub added : AddedOf (bytes_to_come old.held) (bytes_to_come new.held) old.sink new.sink
+  -- a refusal has its cause
+  pub cause : IsShowCaused result old.device.faults new.device.faults old.sink.faults new.sink.faults old.sink.lacks
+      new.sink.lacks
+
+-- a step of decoding, by the functions that tell of a feed, of a device and of a sink
+abbrev pub Decodes : {Fed Dev Out : Type 0} → (Fed → Feeding) → (Fed → Option Files → Type 0) → (Dev → Seen) →
+    (Out → Option (List ℕ)) → (Out → ℕ) → (Out → ℕ) → Reading Fed → Reading Fed → Dev → Dev → Gathering →
+    Gathering → Out → Out → (Result (Unit {0}) ShowErr → DecodingStep) → Result (Unit {0}) ShowErr → Type 0
+Decodes feeding fits device written faults lacks r r_now d d_now b b_now out out_now tells result =
+    Steps (fits r_now.feed (device d_now).files) (tells result) result (moment_of feeding device written faults lacks r d b out)
+    (moment_of feeding device written faults lacks r_now d_now b_now out_now)
+
+-- ---- pairs that are held
+
+-- the pair whose codewords stand there is held: whatever device the reader agrees with and whatever sink there is, none
+-- is asked
+abbrev pub ShowsHeld : {Fed : Type 0} → (Fed → Feeding) → (Option Files → Type 0) → Reading Fed → Reading Fed →
+    Gathering → Gathering → TextCode → Type 0
+ShowsHeld feeding fits r r_now b b_now code = (d : Seen) (sink : SinkAt) → fits d.files →
+    ShowsPair code (Ok tt)
+    (record { feed = feeding r.feed; place = r.place; device = d; held = b; sink = sink })
+    (record { feed = feeding r_now.feed; place = r_now.place; device = d; held = b_now; sink = sink })
+
+-- a pair is held where the answer is true, and else the buffer is as before; no device is asked
+pub record HoldsPair {Fed : Type 0} (feeding : Fed → Feeding) (fits : Fed → Option Files → Type 0) (r r_now : Reading Fed)
+    (b b_now : Gathering) (code : TextCode) (answer : Bool) : Type 0 where
+  -- the feed is as before
+  pub feed : r_now.feed ≡ r.feed
+  -- the pair is held
+  pub told : OnTrue answer (ShowsHeld feeding (fits r.feed) r r_now b b_now code)
+  -- nothing is held
+  pub kept : OnFalse answer (b_now ≡ b)
+  -- no more bytes may come than might
+  pub most : bytes_to_come b_now ≤ bytes_to_come b

@@ -1,10 +1,10 @@
 -- A place in the part of places.
-use Rattle.std.specs.Prelude.{◌≡◌, ℕ, ◌*◌, ◌^◌, ◌-◌, ◌<◌, ◌≤◌, ◌==◌, if◌then◌else◌, List, length, take, drop, Some, IfOk}
+use Rattle.std.specs.Prelude.{◌≡◌, ℕ, ◌+◌, ◌*◌, ◌^◌, ◌-◌, ◌<◌, ◌≤◌, ◌==◌, if◌then◌else◌, List, length, take, drop, Some, IfOk}
 use Rattle.std.specs.Option.{IsSome}
 use Rattle.std.specs.declared.option.Option.{Option}
 use Rattle.std.specs.declared.result.Result.{Result}
-use Rattle.mg_dev.specs.Files.{Files, bytes_at}
-use Rattle.mg_bits.specs.Pages.{Paging}
+use Rattle.mg_dev.specs.Files.{Files, Reads, bytes_at}
+use Rattle.mg_bits.specs.Pages.{Fits, Looked, Paging, SameFile}
 use Rattle.mg_defs.specs.CodedText.{TextCode, place_bytes, text_part}
 
 -- the bytes of a place
@@ -14,6 +14,20 @@ place_width version = if version == 1 then 4 else 8
 -- what a place is below
 abbrev pub place_limit : ℕ → ℕ
 place_limit version = if version == 1 then 2 ^ 32 else 2 ^ 64
+
+-- what reading a place promises, beside the place
+pub record ReadsPlace (old new : Paging) (caused : ℕ → ℕ → Type 0) (files_before files_now : Option Files)
+    (reads_before reads_now : Reads) (faults_before faults_now : ℕ) : Type 0 where
+  -- what the feed keeps of the part agrees with it
+  pub fits : Fits new files_now
+  -- the feed reads the same file
+  pub file : SameFile old new
+  -- nothing is read but the feed's part, and no file changes
+  pub looked : Looked old.part files_before files_now reads_before reads_now faults_before faults_now
+  -- at most one page is read
+  pub page : reads_now old.part ≤ reads_before old.part + 1
+  -- a refusal has its cause
+  pub cause : caused faults_before faults_now
 
 -- the place of an index is this one
 pub record IsPlaceAt (version index place : ℕ) (bytes : List ℕ) : Type 0 where

@@ -4,6 +4,7 @@ use Rattle.std.specs.Option.{IsSome}
 use Rattle.std.specs.declared.option.Option.{Option}
 use Rattle.std.specs.declared.result.Result.{Result}
 use Rattle.mg_dev.specs.Files.{Files, Reads, bytes_at}
+use Rattle.mg_dev.specs.Moments.{SinkAt}
 use Rattle.mg_dev.specs.Names.{full_name}
 use Rattle.mg_dev.specs.declared.part.Part.{Part}
 use Rattle.mg_dev.specs.declared.part.Part.TheVariants as part
@@ -13,7 +14,7 @@ use Rattle.mg_dev.specs.declared.show_err.ShowErr.{ShowErr}
 use Rattle.mg_dev.specs.declared.show_err.ShowErr.TheVariants as show
 use Rattle.mg_dev.specs.Streams.{AfterPut, GrewByPrefix, appended}
 use Rattle.mg_bits.specs.Alike.{WhereSame}
-use Rattle.mg_bits.specs.Pages.{Fits, Paging}
+use Rattle.mg_bits.specs.Pages.{Fits, LookedAt, Paging}
 use Rattle.mg_defs.specs.Bits.{bits_of}
 use Rattle.mg_defs.specs.CodedText.{IsTextCode, TextCode, doc_range, places_part, text_part}
 use Rattle.mg_defs.specs.WithinLimits.{IsWithinLimits}
@@ -28,7 +29,7 @@ use Rattle.mg_layout.specs.declared.head.Head.{Head}
 use Rattle.mg_model.specs.Damage.{AnswersLoad}
 use Rattle.mg_defs.specs.Means.{IsModel, Tell}
 use Rattle.mg_model.specs.Models.{PartsStand}
-use Rattle.mg_text.specs.Decoding.{Ends, Gathering, Gathers, Shown}
+use Rattle.mg_text.specs.Decoding.{AddedOf, Ends, Gathering, Gathers, IsShowCaused, Shown}
 use Rattle.mg_text_writer.specs.Documents.{TextHolds}
 use Rattle.mg_text.specs.Places.{most_text, place_width}
 
@@ -244,6 +245,23 @@ ShowsWithin files reads written r store store_now out out_now number most result
     (λ collection. length (document collection number) ≤ most →
     AnswersDoc result (written out) (written out_now) (document collection number)
     (reads store part.Text) (reads store_now part.Text) (document_pages r.code collection number))
+
+-- what decoding a document promises, whatever the parts hold
+pub record ReadsDocument (old new : TextReading) (most most_now : ℕ) (out out_now : SinkAt)
+    (result : Result (Unit {0}) ShowErr) (files_before files_now : Option Files) (reads_before reads_now : Reads)
+    (faults_before faults_now : ℕ) : Type 0 where
+  -- what the reader keeps of Text and Places agrees with them
+  pub fits : TextFits new files_now
+  -- it reads the same text
+  pub same : SameText old new
+  -- nothing is read but Text and Places, and no file changes
+  pub looked : LookedAt part.Text part.Places files_before files_now reads_before reads_now faults_before faults_now
+  -- at most one page of Places is read
+  pub places : reads_now part.Places ≤ reads_before part.Places + 1
+  -- the sink was given no more bytes than might come
+  pub added : AddedOf most most_now out out_now
+  -- a refusal has its cause
+  pub cause : IsShowCaused result faults_before faults_now out.faults out_now.faults out.lacks out_now.lacks
 
 -- no part is bad
 abbrev pub ShowIsNotBad : Result (Unit {0}) ShowErr → Type 0

@@ -1,11 +1,10 @@
 //! The bytes of a document, decoded piece by piece.
 ghost use Rattle.std.specs.Prelude.{◌≡◌, ◌≤◌, ◌<◌, ℕ, List, [], IfSome, slice_index};
-ghost use Rattle.std.specs.Bool.{OnTrue, OnFalse};
-ghost use Rattle.mg_bits.specs.Feed.{Calm};
+ghost use Rattle.std.specs.Bool.{OnFalse};
 ghost use Rattle.mg_defs.specs.CodedText.{codeword_of};
 ghost use Rattle.mg_defs.specs.Marks.{code_of};
 ghost use Rattle.mg_model.specs.Blocks.{short_piece};
-ghost use Rattle.mg_text.specs.Decoding.{AddsOf, IsIn, ReadsHeld, ShowsPiece, ShowsHeld, ShowsPairs, ShowsWhole, ShowCaused, ShowsPair, ShowsDoc, bytes_to_come};
+ghost use Rattle.mg_text.specs.Decoding.{Decodes, HoldsPair, IsIn, ReadsHeld, ShowsPiece, ShowsPairs, ShowsWhole, ShowsPair, ShowsDoc};
 
 use crate::show_buffer::ShowBuffer;
 use crate::symbols::{get_count, get_symbol, held_symbol};
@@ -24,15 +23,8 @@ fn show_piece<F: Feed, O: Sink>(
     out: &mut O,
 ) -> Result<(), ShowErr>
     requires fits { F.fits r.old.feed (F.device dev.old).files }
-    ensures fits { F.fits r.new.feed (F.device dev.new).files }
-    ensures calm { Calm (F.feeding r.old.feed) (F.feeding r.new.feed) (F.device dev.old)
-        (F.device dev.new) }
-    ensures told { ShowsPiece F.feeding F.device O.written r.old r.new dev.old dev.new out.old
-        out.new buffer.old buffer.new (code_of stream model.now) result }
-    ensures added { AddsOf O.written O.faults O.lacks out.old out.new (bytes_to_come buffer.old)
-        (bytes_to_come buffer.new) }
-    ensures cause { ShowCaused O.faults O.lacks out.old out.new (F.device dev.old).faults
-        (F.device dev.new).faults result }
+    ensures { Decodes F.feeding F.fits F.device O.written O.faults O.lacks r.old r.new dev.old
+        dev.new buffer.old buffer.new out.old out.new (ShowsPiece (code_of stream model.now)) result }
 {
     match get_symbol(model.canon(stream), r, dev) {
         Ok(symbol) => match model.short_piece(stream, symbol) {
@@ -54,24 +46,14 @@ fn show_pair<F: Feed, O: Sink>(
     out: &mut O,
 ) -> Result<(), ShowErr>
     requires fits { F.fits r.old.feed (F.device dev.old).files }
-    ensures fits { F.fits r.new.feed (F.device dev.new).files }
-    ensures calm { Calm (F.feeding r.old.feed) (F.feeding r.new.feed) (F.device dev.old)
-        (F.device dev.new) }
-    ensures told { ShowsPair F.feeding F.device O.written r.old r.new dev.old dev.new out.old
-        out.new buffer.old buffer.new model.now result }
-    ensures added { AddsOf O.written O.faults O.lacks out.old out.new (bytes_to_come buffer.old)
-        (bytes_to_come buffer.new) }
-    ensures cause { ShowCaused O.faults O.lacks out.old out.new (F.device dev.old).faults
-        (F.device dev.new).faults result }
+    ensures { Decodes F.feeding F.fits F.device O.written O.faults O.lacks r.old r.new dev.old
+        dev.new buffer.old buffer.new out.old out.new (ShowsPair model.now) result }
 {
     match show_piece(model, Stream::Words, r, dev, buffer, out) {
         Ok(()) => {}
         Err(refusal) => return Err(refusal),
     }
-    match show_piece(model, Stream::Others, r, dev, buffer, out) {
-        Ok(()) => Ok(()),
-        Err(refusal) => Err(refusal),
-    }
+    show_piece(model, Stream::Others, r, dev, buffer, out)
 }
 
 /// The entry of the piece of the stream whose codeword stands at the place, where the reader holds
@@ -104,11 +86,7 @@ fn held_entry<'a, F: Feed>(
 /// place may be another one, and the buffer is as before.
 #[inline]
 fn hold_next<F: Feed>(model: &TextModel, r: &mut BitReader<F>, buffer: &mut ShowBuffer) -> bool
-    ensures feed { r.new.feed ≡ r.old.feed }
-    ensures told { OnTrue result (ShowsHeld F.feeding (F.fits r.old.feed) r.old r.new buffer.old
-        buffer.new model.now) }
-    ensures kept { OnFalse result (buffer.new ≡ buffer.old) }
-    ensures most { bytes_to_come buffer.new ≤ bytes_to_come buffer.old }
+    ensures { HoldsPair F.feeding F.fits r.old r.new buffer.old buffer.new model.now result }
 {
     let word = match held_entry(model, Stream::Words, r) {
         Some(entry) => entry,
@@ -126,12 +104,8 @@ fn hold_next<F: Feed>(model: &TextModel, r: &mut BitReader<F>, buffer: &mut Show
 /// At `false` nothing changed.
 #[inline]
 fn show_held<F: Feed>(model: &TextModel, r: &mut BitReader<F>, buffer: &mut ShowBuffer) -> bool
-    ensures feed { r.new.feed ≡ r.old.feed }
-    ensures told { OnTrue result (ShowsHeld F.feeding (F.fits r.old.feed) r.old r.new buffer.old
-        buffer.new model.now) }
+    ensures held { HoldsPair F.feeding F.fits r.old r.new buffer.old buffer.new model.now result }
     ensures place { OnFalse result (r.new.place ≡ r.old.place) }
-    ensures kept { OnFalse result (buffer.new ≡ buffer.old) }
-    ensures most { bytes_to_come buffer.new ≤ bytes_to_come buffer.old }
 {
     let start = r.place();
     if hold_next(model, r, buffer) {
@@ -151,15 +125,8 @@ fn show_pairs<F: Feed, O: Sink>(
     count: u32,
 ) -> Result<(), ShowErr>
     requires fits { F.fits r.old.feed (F.device dev.old).files }
-    ensures fits { F.fits r.new.feed (F.device dev.new).files }
-    ensures calm { Calm (F.feeding r.old.feed) (F.feeding r.new.feed) (F.device dev.old)
-        (F.device dev.new) }
-    ensures told { ShowsPairs F.feeding F.device O.written r.old r.new dev.old dev.new out.old
-        out.new buffer.old buffer.new model.now count result }
-    ensures added { AddsOf O.written O.faults O.lacks out.old out.new (bytes_to_come buffer.old)
-        (bytes_to_come buffer.new) }
-    ensures cause { ShowCaused O.faults O.lacks out.old out.new (F.device dev.old).faults
-        (F.device dev.new).faults result }
+    ensures { Decodes F.feeding F.fits F.device O.written O.faults O.lacks r.old r.new dev.old
+        dev.new buffer.old buffer.new out.old out.new (ShowsPairs model.now count) result }
 {
     for _i in 0..count {
         if show_held(model, r, buffer) {
@@ -182,24 +149,14 @@ pub fn gather_doc<F: Feed, O: Sink>(
     out: &mut O,
 ) -> Result<(), ShowErr>
     requires fits { F.fits r.old.feed (F.device dev.old).files }
-    ensures fits { F.fits r.new.feed (F.device dev.new).files }
-    ensures calm { Calm (F.feeding r.old.feed) (F.feeding r.new.feed) (F.device dev.old)
-        (F.device dev.new) }
-    ensures told { ShowsDoc F.feeding F.device O.written r.old r.new dev.old dev.new out.old out.new
-        buffer.old buffer.new model.now result }
-    ensures added { AddsOf O.written O.faults O.lacks out.old out.new (bytes_to_come buffer.old)
-        (bytes_to_come buffer.new) }
-    ensures cause { ShowCaused O.faults O.lacks out.old out.new (F.device dev.old).faults
-        (F.device dev.new).faults result }
+    ensures { Decodes F.feeding F.fits F.device O.written O.faults O.lacks r.old r.new dev.old
+        dev.new buffer.old buffer.new out.old out.new (ShowsDoc model.now) result }
 {
     let count = match get_count(r, dev) {
         Ok(count) => count,
         Err(refusal) => return Err(ShowErr::Part(refusal)),
     };
-    match show_pairs(model, r, dev, buffer, out, count) {
-        Ok(()) => Ok(()),
-        Err(refusal) => Err(refusal),
-    }
+    show_pairs(model, r, dev, buffer, out, count)
 }
 
 /// Shows the document whose bits stand at the place, and no byte behind it. The buffer holds
@@ -213,15 +170,8 @@ pub fn show_doc<F: Feed, O: Sink>(
 ) -> Result<(), ShowErr>
     requires fits { F.fits r.old.feed (F.device dev.old).files }
     requires empty { buffer.old.held ≡ [] }
-    ensures fits { F.fits r.new.feed (F.device dev.new).files }
-    ensures calm { Calm (F.feeding r.old.feed) (F.feeding r.new.feed) (F.device dev.old)
-        (F.device dev.new) }
-    ensures told { ShowsWhole F.feeding F.device O.written r.old r.new dev.old dev.new out.old
-        out.new buffer.old.left model.now result }
-    ensures added { AddsOf O.written O.faults O.lacks out.old out.new (bytes_to_come buffer.old)
-        (bytes_to_come buffer.new) }
-    ensures cause { ShowCaused O.faults O.lacks out.old out.new (F.device dev.old).faults
-        (F.device dev.new).faults result }
+    ensures { Decodes F.feeding F.fits F.device O.written O.faults O.lacks r.old r.new dev.old
+        dev.new buffer.old buffer.new out.old out.new (ShowsWhole model.now) result }
 {
     match gather_doc(model, r, dev, buffer, out) {
         Ok(()) => {}

@@ -10,7 +10,7 @@ ghost use Rattle.mg_dev.specs.PartCauses.{HasPartCause};
 ghost use Rattle.mg_dev.specs.Streams.{AfterPut};
 ghost use Rattle.mg_dev.specs.declared.part.Part.TheVariants as part;
 ghost use Rattle.mg_bits.specs.Pages.{LookedAt};
-ghost use Rattle.mg_text.specs.Held.{ForShortDocument};
+ghost use Rattle.mg_text.specs.Held.{AnswersHeld, ForShortDocument, held_answer};
 ghost use Rattle.mg_text.specs.Reading.{PagesOfDocument, SameText, TextFits, WhereTextStands};
 
 use crate::text_reader::TextReader;
@@ -127,17 +127,20 @@ impl HeldDocument {
         self.bytes.clear();
         let shown = reader.doc(store, number, self);
         self.most = most;
+        self.answered(shown)
+    }
+
+    // What is answered once a document was shown to this sink. It stands apart, since each way out of
+    // `read` is proved with the reader in scope.
+    fn answered(&self, shown: Result<(), ShowErr>) -> Result<(), PartErr>
+        ensures { AnswersHeld self.now.most (length self.now.bytes.items) shown result }
+    {
+        let most = self.most;
         let found = self.bytes().len() as u64;
         if found > most {
             return Err(too_long(most, found));
         }
-        match shown {
-            Ok(()) => Ok(()),
-            Err(ShowErr::Part(refusal)) => Err(refusal),
-            // The document is held in memory: nothing fails there but for want of it.
-            Err(ShowErr::Write) => Err(PartErr::Device),
-            Err(ShowErr::Memory) => Err(PartErr::Memory),
-        }
+        held_answer(shown)
     }
 
     // How many bytes of a piece of this length are taken.
@@ -151,6 +154,18 @@ impl HeldDocument {
         } else {
             room as usize
         }
+    }
+}
+
+// The refusal of a document that is held in memory: nothing fails there but for want of it.
+fn held_answer(shown: Result<(), ShowErr>) -> Result<(), PartErr>
+    ensures { result ≡ held_answer shown }
+{
+    match shown {
+        Ok(()) => Ok(()),
+        Err(ShowErr::Part(refusal)) => Err(refusal),
+        Err(ShowErr::Write) => Err(PartErr::Device),
+        Err(ShowErr::Memory) => Err(PartErr::Memory),
     }
 }
 

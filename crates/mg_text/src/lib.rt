@@ -10,10 +10,10 @@
 
 mod closing;
 mod decoder;
-mod feeds;
 mod held_document;
 mod places;
 mod reader_laws;
+mod reader_parts;
 mod show_buffer;
 mod symbols;
 mod text_reader;

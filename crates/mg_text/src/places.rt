@@ -1,10 +1,10 @@
 //! Where documents begin in the text.
-ghost use Rattle.std.specs.Prelude.{◌≡◌, ◌+◌, ◌*◌, ◌≤◌, ◌<◌, ◌^◌, IfOk, Some};
+ghost use Rattle.std.specs.Prelude.{◌≡◌, ◌*◌, ◌≤◌, ◌<◌, ◌^◌, IfOk, Some};
 ghost use Rattle.mg_dev.specs.Causes.{HasCause};
-ghost use Rattle.mg_bits.specs.Pages.{Fits, Looked, SameFile};
+ghost use Rattle.mg_bits.specs.Pages.{Fits};
 ghost use Rattle.mg_defs.specs.Numbers.{eight, four};
 ghost use Rattle.mg_text.specs.Decoding.{IsReadCaused, Takes};
-ghost use Rattle.mg_text.specs.Places.{place_width, ForPlace, AnswersNumber};
+ghost use Rattle.mg_text.specs.Places.{place_width, ForPlace, AnswersNumber, ReadsPlace};
 ghost use Rattle.mg_dev.specs.Moments.{Between};
 
 use mg_bits::PageFeed;
@@ -28,12 +28,9 @@ fn narrow_place<S: Store>(
     index: u32,
 ) -> Result<Option<u64>, Failed>
     requires fits { Fits places.old (S.files store.old) }
-    ensures fits { Fits places.new (S.files store.new) }
-    ensures file { SameFile places.old places.new }
-    ensures looked { Between S.files S.reads S.faults store.old store.new (Looked places.old.part) }
+    ensures read { Between S.files S.reads S.faults store.old store.new
+        (ReadsPlace places.old places.new (λ before now. HasCause before now result)) }
     ensures told { AnswersNumber places.old (S.files store.old) 4 index four (2 ^ 32) result }
-    ensures page { S.reads store.new places.old.part ≤ S.reads store.old places.old.part + 1 }
-    ensures cause { HasCause (S.faults store.old) (S.faults store.new) result }
 {
     let mut bytes = [0u8; 4];
     match places.fill(store, 4 * u64::from(index), &mut bytes) {
@@ -50,12 +47,9 @@ fn wide_place<S: Store>(
     index: u32,
 ) -> Result<Option<u64>, Failed>
     requires fits { Fits places.old (S.files store.old) }
-    ensures fits { Fits places.new (S.files store.new) }
-    ensures file { SameFile places.old places.new }
-    ensures looked { Between S.files S.reads S.faults store.old store.new (Looked places.old.part) }
+    ensures read { Between S.files S.reads S.faults store.old store.new
+        (ReadsPlace places.old places.new (λ before now. HasCause before now result)) }
     ensures told { AnswersNumber places.old (S.files store.old) 8 index eight (2 ^ 64) result }
-    ensures page { S.reads store.new places.old.part ≤ S.reads store.old places.old.part + 1 }
-    ensures cause { HasCause (S.faults store.old) (S.faults store.new) result }
 {
     let mut bytes = [0u8; 8];
     match places.fill(store, 8 * u64::from(index), &mut bytes) {
@@ -73,13 +67,10 @@ fn read_place<S: Store>(
     index: u32,
 ) -> Result<Option<u64>, Failed>
     requires fits { Fits places.old (S.files store.old) }
-    ensures fits { Fits places.new (S.files store.new) }
-    ensures file { SameFile places.old places.new }
-    ensures looked { Between S.files S.reads S.faults store.old store.new (Looked places.old.part) }
+    ensures read { Between S.files S.reads S.faults store.old store.new
+        (ReadsPlace places.old places.new (λ before now. HasCause before now result)) }
     ensures told { ForPlace places.old (S.files store.old) version index
         (λ p. IfOk result (λ place. place ≡ Some p)) }
-    ensures page { S.reads store.new places.old.part ≤ S.reads store.old places.old.part + 1 }
-    ensures cause { HasCause (S.faults store.old) (S.faults store.new) result }
 {
     if version == 1 {
         return narrow_place(places, store, index);
@@ -96,14 +87,11 @@ pub fn first_byte<S: Store>(
     index: u32,
 ) -> Result<u64, PartErr>
     requires fits { Fits places.old (S.files store.old) }
-    ensures fits { Fits places.new (S.files store.new) }
-    ensures file { SameFile places.old places.new }
-    ensures looked { Between S.files S.reads S.faults store.old store.new (Looked places.old.part) }
+    ensures read { Between S.files S.reads S.faults store.old store.new
+        (ReadsPlace places.old places.new (IsReadCaused result)) }
     ensures small { IfOk result (λ from. from ≤ 2 ^ 60) }
     ensures told { ForPlace places.old (S.files store.old) version index
         (λ p. p ≤ size → p ≤ 2 ^ 60 → Takes result (λ from. from ≡ p) (Unit {0})) }
-    ensures page { S.reads store.new places.old.part ≤ S.reads store.old places.old.part + 1 }
-    ensures cause { IsReadCaused result (S.faults store.old) (S.faults store.new) }
 {
     let high = size.min(LAST);
     match read_place(places, store, version, index) {

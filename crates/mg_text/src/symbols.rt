@@ -1,9 +1,8 @@
 //! The numbers that are read of a document: how many pairs it has, and the symbols of its pieces.
 ghost use Rattle.std.specs.Prelude.{◌≡◌, ◌+◌, ◌<◌, ◌^◌, ℕ, IfOk, IfSome, length};
-ghost use Rattle.mg_bits.specs.Feed.{Calm};
 ghost use Rattle.mg_defs.specs.Canon.{codeword};
 ghost use Rattle.mg_defs.specs.Codes.{gamma};
-ghost use Rattle.mg_text.specs.Decoding.{IsReadCaused, ReadsCode, ReadsHeld};
+ghost use Rattle.mg_text.specs.Decoding.{ReadsCode, ReadsHeld, ReadsNumber};
 ghost use Rattle.mg_text.specs.Refusals.{IsRefused, IsDamaged};
 
 use mg_bits::{BitReader, CodeErr, Feed};
@@ -49,13 +48,11 @@ pub fn get_symbol<F: Feed>(
     dev: &mut F::Dev,
 ) -> Result<u32, PartErr>
     requires fits { F.fits r.old.feed (F.device dev.old).files }
-    ensures fits { F.fits r.new.feed (F.device dev.new).files }
-    ensures calm { Calm (F.feeding r.old.feed) (F.feeding r.new.feed) (F.device dev.old)
-        (F.device dev.new) }
+    ensures read { ReadsNumber (F.fits r.new.feed (F.device dev.new).files) result
+        (F.feeding r.old.feed) (F.feeding r.new.feed) (F.device dev.old) (F.device dev.new) }
     ensures symbol { IfOk result (λ s. s < length canon.now) }
     ensures told { (s : ℕ) → s < length canon.now →
         ReadsCode F.feeding F.device r.old r.new dev.old dev.new (codeword canon.now s) s result }
-    ensures cause { IsReadCaused result (F.device dev.old).faults (F.device dev.new).faults }
 {
     let at = r.place();
     if at > LAST || canon.count() == 0 {
@@ -88,12 +85,10 @@ pub fn held_symbol<F: Feed>(canon: &Canon, r: &mut BitReader<F>) -> Option<u32>
 /// How many pairs the document has whose bits stand at the place.
 pub fn get_count<F: Feed>(r: &mut BitReader<F>, dev: &mut F::Dev) -> Result<u32, PartErr>
     requires fits { F.fits r.old.feed (F.device dev.old).files }
-    ensures fits { F.fits r.new.feed (F.device dev.new).files }
-    ensures calm { Calm (F.feeding r.old.feed) (F.feeding r.new.feed) (F.device dev.old)
-        (F.device dev.new) }
+    ensures read { ReadsNumber (F.fits r.new.feed (F.device dev.new).files) result
+        (F.feeding r.old.feed) (F.feeding r.new.feed) (F.device dev.old) (F.device dev.new) }
     ensures told { (n : ℕ) → n < 2 ^ 32 →
         ReadsCode F.feeding F.device r.old r.new dev.old dev.new (gamma (n + 1)) n result }
-    ensures cause { IsReadCaused result (F.device dev.old).faults (F.device dev.new).faults }
 {
     let at = r.place();
     if at > LAST {

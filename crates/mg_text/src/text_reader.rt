@@ -8,13 +8,13 @@ ghost use Rattle.mg_defs.specs.Split.{documents};
 ghost use Rattle.mg_front.specs.Reading.{IsNotBad, LookedAt};
 ghost use Rattle.mg_text.specs.Decoding.{Added, AddsOf, IsShowCaused, bytes_to_come};
 ghost use Rattle.mg_text.specs.Held.{ForShortDocument, WhereShort};
-ghost use Rattle.mg_text.specs.Reading.{AnswersReader, AnswersTextSizes, IsTextReader, SameText, ShowIsNotBad, TextFits, TextStands, stored_at, WhereIsText, GathersDoc, DiffersInSize, GathersWithin, WhereTextStands, PagesOfDocument, ShowsWithin, WritesDocument};
-ghost use Rattle.mg_dev.specs.Moments.{Between};
+ghost use Rattle.mg_text.specs.Reading.{AnswersReader, AnswersTextSizes, IsTextReader, SameText, ShowIsNotBad, TextFits, TextStands, stored_at, WhereIsText, GathersDoc, DiffersInSize, GathersWithin, WhereTextStands, PagesOfDocument, ReadsDocument, ShowsWithin, WritesDocument};
+ghost use Rattle.mg_dev.specs.Moments.{Between, sink_at};
 ghost use Rattle.mg_dev.specs.Streams.{AfterPut};
 
 use crate::decoder::{gather_doc, show_doc};
-use crate::feeds::Feeds;
 use crate::places::{first_byte, width_of};
+use crate::reader_parts::ReaderParts;
 use crate::show_buffer::ShowBuffer;
 use mg_bits::{BitReader, PageFeed};
 use mg_dev::{FileRef, Part, PartErr, ShowErr, Sink, Store};
@@ -132,28 +132,29 @@ impl<'a, S: Store> TextReader<'a, S> {
         ensures reader { IfOk result (λ r. IsTextReader r base.entry.now head.now) }
         ensures model { IfOk result (λ r. r.code ≡ model) }
     {
-        match Feeds::new(alloc, base) {
-            Ok(feeds) => Ok(Self::of(feeds, head, model)),
+        match ReaderParts::new(alloc, base, model) {
+            Ok(parts) => Ok(Self::of(parts, head)),
             Err(refusal) => Err(refusal),
         }
     }
 
-    // A reader by these feeds and this model.
-    fn of(feeds: Feeds<'a, S>, head: &Head, model: TextModel) -> Self
-        requires text { feeds.text.part ≡ part.Text }
-        requires places { feeds.places.part ≡ part.Places }
-        ensures text { result.text ≡ feeds.entry.text }
-        ensures places { result.places ≡ feeds.entry.places }
-        ensures code { result.code ≡ model }
+    // A reader of these parts.
+    fn of(parts: ReaderParts<'a, S, TextModel>, head: &Head) -> Self
+        requires text { parts.text.part ≡ part.Text }
+        requires places { parts.places.part ≡ part.Places }
+        ensures text { result.text ≡ parts.entry.text }
+        ensures places { result.places ≡ parts.entry.places }
+        ensures code { result.code ≡ parts.entry.model }
         ensures version { result.version ≡ head.now.version }
         ensures documents { result.documents ≡ head.now.documents }
         ensures size { result.size ≡ head.now.text_bytes }
     {
-        let Feeds {
+        let ReaderParts {
             text,
             places,
             buffer,
-        } = feeds;
+            model,
+        } = parts;
         TextReader {
             text: BitReader::new(text, 0),
             places,
@@ -293,18 +294,12 @@ impl<'a, S: Store> TextReader<'a, S> {
         requires fits { TextFits self.old (S.files store.old) }
         requires some { 1 ≤ number }
         requires within { number ≤ self.old.documents }
-        ensures fits { TextFits self.new (S.files store.new) }
-        ensures same { SameText self.old self.new }
-        ensures looked { Between S.files S.reads S.faults store.old store.new
-            (LookedAt part.Text part.Places) }
+        ensures read { Between S.files S.reads S.faults store.old store.new
+            (ReadsDocument self.old self.new (bytes_to_come buffer.old) (bytes_to_come buffer.new)
+            (sink_at O.written O.faults O.lacks out.old)
+            (sink_at O.written O.faults O.lacks out.new) result) }
         ensures answer { GathersWithin S.files S.reads O.written self.old store.old store.new
             out.old out.new buffer.old buffer.new number result }
-        ensures places { S.reads store.new part.Places ≤ S.reads store.old part.Places + 1 }
-        ensures added { AddsOf O.written O.faults O.lacks out.old out.new (bytes_to_come buffer.old)
-            (bytes_to_come buffer.new) }
-        ensures cause { IsShowCaused result (S.faults store.old) (S.faults store.new)
-            (O.faults out.old) (O.faults out.new)
-            (O.lacks out.old) (O.lacks out.new) }
     {
         let (version, size) = (self.version, self.size);
         let index = number - 1;
@@ -329,17 +324,11 @@ impl<'a, S: Store> TextReader<'a, S> {
         requires fits { TextFits self.old (S.files store.old) }
         requires some { 1 ≤ number }
         requires within { number ≤ self.old.documents }
-        ensures fits { TextFits self.new (S.files store.new) }
-        ensures same { SameText self.old self.new }
-        ensures looked { Between S.files S.reads S.faults store.old store.new
-            (LookedAt part.Text part.Places) }
+        ensures read { Between S.files S.reads S.faults store.old store.new
+            (ReadsDocument self.old self.new most 0 (sink_at O.written O.faults O.lacks out.old)
+            (sink_at O.written O.faults O.lacks out.new) result) }
         ensures answer { ShowsWithin S.files S.reads O.written self.old store.old store.new out.old
             out.new number most result }
-        ensures places { S.reads store.new part.Places ≤ S.reads store.old part.Places + 1 }
-        ensures added { AddsOf O.written O.faults O.lacks out.old out.new most 0 }
-        ensures cause { IsShowCaused result (S.faults store.old) (S.faults store.new)
-            (O.faults out.old) (O.faults out.new)
-            (O.lacks out.old) (O.lacks out.new) }
     {
         let version = self.version;
         let size = self.size;

@@ -1,25 +1,13 @@
-use Rattle.std.proofs.Common.{[]}
-use Rattle.mg_text.proofs.Shows.{adds_more, shown_none}
-use Rattle.mg_text.proofs.Steps.{ends_more}
-use Rattle.mg_text.proofs.PairLaws.{put_refused}
+use Rattle.std.proofs.Common.{refl}
+use Rattle.mg_text.proofs.StepLaws.{whole_flushed, whole_refused, whole_unflushed}
 use Rattle.mg_text.proofs.decoder.show_doc.Goals as goal
 
-pub returns-in-Err-clause-told : goal.returns-in-Err-clause-told
-returns-in-Err-clause-told g c = λ doc all few short small shows.
-    ends_more c.in-Err.refusal _ _ _ _ (λ stopped. stopped) (c.in-Err.ensures.told _ [] doc c.args.buffer.now.left all few small shows (shown_none _ c.args.buffer.now c.requires.empty) short)
+pub returns-in-Err : goal.returns-in-Err
+returns-in-Err g c = whole_refused c.args.model.now c.in-Err.refusal c.requires.empty c.in-Err.ensures
 
-pub returns-in-Ok-flush-clause-told : goal.returns-in-Ok-flush-clause-told
-returns-in-Ok-flush-clause-told g c = λ doc all few short small shows.
-    let gathered = c.in-Ok.ensures.told _ [] doc c.args.buffer.now.left all few small shows (shown_none _ c.args.buffer.now c.requires.empty) short in
-    record { pages = gathered.read.pages; grew = c.in-Ok-flush.ensures.shown _ doc _ gathered.shown }
+pub returns-in-Ok-flush : goal.returns-in-Ok-flush
+returns-in-Ok-flush g c = whole_flushed c.args.model.now c.requires.empty c.in-Ok.ensures c.in-Ok.ensures.fits refl refl c.in-Ok-flush.ensures.shown c.in-Ok-flush.ensures.added
 
-pub returns-in-Ok-flush-clause-added : goal.returns-in-Ok-flush-clause-added
-returns-in-Ok-flush-clause-added g c = adds_more c.in-Ok.ensures.added c.in-Ok-flush.ensures.added
-
-pub returns-in-Err-flush-clause-told : goal.returns-in-Err-flush-clause-told
-returns-in-Err-flush-clause-told g c = λ doc all few short small shows.
-    let gathered = c.in-Ok.ensures.told _ [] doc c.args.buffer.now.left all few small shows (shown_none _ c.args.buffer.now c.requires.empty) short in
-    rw c.refused_put.ensures (put_refused c.in-Err-flush.refusal _ _ record { pages = gathered.read.pages; grew = c.in-Err-flush.ensures.shown _ doc _ gathered.shown })
-
-pub returns-in-Err-flush-clause-added : goal.returns-in-Err-flush-clause-added
-returns-in-Err-flush-clause-added g c = adds_more c.in-Ok.ensures.added c.in-Err-flush.ensures.added
+pub returns-in-Err-flush : goal.returns-in-Err-flush
+returns-in-Err-flush g c = rw c.refused_put.ensures (whole_unflushed c.args.model.now c.in-Err-flush.refusal c.requires.empty c.in-Ok.ensures c.in-Ok.ensures.fits refl refl
+    c.in-Err-flush.ensures.shown c.in-Err-flush.ensures.added c.in-Err-flush.ensures.cause c.in-Err-flush.ensures.lack)

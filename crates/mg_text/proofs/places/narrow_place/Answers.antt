@@ -1,6 +1,6 @@
 use Rattle.std.proofs.Common.{ap, ◌*◌, Some}
 use Rattle.mg_dev.specs.Files.{bytes_at}
-use Rattle.mg_text.proofs.PlaceLaws.{filled_four, unfilled_four}
+use Rattle.mg_text.proofs.PlaceLaws.{filled_four, read_four, unfilled_four}
 use Rattle.mg_text.proofs.places.narrow_place.Goals as goal
 
 pub returns-in-Ok-true-clause-told : goal.returns-in-Ok-true-clause-told
@@ -13,3 +13,12 @@ pub returns-in-Ok-false-clause-told : goal.returns-in-Ok-false-clause-told
 returns-in-Ok-false-clause-told g c = λ told p small stands.
     absurd (unfilled_four c.in-Ok-false.field-0 c.fill.new.buf (bytes_at (g.S.Store.files c.args.store.now) c.args.places.now.name) (4 * c.from.result)
     (4 * c.args.index) p c.in-Ok-false.field-0-test (c.in-Ok-false.ensures.told told) c.fill.auto.buf (ap (λ n. 4 * n) c.from.ensures) stands)
+
+pub returns-in-Ok-true-clause-read : goal.returns-in-Ok-true-clause-read
+returns-in-Ok-true-clause-read g c = read_four c.in-Ok-true.ensures.fits c.in-Ok-true.ensures.file c.in-Ok-true.ensures.looked (record { later = c.in-Ok-true.ensures.cause.later; failed = tt }) c.from.result c.in-Ok-true.ensures.part
+
+pub returns-in-Ok-false-clause-read : goal.returns-in-Ok-false-clause-read
+returns-in-Ok-false-clause-read g c = read_four c.in-Ok-false.ensures.fits c.in-Ok-false.ensures.file c.in-Ok-false.ensures.looked (record { later = c.in-Ok-false.ensures.cause.later; failed = tt }) c.from.result c.in-Ok-false.ensures.part
+
+pub returns-in-Err-clause-read : goal.returns-in-Err-clause-read
+returns-in-Err-clause-read g c = read_four c.in-Err.ensures.fits c.in-Err.ensures.file c.in-Err.ensures.looked (record { later = c.in-Err.ensures.cause.later; failed = c.in-Err.ensures.cause.failed }) c.from.result c.in-Err.ensures.part

@@ -1,21 +1,34 @@
-use Rattle.std.proofs.Common.{arith, ℕ, List, ap, length}
 use Rattle.mg_defs.specs.Terms.{document}
-use Rattle.mg_text.proofs.HeldLaws.{held_short, held_whole, part_not_bad}
+use Rattle.mg_text.proofs.HeldLaws.{held_cause, held_content, held_in_bound, held_short}
 use Rattle.mg_text.proofs.held_document.HeldDocument.read.Goals as goal
 
-pub returns-then-found-most-clause-never_bad : goal.returns-then-found-most-clause-never_bad
-returns-then-found-most-clause-never_bad g c = λ collection has.
-    let most = held_short c.doc-shown.result c.clear.new.self.items c.doc-shown.new.out.bytes.items (document collection c.args.number) c.args.self.now.most
-    c.clear.ensures.items (c.doc-shown.ensures.content collection has.stands) has.short in
-    absurd (omega (arith, most, ap (λ (l : List ℕ). length l) c.bytes.ensures, c.if-found-most.true))
+pub returns-clause-fits : goal.returns-clause-fits
+returns-clause-fits g c = c.doc-shown.ensures.fits
 
-pub returns-in-Ok-clause-content : goal.returns-in-Ok-clause-content
-returns-in-Ok-clause-content g c = λ collection has.
-    held_whole c.doc-shown.result _ c.clear.new.self.items c.doc-shown.new.out.bytes.items (document collection c.args.number) c.in-Ok.is c.clear.ensures.items
+pub returns-clause-same : goal.returns-clause-same
+returns-clause-same g c = c.doc-shown.ensures.same
+
+pub returns-clause-short : goal.returns-clause-short
+returns-clause-short g c = held_in_bound c.answered.result c.answered.ensures
+
+pub returns-clause-content : goal.returns-clause-content
+returns-clause-content g c = λ collection has.
+    held_content c.answered.result c.clear.new.self.items c.doc-shown.new.out.bytes.items (document collection c.args.number) c.answered.ensures c.clear.ensures.items
     (c.doc-shown.ensures.content collection has.stands)
 
-pub returns-in-Err-Part-clause-never_bad : goal.returns-in-Err-Part-clause-never_bad
-returns-in-Err-Part-clause-never_bad g c = λ collection has.
-    let fine = rw c.in-Err-Part.is at (c.doc-shown.ensures.never_bad collection has.stands) in
-    let inner = rw c.in-Err-Part.is at c.in-Err-Part.field-0-is in
-    part_not_bad c.in-Err-Part.refusal (rw inner at fine)
+pub returns-clause-never_bad : goal.returns-clause-never_bad
+returns-clause-never_bad g c = λ collection has.
+    c.answered.ensures.bad (held_short c.doc-shown.result c.clear.new.self.items c.doc-shown.new.out.bytes.items (document collection c.args.number) c.args.self.now.most
+    c.clear.ensures.items (c.doc-shown.ensures.content collection has.stands) has.short) (c.doc-shown.ensures.never_bad collection has.stands)
+
+pub returns-clause-pages : goal.returns-clause-pages
+returns-clause-pages g c = c.doc-shown.ensures.pages
+
+pub returns-clause-places : goal.returns-clause-places
+returns-clause-places g c = c.doc-shown.ensures.places
+
+pub returns-clause-looked : goal.returns-clause-looked
+returns-clause-looked g c = c.doc-shown.ensures.looked
+
+pub returns-clause-cause : goal.returns-clause-cause
+returns-clause-cause g c = held_cause c.answered.result _ _ _ _ c.answered.ensures c.doc-shown.ensures.looked.faults c.doc-shown.ensures.cause
