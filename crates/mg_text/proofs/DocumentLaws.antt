@@ -54,8 +54,9 @@ document_refused refusal {old} {r = r} {s = s} fits own le read = record {
 }
 
 -- its place was read, and then it was decoded
-pub document_read : (result : Result (Unit {0}) ShowErr) {tells : DecodingStep} {old : TextReading} (from : ℕ) {text0 text places : Paging} {most most_now p q : ℕ} {b b_now : Gathering} {out now : SinkAt}
-    {f g h : Option Files} {r s t : Reads} {k m n : ℕ} → old.text.part ≡ part.Text → old.places.part ≡ part.Places → ReadsPlace old.places places (IsReadCaused {T = ℕ} (Ok from)) f g r s k m → text0 ≡ old.text →
+pub document_read : (result : Result (Unit {0}) ShowErr) {tells : DecodingStep} {old : TextReading} (from : ℕ) {text0 text places : Paging} {most most_now p q : ℕ}
+    {b b_now : Gathering} {out now : SinkAt} {f g h : Option Files} {r s t : Reads} {k m n : ℕ} → old.text.part ≡ part.Text → old.places.part ≡ part.Places →
+    ReadsPlace old.places places (IsReadCaused {T = ℕ} (Ok from)) f g r s k m → text0 ≡ old.text →
     Steps (Fits text h) tells result (record { feed = feeding_of 4096 text0; place = p; device = of_store g m s; held = b; sink = out })
     (record { feed = feeding_of 4096 text; place = q; device = of_store h n t; held = b_now; sink = now }) → bytes_to_come b ≤ most → most_now ≤ bytes_to_come b_now →
     ReadsDocument old (with_feeds old text places) most most_now out now result f h r t k n

@@ -67,7 +67,8 @@ module _ {most size : ℕ} {shown : Result (Unit {0}) ShowErr} where
   held_in_bound (Ok done) answers = answers.whole.1
   held_in_bound (Err refusal) answers = tt
 
-  pub held_content : (result : Result (Unit {0}) PartErr) (before now doc : List ℕ) → AnswersHeld most size shown result → before ≡ [] → AfterPut (Some before) (Some now) doc shown → OnOk result (now ≡ doc)
+  pub held_content : (result : Result (Unit {0}) PartErr) (before now doc : List ℕ) → AnswersHeld most size shown result → before ≡ [] →
+      AfterPut (Some before) (Some now) doc shown → OnOk result (now ≡ doc)
   held_content (Ok done) before now doc answers empty after = held_whole shown tt before now doc answers.whole.0 empty after
   held_content (Err refusal) before now doc answers empty after = tt
 

@@ -18,7 +18,8 @@ eight_read : (held : Option ℕ) (index : ℕ) → to_read 4096 held (8 * (8 * i
 eight_read None index = grind (arith, common_steps)
 eight_read (Some page) index = grind (arith, common_steps)
 
-module _ {caused : ℕ → ℕ → Type 0} {old new : Paging} {f g : Option Files} {r s : Reads} {m n : ℕ} (fits : Fits new g) (file : SameFile old new) (looked : Looked old.part f g r s m n) (cause : caused m n) where
+module _ {caused : ℕ → ℕ → Type 0} {old new : Paging} {f g : Option Files} {r s : Reads} {m n : ℕ} (fits : Fits new g) (file : SameFile old new)
+    (looked : Looked old.part f g r s m n) (cause : caused m n) where
   -- a place of four bytes was looked for
   pub read_four : (index : ℕ) → ReadPart (feeding_of 4096 old) (feeding_of 4096 new) (of_store f m r) (of_store g n s) (8 * (4 * index)) (8 * (4 * index + 4)) → ReadsPlace old new caused f g r s m n
   read_four index read = record { fits = fits; file = file; looked = looked; page = omega (arith, read.pages.device old.part refl, four_read old.held index); cause = cause }
@@ -26,10 +27,6 @@ module _ {caused : ℕ → ℕ → Type 0} {old new : Paging} {f g : Option File
   -- a place of eight bytes was looked for
   pub read_eight : (index : ℕ) → ReadPart (feeding_of 4096 old) (feeding_of 4096 new) (of_store f m r) (of_store g n s) (8 * (8 * index)) (8 * (8 * index + 8)) → ReadsPlace old new caused f g r s m n
   read_eight index read = record { fits = fits; file = file; looked = looked; page = omega (arith, read.pages.device old.part refl, eight_read old.held index); cause = cause }
-
--- the same reading, by another cause
-pub read_caused_by : {one other : ℕ → ℕ → Type 0} {old new : Paging} {f g : Option Files} {r s : Reads} {m n : ℕ} → ReadsPlace old new one f g r s m n → other m n → ReadsPlace old new other f g r s m n
-read_caused_by read cause = record { fits = read.fits; file = read.file; looked = read.looked; page = read.page; cause = cause }
 
 four_long : (n : ℕ) → length (four n) ≡ 4
 unfolding four

@@ -46,8 +46,8 @@ steps_more r first second told = record {
 
 -- ---- a pair
 
-brings_both : (x y : Bits) (one two : List ℕ) (r : Result (Unit {0}) ShowErr) (a b c : Moment) → 0 < a.feed.page → Calm a.feed b.feed a.device b.device → Brings x one (Ok tt) a b → Brings y two r b c →
-    Brings (x ++ y) (one ++ two) r a c
+brings_both : (x y : Bits) (one two : List ℕ) (r : Result (Unit {0}) ShowErr) (a b c : Moment) → 0 < a.feed.page → Calm a.feed b.feed a.device b.device →
+    Brings x one (Ok tt) a b → Brings y two r b c → Brings (x ++ y) (one ++ two) r a c
 brings_both x y one two r a b c some calm first second = λ before sofar most small shows shown fits.
     let head = first before sofar most (omega (arith, small, length-append x y)) (shows_left _ a.place x y shows) shown (first_fits sofar one two most fits) in
     ends_map r _ _ _ _ (λ whole. both_decoded _ _ _ _ _ _ a.place b.place c.place x y before _ _ _ _ sofar one two some head whole)
@@ -70,7 +70,8 @@ word_refused code refusal {a} {b} some step =
 pub pair_shown : {before agrees : Type 0} (code : TextCode) (r : Result (Unit {0}) ShowErr) {a b c : Moment} → 0 < a.feed.page → Steps before (ShowsPiece code.words (Ok tt)) (Ok tt) a b →
     Steps agrees (ShowsPiece code.others r) r b c → Steps agrees (ShowsPair code r) r a c
 pair_shown code r {a} {b} {c} some first second =
-    steps_more r first second (λ p is. brings_both (codeword_of code.words p.word) (codeword_of code.others p.other) p.word p.other r a b c some first.calm (first.told p.word is.word) (second.told p.other is.other))
+    steps_more r first second (λ p is.
+    brings_both (codeword_of code.words p.word) (codeword_of code.others p.other) p.word p.other r a b c some first.calm (first.told p.word is.word) (second.told p.other is.other))
 
 -- ---- pairs
 
@@ -120,7 +121,8 @@ pair_refused code {count} {i} refusal {a} {b} {c} some lt first pair = steps_mor
     (pair_shows _ _ _ _ a.place b.place code ps i next first.calm here.at_end shows) here.shown (pair_fits code ps i sofar most next fits)))
 
 -- all pairs were shown
-pub all_shown : {agrees : Type 0} {code : TextCode} {count i : ℕ} {a b : Moment} → i ≡ count → Steps agrees (ShowsFirst code count i) (Ok tt) a b → Steps agrees (ShowsPairs code count (Ok tt)) (Ok tt) a b
+pub all_shown : {agrees : Type 0} {code : TextCode} {count i : ℕ} {a b : Moment} → i ≡ count → Steps agrees (ShowsFirst code count i) (Ok tt) a b →
+    Steps agrees (ShowsPairs code count (Ok tt)) (Ok tt) a b
 all_shown {i = i} done step = steps_tell step (λ ps all is before sofar most small shows shown fits.
     let whole : take i ps ≡ ps = ap (λ n. take n ps) (omega (arith, is, done)) ∙ take-length ps in
     rw whole at (step.told ps all is before sofar most small shows shown fits))
@@ -175,8 +177,8 @@ doc_shown code r {a} {b} {c} some held sink head pairs = steps_more r head pairs
     (subst (λ t. length (sofar ++ t) ≤ most) (sym (parse_text doc)) fits)))
 
 -- what of a document is shown where the buffer held nothing
-pub whole_gathered : (code : TextCode) (a b : Moment) → a.held.held ≡ [] → ShowsDoc code (Ok tt) a b → (doc : List ℕ) → PairsIn code (parse doc) → length (parse doc) < 2 ^ 32 → length doc ≤ a.held.left →
-    a.place + length (coded_doc code doc) ≤ 2 ^ 63 → Shows (a.feed.source a.device.files) a.place (coded_doc code doc) →
+pub whole_gathered : (code : TextCode) (a b : Moment) → a.held.held ≡ [] → ShowsDoc code (Ok tt) a b → (doc : List ℕ) → PairsIn code (parse doc) →
+    length (parse doc) < 2 ^ 32 → length doc ≤ a.held.left → a.place + length (coded_doc code doc) ≤ 2 ^ 63 → Shows (a.feed.source a.device.files) a.place (coded_doc code doc) →
     Decoded a.feed b.feed a.device b.device a.place (a.place + length (coded_doc code doc)) b.place a.sink.written b.sink.written b.held doc a.held.left
 whole_gathered code a b empty told doc all few short small shows = told doc all few _ [] a.held.left small shows (shown_none _ a.held empty) short
 
@@ -212,7 +214,8 @@ put_cause put.Memory s t cause lack = lack.lacked refl
 -- the sink refused them
 pub whole_unflushed : {before agrees : Type 0} (code : TextCode) (refusal : PutErr) {a b c : Moment} → a.held.held ≡ [] → Steps before (ShowsDoc code (Ok tt)) (Ok tt) a b → agrees →
     c.feed ≡ b.feed → c.device ≡ b.device → ForShown b.sink.written b.held (λ was bytes _. AfterPut {T = Unit {0}} was c.sink.written bytes (Err refusal)) →
-    AddedOf (bytes_to_come b.held) (bytes_to_come c.held) b.sink c.sink → HasPutCause {T = Unit {0}} b.sink.faults c.sink.faults (Err refusal) → HasLack {T = Unit {0}} b.sink.lacks c.sink.lacks (Err refusal) →
+    AddedOf (bytes_to_come b.held) (bytes_to_come c.held) b.sink c.sink → HasPutCause {T = Unit {0}} b.sink.faults c.sink.faults (Err refusal) →
+    HasLack {T = Unit {0}} b.sink.lacks c.sink.lacks (Err refusal) →
     Steps agrees (ShowsWhole code (Err (show_of_put refusal))) (Err (show_of_put refusal)) a c
 whole_unflushed code refusal {a} {b} {c} empty first fits feed device put added cause lack =
     let second : Steps _ Untold (Err (show_of_put refusal)) b c = put_step (Err (show_of_put refusal)) fits feed device added (put_cause refusal _ _ cause lack) in

@@ -24,7 +24,8 @@ fn show_piece<F: Feed, O: Sink>(
 ) -> Result<(), ShowErr>
     requires fits { F.fits r.old.feed (F.device dev.old).files }
     ensures { Decodes F.feeding F.fits F.device O.written O.faults O.lacks r.old r.new dev.old
-        dev.new buffer.old buffer.new out.old out.new (ShowsPiece (code_of stream model.now)) result }
+        dev.new buffer.old buffer.new out.old out.new (ShowsPiece (code_of stream model.now))
+        result }
 {
     match get_symbol(model.canon(stream), r, dev) {
         Ok(symbol) => match model.short_piece(stream, symbol) {

@@ -15,10 +15,16 @@ returns-in-Ok-false-clause-told g c = λ told p small stands.
     (4 * c.args.index) p c.in-Ok-false.field-0-test (c.in-Ok-false.ensures.told told) c.fill.auto.buf (ap (λ n. 4 * n) c.from.ensures) stands)
 
 pub returns-in-Ok-true-clause-read : goal.returns-in-Ok-true-clause-read
-returns-in-Ok-true-clause-read g c = read_four c.in-Ok-true.ensures.fits c.in-Ok-true.ensures.file c.in-Ok-true.ensures.looked (record { later = c.in-Ok-true.ensures.cause.later; failed = tt }) c.from.result c.in-Ok-true.ensures.part
+returns-in-Ok-true-clause-read g c =
+    let e = c.in-Ok-true.ensures in
+    read_four e.fits e.file e.looked (record { later = e.cause.later; failed = tt }) c.from.result e.part
 
 pub returns-in-Ok-false-clause-read : goal.returns-in-Ok-false-clause-read
-returns-in-Ok-false-clause-read g c = read_four c.in-Ok-false.ensures.fits c.in-Ok-false.ensures.file c.in-Ok-false.ensures.looked (record { later = c.in-Ok-false.ensures.cause.later; failed = tt }) c.from.result c.in-Ok-false.ensures.part
+returns-in-Ok-false-clause-read g c =
+    let e = c.in-Ok-false.ensures in
+    read_four e.fits e.file e.looked (record { later = e.cause.later; failed = tt }) c.from.result e.part
 
 pub returns-in-Err-clause-read : goal.returns-in-Err-clause-read
-returns-in-Err-clause-read g c = read_four c.in-Err.ensures.fits c.in-Err.ensures.file c.in-Err.ensures.looked (record { later = c.in-Err.ensures.cause.later; failed = c.in-Err.ensures.cause.failed }) c.from.result c.in-Err.ensures.part
+returns-in-Err-clause-read g c =
+    let e = c.in-Err.ensures in
+    read_four e.fits e.file e.looked (record { later = e.cause.later; failed = e.cause.failed }) c.from.result e.part

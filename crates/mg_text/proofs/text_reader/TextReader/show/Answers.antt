@@ -31,7 +31,8 @@ returns-clause-answer g c =
     let within = rw (← c.self.view_is) at c.requires.within in
     let wanted = place_wanted _ _ collection c.args.number stands c.requires.some within in
     let left : c.begin.new.self.left ≡ c.args.most = ap (λ (b : Gathering). b.left) (c.begin.ensures ∙ c.start.ensures) in
-    doc_told c.show_doc.result _ _ _ collection c.args.number c.in-Ok.from c.seek.new.self.place c.seek.new.self.feed _ _ _ _ c.args.most _ _ stands c.requires.some within c.in-Ok.ensures.read.looked.files
+    doc_told c.show_doc.result _ _ _ collection c.args.number c.in-Ok.from c.seek.new.self.place c.seek.new.self.feed _ _ _ _ c.args.most _ _ stands
+    c.requires.some within c.in-Ok.ensures.read.looked.files
     (c.in-Ok.ensures.told stands.told (place_after c.self.inside.model collection (c.args.number - 1)) wanted.0 wanted.1 wanted.2)
     c.seek.ensures.place c.seek.ensures.feed c.self.invariant.0 (c.in-Ok.ensures.read.looked.others part.Text (ap (same_part part.Text) c.self.invariant.1)) short
     (λ doc all few fits small shows. c.show_doc.ensures.told doc all few (subst (λ n. length doc ≤ n) (sym left) fits) small shows))
