@@ -8,3 +8,5 @@ pub use Rattle.mg_post.proofs.TermLaws.{cursor_later}
 pub use Rattle.mg_post.proofs.WholeListLaws.{pages_in_list}
 -- the pages of the first blocks of a list are within those of the list
 pub use Rattle.mg_post.proofs.ListReadingLaws.{pages_read}
+-- what the parts show of a list: it is not before the document, and it is the same for each cursor over the list
+pub use Rattle.mg_post.proofs.ShownLaws.{first_low, first_same, stands_later}

@@ -215,25 +215,29 @@ tells_next skip skip_at low known block last le tells =
     record { first = λ is. absurd (omega (arith, is, le)); later = λ lt. subst (λ k. TellsLast skip skip_at k last) e tells }
 
 -- of a search that went on from a later block
-pub tells_on : (skip : Option (List ℕ)) (skip_at reached low known before block here last at : ℕ) → reached ≤ low → low ≤ block →
-    TellsBefore skip skip_at reached known low before → TellsBlock skip skip_at low before block here last at →
-    TellsBlock skip skip_at reached known block here last at
-tells_on skip skip_at reached low known before block here last at from more told tells = record {
-  before_is = record {
-    first = λ is. (let e : block ≡ low = omega (arith, is, from, more) in tells.before_is.first e ∙ told.first (omega (arith, is, e)));
-    later = λ lt. elim (order low block) [
-      | inl below ↦ tells.before_is.later below
-      | inr above ↦ (let e : block ≡ low = omega (arith, above, more) in
-          let same : here ≡ before = tells.before_is.first e in
-          subst (λ k. TellsLast skip skip_at (k - 1) here) (sym e) (subst (TellsLast skip skip_at (low - 1)) (sym same) (told.later (omega (arith, lt, e)))))
-    ];
-  };
-  last_is = tells.last_is;
-  at_is = tells.at_is;
+pub before_on : (skip : Option (List ℕ)) (skip_at reached low known before block here : ℕ) → reached ≤ low → low ≤ block →
+    TellsBefore skip skip_at reached known low before → TellsBefore skip skip_at low before block here → TellsBefore skip skip_at reached known block here
+before_on skip skip_at reached low known before block here from more told tells = record {
+  first = λ is. (let e : block ≡ low = omega (arith, is, from, more) in tells.first e ∙ told.first (omega (arith, is, e)));
+  later = λ lt. elim (order low block) [
+    | inl below ↦ tells.later below
+    | inr above ↦ (let e : block ≡ low = omega (arith, above, more) in
+        let same : here ≡ before = tells.first e in
+        subst (λ k. TellsLast skip skip_at (k - 1) here) (sym e) (subst (TellsLast skip skip_at (low - 1)) (sym same) (told.later (omega (arith, lt, e)))))
+  ];
 }
   where
     order : (a b : ℕ) → (a < b) ⊎ (b ≤ a)
     order a b = grind arith
+
+pub tells_on : (skip : Option (List ℕ)) (skip_at reached low known before block here last at : ℕ) → reached ≤ low → low ≤ block →
+    TellsBefore skip skip_at reached known low before → TellsBlock skip skip_at low before block here last at →
+    TellsBlock skip skip_at reached known block here last at
+tells_on skip skip_at reached low known before block here last at from more told tells = record {
+  before_is = before_on skip skip_at reached low known before block here from more told tells.before_is;
+  last_is = tells.last_is;
+  at_is = tells.at_is;
+}
 
 -- ---- entries that do not stand
 

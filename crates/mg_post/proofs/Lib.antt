@@ -9,6 +9,7 @@ mod CursorLaws
 mod StandLaws
 mod Totals
 mod SoundLaws
+mod ShownLaws
 mod StepLaws
 mod LifeLaws
 mod TermLaws

@@ -21,11 +21,10 @@ use Rattle.mg_defs.proofs.ListLaws.{from_above, from_here, from_next, list_rises
 use Rattle.mg_laws.proofs.BoundLaws.{whole_more, whole_rises}
 use Rattle.mg_laws.proofs.LedLists.{length_postings}
 use Rattle.mg_laws.proofs.MetBlocks.{from_from, number_is, term_some}
-use Rattle.mg_layout.specs.Infos.{IsInfoOf}
 use Rattle.mg_layout.specs.declared.term_info.TermInfo.{TermInfo}
 use Rattle.mg_post.specs.Answers.{IsRefused, OnDamage}
-use Rattle.mg_post.specs.Cursor.{HeldRises, IsFrom, forward_to, head_of, next_doc}
-use Rattle.mg_post.specs.ListReading.{AnswersReader, ListReading, OpensList, ReadStep, ReaderFor, WalksOn, current_doc, doc_in, left_behind, read_pages}
+use Rattle.mg_post.specs.Cursor.{HeldRises, IsFrom, head_of, next_doc}
+use Rattle.mg_post.specs.ListReading.{AnswersReader, ListReading, OpensList, ReadStep, ReaderFor, WalksOn, doc_in, left_behind, read_pages}
 use Rattle.mg_post.specs.Missing.{LacksPosting}
 use Rattle.mg_post.specs.Reading.{FillsBlock}
 use Rattle.mg_post.specs.TermLists.{ListsStand}

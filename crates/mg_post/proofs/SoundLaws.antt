@@ -98,7 +98,7 @@ step_rises all last (Some p) held now went h = step_held all last held now h wen
 
 -- ---- what is answered
 
-from_low : (doc : ℕ) (ps : List Posting) (p : Posting) → head_of (forward_to doc ps) ≡ Some p → doc ≤ p.doc
+pub from_low : (doc : ℕ) (ps : List Posting) (p : Posting) → head_of (forward_to doc ps) ≡ Some p → doc ≤ p.doc
 unfolding forward_to
 from_low doc [] p is = absurd cc
 from_low doc (q ∷ ps) p is =

@@ -1,7 +1,7 @@
 -- What each way out of a cursor's call promises.
 use Rattle.std.proofs.Common.{arith, ◌≡◌, ◌+◌, ◌-◌, ◌*◌, ◌^◌, ◌≤◌, ◌<◌, ℕ, Bool, true, false, List, [], ◌∷◌, length, drop, min, Option, Some, None, Ok, Err, IfSome, refl, sym, ◌∙◌, ap, subst}
 use Rattle.std.proofs.lemmas.List.{length-drop}
-use Rattle.std.specs.Prelude.{Result}
+use Rattle.std.specs.Prelude.{IfOk, Result}
 use Rattle.mg_dev.specs.Files.{Files, Reads}
 use Rattle.mg_dev.specs.PartCauses.{IsCaused}
 use Rattle.mg_dev.specs.declared.part.Part.{Part}
@@ -16,9 +16,10 @@ use Rattle.mg_defs.specs.Bits.{Shows}
 use Rattle.mg_defs.specs.declared.Posting.{Posting}
 use Rattle.mg_defs.specs.Lists.{bits_after, block_count, block_pages, from_doc}
 use Rattle.mg_post.specs.Answers.{IsRefused, OnDamage, RefusalCause}
-use Rattle.mg_post.specs.Cursor.{AnswersRest, CursorFits, Cursoring, Enters, ForList, GoesToNext, HeldNone, HeldRises, IsFrom, StandsAt, StandsOn, after, entered_pages, forward_to, head_of, next_doc, post_pages}
+use Rattle.mg_post.specs.Cursor.{AnswersRest, CursorFits, Cursoring, Enters, ForList, GoesToNext, HeldNone, HeldRises, IsFrom, SameList, StandsAt, StandsOn, after, entered_pages, forward_to, head_of, next_doc, post_pages}
 use Rattle.mg_post.specs.CursorSteps.{CursorStep}
-use Rattle.mg_post.specs.Entering.{EntersFound}
+use Rattle.mg_post.specs.Entering.{EntersFound, HoldsFound}
+use Rattle.mg_post.specs.Shown.{AnswersShown, StandsShown}
 use Rattle.mg_post.specs.Finding.{IsFoundAt, LacksAnEntry, entries_pages}
 use Rattle.mg_post.specs.Reading.{ReadsFeed}
 use Rattle.mg_post.specs.Searching.{SearchesBlock}
@@ -31,7 +32,8 @@ use Rattle.mg_post.specs.declared.refusal.Refusal.{Refusal}
 use Rattle.mg_post.specs.declared.refusal.Refusal.TheVariants.{Device, Damaged}
 use Rattle.mg_post.proofs.CursorLaws.{at_end, in_block, next_beyond, next_low, next_within, on_block, raised_by, raised_most, reads_two, refused_answer, same_file, walks_of}
 use Rattle.mg_post.proofs.FindLaws.{any_cause, reads_within}
-use Rattle.mg_post.proofs.SoundLaws.{goes_next, in_held, names_none, names_own, names_post, names_skip, next_few, next_held, next_inside, next_is, next_sound, no_entry_cause, own_cause, post_cause, skip_cause}
+use Rattle.mg_post.proofs.ShownLaws.{forward_behind, next_some, shown_ended, shown_entered, shown_past, shown_within, walks_shown}
+use Rattle.mg_post.proofs.SoundLaws.{current_low, goes_next, in_held, names_none, names_own, names_post, names_skip, next_few, next_held, next_inside, next_is, next_sound, no_entry_cause, own_cause, post_cause, skip_cause, step_rises}
 
 -- ---- refusals
 
@@ -57,10 +59,11 @@ min_low a b most le = omega arith
 step_unread : (c : Cursoring) (held : List Posting) (doc wanted : ℕ) (rest : List Posting → List Posting) (found : Option Posting) (files : Option Files) (reads : Reads) (faults : ℕ) →
     CursorFits c files → post_pages c ≤ entered_pages c → c.reached ≤ block_count c.docs → found ≡ head_of held → IfSome found (IsFrom doc c.all) →
     (doc ≡ next_doc c.held → GoesToNext c (record c { held = held }) found) →
+    ((n : ℕ) → n ≤ doc → StandsShown c files n → AnswersShown c (record c { held = held }) files files doc found) →
     ForList c files (λ ps left. (found ≡ head_of (rest left)) × StandsAt (record c { held = held }) ps (rest left)) →
     ForList c files (λ ps left. Enters (Ok found) ps c doc (record c { held = held })) →
     CursorStep c (record c { held = held }) doc wanted rest (Ok found) files files reads reads faults faults
-step_unread c held doc wanted rest found files reads faults fits first reached current sound next answer entered = record {
+step_unread c held doc wanted rest found files reads faults fits first reached current sound next shows answer entered = record {
   fits = record { post = fits.post; skip = fits.skip; entries = fits.entries };
   same = record { post = refl; skip = refl; post_at = refl; skip_at = refl; docs = refl; all = refl; parameter = refl };
   answer = answer;
@@ -79,6 +82,7 @@ step_unread c held doc wanted rest found files reads faults fits first reached c
   current = current;
   sound = sound;
   next = next;
+  shows = shows;
   forward = omega arith;
   part = tt;
   post = λ ps left stands at. tt;
@@ -105,6 +109,7 @@ pub step_ended : (c : Cursoring) (doc wanted : ℕ) (rest : List Posting → Lis
 step_ended c doc wanted rest files reads faults fits first reached ended empty all none =
     step_unread c c.held doc wanted rest None files reads faults fits first reached (sym (ap head_of empty)) tt
     (λ is. (omega (arith, ap length empty, all.all ended), all.all ended))
+    (λ n le stands. shown_ended ended le stands)
     (λ ps left stands at.
     let is : left ≡ [] = ended_left c.ended ps c.reached c.last c.held left ended at.on in
     let e : rest left ≡ [] = ap rest is ∙ none in
@@ -120,6 +125,7 @@ step_within c held doc found files reads faults fits first reached rises none on
     (λ is.
     let n = next_inside c.all c.last doc c.held held rises (λ empty. (none.first on empty).1) within went is in
     goes_next c (record c { held = held }) found got n.1 (omega (arith, n.0)))
+    (λ n le stands. shown_within held found on (λ empty. (none.first on empty).1) some within went got le stands)
     (λ ps left stands at.
     let r = in_block c.ended c.all doc ps c.reached c.last c.held left held found on stands.list.entries.rises some within at.on went got in
     (r.0, record { on = r.1 }))
@@ -134,6 +140,10 @@ step_next c held p files reads faults fits first reached rises on more went here
     let less : length held ≡ length c.held - 1 = ap length went ∙ length-drop 1 c.held in
     step_unread c held (next_doc c.held) (c.last + 1) (after c.held) (Some p) files reads faults fits first reached (sym here) (next_held c.all c.last c.held held p rises more went here)
     (λ is. goes_next c (record c { held = held }) (Some p) (sym here) (omega (arith, less, more)) (omega (arith, less, more)))
+    (λ n le stands.
+    let low = current_low c.all c.last held p (step_rises c.all c.last (Some p) c.held held (more, went, here) rises) here in
+    shown_within held (Some p) on (λ empty. absurd (omega (arith, empty, more))) (next_some c.held)
+    (omega (arith, low, (next_held c.all c.last c.held held p rises more went here).from)) (forward_behind c.all c.last c.held held rises more went) (sym here) le stands)
     (λ ps left stands at.
     let r = next_within c.ended ps c.reached c.last c.held left held p on more went here at.on in
     (r.0, record { on = r.1 }))
@@ -157,6 +167,9 @@ step_beyond c v result f g r s m n on rises none few step = record {
   current = step.current;
   sound = next_sound c.all c.last c.held result rises few step.sound;
   next = λ is. step.next (next_is c.all c.last c.held rises (λ empty. (none.first on empty).1) few);
+  shows = λ n le stands.
+      let is = next_is c.all c.last c.held rises (λ empty. (none.first on empty).1) few in
+      subst (λ d. IfOk result (AnswersShown c v f g d)) is (step.shows n (omega (arith, le, is)) stands);
   forward = step.forward;
   part = step.part;
   post = step.post;
@@ -243,6 +256,7 @@ module _ {Dev : Type 0} {device : Dev → Seen} {c : Cursoring} {d0 d1 : Dev} {d
     current = tt;
     sound = tt;
     next = λ next. tt;
+    shows = λ n le stands. tt;
     forward = omega arith;
     part = names_skip refusal e is;
     post = λ ps left stands at.
@@ -279,6 +293,11 @@ module _ {Dev : Type 0} {device : Dev → Seen} {c : Cursoring} {d0 d1 : Dev} {d
         let beyond = goes_beyond c (device d0).files doc blocks k next in
         let all : c.reached ≡ blocks = s.does.next beyond.1 in
         (omega (arith, beyond.0, all, k.count), k.count);
+    shows = λ n le stands.
+        let same : SameList c (record c { skip = skip.feed; reached = blocks; held = held; ended = true }) =
+        record { post = refl; skip = (same_file c.skip skip.feed _ _ s.calm).name; post_at = refl; skip_at = refl; docs = refl; all = refl; parameter = refl } in
+        subst (λ f. AnswersShown c (record c { skip = skip.feed; reached = blocks; held = held; ended = true }) (device d0).files f doc None) (sym s.calm.files)
+        (shown_past same refl k.count k.reached (walks_shown k.on stands) s.does.past);
     forward = k.reached;
     part = tt;
     post = λ ps left stands at. tt;
@@ -349,6 +368,7 @@ module _ {Dev : Type 0} {device : Dev → Seen} {c : Cursoring} {d0 d1 : Dev} {d
           current = tt;
           sound = tt;
           next = λ next. tt;
+          shows = λ n le stands. tt;
           forward = omega arith;
           part = names_post refusal e is;
           post = λ ps left stands on. names_own refusal Post e is;
@@ -436,6 +456,22 @@ module _ {Dev : Type 0} {device : Dev → Seen} {c : Cursoring} {d0 d1 : Dev} {d
               let there : 64 * found.block < c.docs = omega (arith, s.does.found.there, k.count) in
               goes_next c (record c { skip = skip.feed; post = post.feed; reached = found.block + 1; last = found.last; held = held; entered = entered }) (Some inside.posting)
               (sym (ap head_of swapped ∙ w.does.current)) (omega (arith, whole, same, there)) (omega (arith, whole, same, there, beyond.0, at_next.0));
+          shows = λ n le stands.
+              let v : Cursoring = record c { skip = skip.feed; post = post.feed; reached = found.block + 1; last = found.last; held = held; entered = entered } in
+              let same : SameList c v = record {
+                post = (same_file c.post post.feed _ _ w.calm).name;
+                skip = (same_file c.skip skip.feed _ _ s.calm).name;
+                post_at = refl;
+                skip_at = refl;
+                docs = refl;
+                all = refl;
+                parameter = refl;
+              } in
+              let holds : HoldsFound (told_at (device d0).files c.post.name) (list_of c) doc found block =
+              subst (λ f. HoldsFound (told_at f c.post.name) (list_of c) doc found block) s.calm.files w.does.shows in
+              subst (λ f. AnswersShown c v (device d0).files f doc (Some inside.posting)) (sym (w.calm.files ∙ s.calm.files))
+              (shown_entered same k.on refl refl k.count (walks_shown k.on stands) s.does.tells s.does.found
+              (subst (HoldsFound (told_at (device d0).files c.post.name) (list_of c) doc found) (sym swapped) holds) (ap head_of swapped ∙ w.does.current));
           forward = omega (arith, s.does.found.from);
           part = tt;
           post = λ ps left stands on. tt;

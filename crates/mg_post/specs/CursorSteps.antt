@@ -9,6 +9,7 @@ use Rattle.mg_defs.specs.declared.Posting.{Posting}
 use Rattle.mg_defs.specs.Lists.{block_count}
 use Rattle.mg_post.specs.Finding.{entries_pages}
 use Rattle.mg_post.specs.Cursor.{AnswersRest, CursorFits, Cursoring, Enters, ForList, GoesToNext, IsFrom, NamesItsPart, ReadsTwo, SameList, SamePlace, StandsAt, entered_pages, head_of, next_doc, post_pages, skip_pages}
+use Rattle.mg_post.specs.Shown.{AnswersShown, StandsShown}
 use Rattle.mg_post.specs.Damages.{EntriesStand, HasPostCause, HasSkipCause, NamesPart}
 
 -- a cursor goes to the first posting of the rest of its list from a document on; where it looks for another block, it looks for that of the document `wanted`
@@ -35,6 +36,8 @@ pub record CursorStep (c v : Cursoring) (doc wanted : ℕ) (rest : List Posting 
   pub sound : IfOk result (λ found. IfSome found (IsFrom doc c.all))
   -- whatever the parts have, where the posting behind the current one is asked for, none is passed over: a walk ends only behind the last posting of the list's last block
   pub next : doc ≡ next_doc c.held → IfOk result (GoesToNext c v)
+  -- whatever the parts have, a posting is answered only from a block that stands and to which the entries lead, and none only where these tell that the list ends before the document
+  pub shows : (n : ℕ) → n ≤ doc → StandsShown c files_before n → IfOk result (AnswersShown c v files_before files_now doc)
   -- no block is gone back
   pub forward : c.reached ≤ v.reached
   -- a damage is one of Post or Skip

@@ -5,10 +5,10 @@ use Rattle.mg_defs.specs.Bits.{Shows}
 use Rattle.mg_defs.specs.declared.Posting.{Posting}
 use Rattle.mg_defs.specs.Lists.{bits_after, Rises, block_pages}
 use Rattle.mg_post.specs.Answers.{IfDamaged, OrDevice}
-use Rattle.mg_post.specs.Cursor.{Entered, HeldRises, IsFrom, head_of}
+use Rattle.mg_post.specs.Cursor.{Entered, HeldRises, IsFrom, forward_to, head_of}
 use Rattle.mg_post.specs.Finding.{IsFoundAt}
 use Rattle.mg_post.specs.Missing.{LacksBlock}
-use Rattle.mg_post.specs.Stands.{BlockStands}
+use Rattle.mg_post.specs.Stands.{BlockStands, IsBlockAt}
 use Rattle.mg_post.specs.declared.enter.Inside.{Inside}
 use Rattle.mg_post.specs.declared.enter.ListPlace.{ListPlace}
 use Rattle.mg_post.specs.declared.find.Found.{Found}
@@ -27,6 +27,14 @@ WhereBlockStands post list doc found fact = (ps : List Posting) → found.before
     BlockStands list.all list.parameter post (8 * list.post_at + found.at) (min (list.docs - 64 * found.block) 64)
     found.before found.last ps → fact
 
+-- the block that was found stands, and these are its postings from a document on
+pub record HoldsFound (post : Option (List ℕ)) (list : ListPlace) (doc : ℕ) (found : Found) (held : List Posting) :
+    Type 0 where
+  pub ps : List Posting
+  pub stands : IsBlockAt list.all list.parameter post (8 * list.post_at + found.at) (min (list.docs - 64 * found.block) 64)
+      found.before found.last ps
+  pub held_is : held ≡ forward_to doc ps
+
 -- the block that was found for a document in its range does not stand; this bit is the first of what is missing
 abbrev pub LacksFound : Option (List ℕ) → ListPlace → ℕ → Found → ℕ → Type 0
 LacksFound post list doc found at = found.before < doc → doc ≤ found.last →
@@ -42,6 +50,8 @@ pub record EntersFound (list : ListPlace) (found : Found) (doc : ℕ) (held : Li
   pub current : IfOk result (λ i. head_of held ≡ Some i.posting)
   -- and where the next document is asked for, all postings of the block are at hand
   pub whole : doc ≡ found.before + 1 → OnOk result (length held ≡ min (list.docs - 64 * found.block) 64)
+  -- and what is at hand was read from the bit where the entries tell that the block begins
+  pub shows : OnOk result (HoldsFound post list doc found held)
   -- no more pages are read than are answered
   pub count : IfOk result (λ i. new.count ≤ old.count + i.pages)
   -- where the list stands, the block is entered at its first posting from the document on, or the device failed

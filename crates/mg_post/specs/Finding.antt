@@ -55,6 +55,12 @@ pub record TellsBlock (skip : Option (List ℕ)) (skip_at reached known block be
 abbrev pub TellsFound : Option (List ℕ) → ℕ → ℕ → ℕ → Found → Type 0
 TellsFound skip skip_at reached known f = TellsBlock skip skip_at reached known f.block f.before f.last f.at
 
+-- where no block was found for a document, the last document of the last block is before it; it is told by its entry, or known where the search began behind all blocks
+abbrev pub EndsBefore : Option (List ℕ) → ℕ → ℕ → ℕ → ℕ → ℕ → Option Found → Type 0
+EndsBefore skip skip_at reached known blocks doc None = (last : ℕ)
+    × TellsBefore skip skip_at reached known blocks last × (last < doc)
+EndsBefore skip skip_at reached known blocks doc (Some f) = Unit {0}
+
 -- a search for the next document finds the next block, or none where all were reached
 abbrev pub FindsNext : ℕ → ℕ → ℕ → Option Found → Type 0
 FindsNext reached blocks last None = reached ≡ blocks

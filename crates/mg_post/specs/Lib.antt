@@ -7,6 +7,7 @@ pub mod Finding
 pub mod Searching
 pub mod Cursor
 pub mod Entering
+pub mod Shown
 pub mod Damages
 pub mod CursorSteps
 pub mod Laws

@@ -1,5 +1,5 @@
 -- A reader of whole lists: what contracts see of it, where it stands in a list, and what a call does.
-use Rattle.std.specs.Prelude.{◌≡◌, ◌≢◌, ℕ, ◌+◌, ◌-◌, ◌*◌, ◌^◌, ◌<◌, ◌≤◌, List, [], ◌∷◌, ◌++◌, length, drop, min, slice_get, Option, Some, None, Result, Err, IfErr, IfOk, IfSome, OnErr, OnOk}
+use Rattle.std.specs.Prelude.{◌≡◌, ◌≢◌, ℕ, ◌+◌, ◌-◌, ◌*◌, ◌^◌, ◌≤◌, List, [], ◌∷◌, ◌++◌, length, drop, min, slice_get, Option, Some, None, Result, Err, IfErr, IfOk, IfSome, OnErr, OnOk}
 use Rattle.mg_dev.specs.Files.{Files, Reads}
 use Rattle.mg_dev.specs.Names.{full_name}
 use Rattle.mg_dev.specs.PartCauses.{HasPartCause}

@@ -4,7 +4,7 @@ use Rattle.mg_bits.specs.Feed.{Feeding, lacks}
 use Rattle.mg_defs.specs.Bits.{Begins, FromPlace, Shows, digits}
 use Rattle.mg_defs.specs.Lists.{SkipEntry}
 use Rattle.mg_post.specs.Answers.{AnswersThis, IfDamaged}
-use Rattle.mg_post.specs.Finding.{FindsBlock, FindsNext, FindsOnPage, IsSound, LacksAnEntry, LacksBits, LacksLast, LacksNumber, SkipReads, TellsBits, TellsFound, TellsLast, TellsOnPage, blocks_after, entries_pages, entry_page}
+use Rattle.mg_post.specs.Finding.{EndsBefore, FindsBlock, FindsNext, FindsOnPage, IsSound, LacksAnEntry, LacksBits, LacksLast, LacksNumber, SkipReads, TellsBits, TellsFound, TellsLast, TellsOnPage, blocks_after, entries_pages, entry_page}
 use Rattle.mg_post.specs.Stands.{ShowsEntry}
 use Rattle.mg_post.specs.declared.find.Found.{Found}
 use Rattle.mg_post.specs.declared.find.PageBlocks.{PageBlocks}
@@ -64,6 +64,8 @@ pub record SearchesBlock (s : SkipSearch) (result : Result (Option Found) Refusa
   pub most : new.count ≤ entries_pages s.skip_at s.blocks
   pub found : IfOk result (λ found. IfSome found (IsSound s.reached s.blocks s.all s.doc))
   pub tells : IfOk result (λ found. IfSome found (TellsFound skip s.skip_at s.reached s.last))
+  -- where none is found, the entries tell that the last block ends before the document
+  pub past : IfOk result (EndsBefore skip s.skip_at s.reached s.last s.blocks s.doc)
   pub lacks : IfDamaged result (LacksAnEntry skip s.skip_at s.all s.last s.reached s.blocks)
   -- whatever the entries are, a search for the next document finds the next block, or none where all were reached
   pub next : s.doc ≡ s.last + 1 → IfOk result (FindsNext s.reached s.blocks s.last)

@@ -1,7 +1,7 @@
 -- A list stands in Post and Skip.
 use Rattle.std.specs.Prelude.{◌≡◌, ℕ, ◌+◌, ◌-◌, ◌*◌, ◌^◌, ◌<◌, ◌≤◌, List, length, Option}
 use Rattle.mg_defs.specs.declared.Posting.{Posting}
-use Rattle.mg_defs.specs.Bits.{Shows}
+use Rattle.mg_defs.specs.Bits.{Begins, FromPlace, Shows}
 use Rattle.mg_defs.specs.Lists.{SkipEntry, bits_after, last_doc, Rises, entry_of, entry_bits}
 
 -- this skip entry stands as that of a block, the first block's being the entry of a number
@@ -33,3 +33,10 @@ pub record BlockStands (all b : ℕ) (post : Option (List ℕ)) (at count before
     pub last_is : last_doc before ps ≡ last
     pub small : at + length (bits_after b before ps) ≤ 2 ^ 63
     pub bits : Shows post at (bits_after b before ps)
+
+-- from a bit of Post on, where its bytes are told, so many postings were read that follow a document and end with a last one
+pub record IsBlockAt (all b : ℕ) (post : Option (List ℕ)) (at count before last : ℕ) (ps : List Posting) : Type 0 where
+  pub count_is : length ps ≡ count
+  pub rises : Rises all before ps
+  pub last_is : last_doc before ps ≡ last
+  pub bits : FromPlace post at (Begins (bits_after b before ps))

@@ -9,6 +9,7 @@ use Rattle.mg_defs.specs.Lists.{postings}
 use Rattle.mg_defs.specs.PageBounds.{list_pages, numbers_in}
 use Rattle.mg_post.specs.Answers.{AnswersList}
 use Rattle.mg_post.specs.Cursor.{CursorFits, Cursoring, GoesToNext, IsFrom, SameList, next_doc, post_pages}
+use Rattle.mg_post.specs.Shown.{AnswersShown, StandsShown}
 use Rattle.mg_post.specs.TermLists.{AnswersAsk, CursorFor, ListsStand, PostRises, ReadsLists}
 
 -- a cursor over the whole list of a term, which was asked for no document past this one
@@ -41,6 +42,9 @@ pub record WalkStep (c v : Cursoring) (last : ℕ) (result : Result (Option Post
     pub sound : IfOk result (λ found. IfSome found (IsFrom (last + 1) c.all))
     -- and behind the current posting none is passed over: a walk ends only behind the last posting of the list's last block
     pub next : last + 1 ≡ next_doc c.held → IfOk result (GoesToNext c v)
+    -- whatever the parts have, what is answered is shown by blocks that stand and to which the entries lead
+    pub shows : (n : ℕ) → n ≤ last + 1 → StandsShown c files_before n →
+        IfOk result (AnswersShown c v files_before files_now (last + 1))
     pub reads : ReadsLists reads_before reads_now
     pub files : files_now ≡ files_before
     pub memory : result ≢ Err err.Memory

@@ -1,5 +1,5 @@
 //! A cursor over a list.
-ghost use Rattle.std.specs.Prelude.{◌≡◌, ◌≢◌, ◌+◌, ◌-◌, ◌/◌, ◌<◌, ◌≤◌, ◌^◌, List, [], true, false, Option, Some, None, Ok, Err, IfOk, IfErr, IfSome, OnOk};
+ghost use Rattle.std.specs.Prelude.{◌≡◌, ◌≢◌, ℕ, ◌+◌, ◌-◌, ◌/◌, ◌<◌, ◌≤◌, ◌^◌, List, [], true, false, Option, Some, None, Ok, Err, IfOk, IfErr, IfSome, OnOk};
 ghost use Rattle.mg_dev.specs.Files.{Files};
 ghost use Rattle.mg_dev.specs.Moments.{Between};
 ghost use Rattle.mg_dev.specs.PartCauses.{HasPartCause};
@@ -11,6 +11,7 @@ ghost use Rattle.mg_post.specs.Damages.{EntriesStand, HasPostCause, HasSkipCause
 ghost use Rattle.mg_post.specs.Finding.{entries_pages};
 ghost use Rattle.mg_post.specs.Cursor.{head_of, after, count_behind, next_doc, post_pages, entered_pages, skip_pages, CursorFits, GoesToNext, SameList, SamePlace, StandsAt, IsFrom, NamesItsPart};
 ghost use Rattle.mg_post.specs.CursorSteps.{CursorStep};
+ghost use Rattle.mg_post.specs.Shown.{AnswersShown, StandsShown};
 ghost use Rattle.mg_post.specs.TermLists.{AnswersForTerm, ReadsLists, CursorForInfo, TermPages, IsOverInfo, ForTerm};
 ghost use Rattle.mg_post.specs.WholeLists.{WalkStep};
 
@@ -39,7 +40,9 @@ use std::mem::swap;
 ///
 /// A walk from posting to posting passes none over, whatever the parts have: it ends only behind the
 /// last posting of the list's last block. A search far ahead passes blocks by their entries alone; where
-/// these rise but are not those of the list, it may pass a posting.
+/// these rise but are not those of the list, it may pass a posting. Each answer is shown by the parts: a
+/// posting stands in a block to which the entries lead, and where none is answered they tell that the
+/// list ends before the document.
 ///
 /// A damage is told of one part, with the first bit of what is missing. Where the skip entries are those
 /// of the list, none is told of Skip.
@@ -137,6 +140,7 @@ impl<'a, S: Store> Cursor<'a, S> {
         ensures term { IfOk result (CursorForInfo base.entry.now info.entry.now all) }
         ensures at { IfOk result (λ c. (ps : List Posting) → StandsAt c ps ps) }
         ensures before { IfOk result (λ c. c.held ≡ []) }
+        ensures shown { IfOk result (λ c. (files : Option Files) (n : ℕ) → StandsShown c files n) }
         ensures whole { IfOk result (λ c. count_behind c ≡ info.entry.now.docs) }
         ensures nothing { IfOk result
             (λ c. (post_pages c ≡ 0) × (entered_pages c ≡ 0) × (skip_pages c ≡ 0)) }
@@ -304,6 +308,9 @@ impl<'a, S: Store> Cursor<'a, S> {
         ensures sound { IfOk result (λ found. IfSome found (IsFrom doc self.old.all)) }
         ensures next { doc ≡ next_doc self.old.held →
             IfOk result (GoesToNext self.old self.new) }
+        ensures shows { (n : ℕ) → n ≤ doc → StandsShown self.old (S.files store.old) n →
+            IfOk result (AnswersShown self.old self.new (S.files store.old) (S.files store.new)
+            doc) }
         ensures part { IfErr result NamesItsPart }
         ensures post { (ps left : List Posting) → EntriesStand self.old (S.files store.old) ps →
             StandsAt self.old ps left → IfErr result (NamesPart part.Post) }

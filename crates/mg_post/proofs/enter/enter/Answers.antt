@@ -20,6 +20,7 @@ returns-in_default g c =
         from = tt;
         current = tt;
         whole = λ is. tt;
+        shows = tt;
         count = tt;
         told = λ ps blocks rises whole shows small found. absurd (omega (arith, bits_fit list.parameter (64 * c.args.found.block) ps, found.bits, far, small));
         most = λ ps blocks rises whole shows small found. absurd (omega (arith, bits_fit list.parameter (64 * c.args.found.block) ps, found.bits, far, small));
@@ -44,6 +45,7 @@ returns-then-last-found g c =
         from = tt;
         current = tt;
         whole = λ is. tt;
+        shows = tt;
         count = tt;
         told = λ ps blocks rises whole shows small found.
             let at : c.seek.new.self.place ≡ 8 * list.post_at + bits_before list.parameter (64 * f.block) ps = place ∙ ap (λ n. 8 * list.post_at + n) found.bits in
@@ -85,6 +87,7 @@ returns-in-Some-current g c =
     let place : c.seek.new.self.place ≡ 8 * list.post_at + f.at = c.seek.ensures.place ∙ c.in-Some.ensures in
     let sound : HeldRises list.all f.last c.forward.new.self = block_held list.all f.before f.last c.in-Ok.last c.args.doc c.fill.new.self c.forward.new.self
     e.rises e.last (omega (arith, c.if-last-found.false)) c.forward.ensures in
+    let ends : c.in-Ok.last ≡ f.last = omega (arith, c.if-last-found.false) in
     let read = rw (← e.place) at e.read in
     let most = count_most _ _ _ _ c.seek.new.self.place c.fill.new.r.place (rw c.seek.ensures.feed c.requires.feed.page) read.pages in
     record {
@@ -96,6 +99,16 @@ returns-in-Some-current g c =
             let all : c.forward.new.self ≡ c.fill.new.self =
             c.forward.ensures ∙ ap (λ n. forward_to n c.fill.new.self) is ∙ forward_all list.all f.before c.fill.new.self e.rises in
             ap length all ∙ e.whole ∙ c.min.ensures;
+        shows = record {
+          ps = c.fill.new.self;
+          stands = record {
+            count_is = e.whole ∙ c.min.ensures;
+            rises = e.rises;
+            last_is = sym e.last ∙ ends;
+            bits = rw (c.seek.ensures.feed, place) at e.shows;
+          };
+          held_is = c.forward.ensures;
+        };
         count = rw (c.pages_of-pages.ensures, c.place.ensures, ← c.seek.ensures.place, ← c.seek.ensures.feed) most;
         told = λ ps blocks rises whole shows small found.
             let at : c.seek.new.self.place ≡ 8 * list.post_at + bits_before list.parameter (64 * f.block) ps = place ∙ ap (λ n. 8 * list.post_at + n) found.bits in
@@ -136,6 +149,7 @@ returns-in-None g c =
         from = tt;
         current = tt;
         whole = λ is. tt;
+        shows = tt;
         count = tt;
         told = λ ps blocks rises whole shows small found.
             let at : c.seek.new.self.place ≡ 8 * list.post_at + bits_before list.parameter (64 * f.block) ps = place ∙ ap (λ n. 8 * list.post_at + n) found.bits in
@@ -179,6 +193,7 @@ returns-in-Err g c =
         from = tt;
         current = tt;
         whole = λ is. tt;
+        shows = tt;
         count = tt;
         told = λ ps blocks rises whole shows small found.
             let at : c.seek.new.self.place ≡ 8 * list.post_at + bits_before list.parameter (64 * f.block) ps = place ∙ ap (λ n. 8 * list.post_at + n) found.bits in

@@ -2,7 +2,7 @@ use Rattle.std.proofs.Common.{arith, ◌≡◌, ◌+◌, ◌*◌, ℕ, Option, s
 use Rattle.mg_bits.proofs.CallerLemmas.{calm_more, same_told}
 use Rattle.mg_defs.specs.Lists.{doc_before}
 use Rattle.mg_post.specs.Stands.{SkipStands}
-use Rattle.mg_post.specs.Finding.{LacksAnEntry, LacksLast, TellsBlock, TellsLast}
+use Rattle.mg_post.specs.Finding.{LacksAnEntry, LacksLast, TellsBefore, TellsBlock, TellsLast}
 use Rattle.mg_post.specs.declared.find.Found.{Found}
 use Rattle.mg_post.proofs.ReadLaws.{any_refused}
 use Rattle.mg_post.proofs.FindLaws.{any_cause, damaged_weaker, lacks_on, lacks_wider, page_answer, page_between, reads_now, reads_to, reads_same, tells_next, tells_on, within_entries, reads_at, reads_within}
@@ -40,6 +40,7 @@ returns-in-Err g c =
             (reads_to s.skip_at c.loop-low.low c.page_end-high.result _ _ _ i.reads c.page_end-high.ensures.from e.does.page.count);
         found = tt;
         tells = tt;
+        past = tt;
         lacks = damaged_weaker c.in-Err.refusal
             (LacksLast ((g.F.Feed.feeding c.args.r.now.feed).source (g.F.Feed.device c.args.dev.now).files) s.skip_at c.page_end-high.result c.loop-low.before s.all) _
             (λ at lacks. lacks_on _ s.skip_at s.all s.reached s.last c.loop-low.low c.loop-low.before c.page_end-high.result s.blocks at i.from c.page_end-high.ensures.from
@@ -91,6 +92,7 @@ returns-in-Ok-search_page g c =
             let f = e.does.next (omega (arith, is, at_first.1)) in
             (omega (arith, f.0, at_first.0), omega (arith, f.1, at_first.1));
         tells = tells_on _ s.skip_at s.reached c.loop-low.low s.last c.loop-low.before _ _ _ _ i.from e.does.found.from i.before_is found;
+        past = tt;
         lacks = tt;
         told = λ ps b stands last.
             let end : c.in-Ok.last ≡ doc_before (64 * (high + 1)) ps =
@@ -122,6 +124,7 @@ returns-in-Err-search_page g c =
         );
         found = tt;
         tells = tt;
+        past = tt;
         lacks = damaged_weaker c.in-Err-search_page.refusal
             (LacksAnEntry ((g.F.Feed.feeding c.args.r.now.feed).source (g.F.Feed.device c.args.dev.now).files) s.skip_at s.all c.loop-low.before c.loop-low.low (high + 1)) _
             (λ at. lacks_wider _ s.skip_at s.all s.reached s.last c.loop-low.low c.loop-low.before (high + 1) s.blocks at i.from (omega (arith, c.page_end-high.ensures.there)) i.before_is)
@@ -150,6 +153,7 @@ returns g c =
         most = reads_within s.skip_at c.loop-low.low s.blocks _ _ i.reads i.there;
         found = tt;
         tells = tt;
+        past = (c.loop-low.before, subst (λ n. TellsBefore ((g.F.Feed.feeding c.args.r.now.feed).source (g.F.Feed.device c.args.dev.now).files) s.skip_at s.reached s.last n c.loop-low.before) all i.before_is, i.below);
         lacks = tt;
         next = λ is. omega (arith, (i.next is).0, all);
         told = λ ps b stands last. omega (arith, i.below, i.told ps b stands last, ap (λ n. doc_before (64 * n) ps) all);

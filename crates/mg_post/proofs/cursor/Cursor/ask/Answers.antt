@@ -29,6 +29,9 @@ returns-clause-sound g c = c.advance_to.ensures.step.sound
 pub returns-clause-next : goal.returns-clause-next
 returns-clause-next g c = c.advance_to.ensures.step.next
 
+pub returns-clause-shows : goal.returns-clause-shows
+returns-clause-shows g c = c.advance_to.ensures.step.shows
+
 pub returns-clause-part : goal.returns-clause-part
 returns-clause-part g c = c.advance_to.ensures.step.part
 

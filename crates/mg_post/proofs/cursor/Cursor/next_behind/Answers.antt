@@ -17,6 +17,7 @@ returns g c =
       post = λ base collection t stand f. (e.pages base collection (numbers_in (postings collection t)) t (list_may_ask base collection t c.args.last _ _ stand f)).post;
       sound = e.sound;
       next = e.next;
+      shows = e.shows;
       reads = e.reads;
       files = e.files;
       memory = e.memory;

@@ -3,6 +3,7 @@ use Rattle.std.proofs.lemmas.Bool.{false≢true}
 use Rattle.mg_bits.specs.Pages.{Paging}
 use Rattle.mg_post.specs.Cursor.{Cursoring}
 use Rattle.mg_post.proofs.CursorLaws.{starts}
+use Rattle.mg_post.proofs.ShownLaws.{shown_start}
 use Rattle.mg_post.proofs.SoundLaws.{nothing_held}
 use Rattle.mg_post.proofs.TermLaws.{term_starts}
 use Rattle.mg_post.proofs.cursor.Cursor.start.Goals as goal
@@ -39,6 +40,9 @@ returns-clause-term g c = λ collection asked t n told all.
     (λ ps. record { on = rw c.in_ok-block.ensures (starts ps) })
     refl
     (omega (arith, ap (λ (p : Paging). p.count) c.new-5.ensures.feed, c.in_ok-post.ensures.count))
+
+pub returns-clause-shown : goal.returns-clause-shown
+returns-clause-shown g c = shown_start refl refl refl c.in_ok-block.ensures
 
 pub returns-clause-whole : goal.returns-clause-whole
 returns-clause-whole g c = omega (arith, ap length c.in_ok-block.ensures)
