@@ -20,6 +20,7 @@ use Rattle.mg_post.specs.Answers.{AnswersList}
 use Rattle.mg_post.specs.Cursor.{Cursoring, head_of, post_pages}
 use Rattle.mg_post.specs.TermLists.{CursorFor, ListsStand, PagesWithin}
 use Rattle.mg_bool.specs.Places.{AnswersAll, AnswersPlace, AreInfos, AsksAll, AsksPlace, Asking, IsToldOf, Place, PlaceFits, PlaceFor, PlaceOn, PlacesFit, PlacesFor, PlacesOn, SamePlace, SamePlaces, number_in, pages_read, place_pages, is_first}
+use Rattle.mg_bool.specs.Shown.{IsListOf, PlaceStands}
 
 -- a refusal is a device's, whatever the answer is about
 pub err_answer : {A B : Type 0} (e : PartErr) (f : A → Type 0) (h : B → Type 0) → AnswersList {T = A} (Err e) f → AnswersList {T = B} (Err e) h
@@ -80,7 +81,7 @@ on_same base all (Some c) (Some v) same on = record { post = same.post ∙ on.po
 
 -- ---- one of many places
 
-old_is : (xs : List Place) (i : ℕ) (old : Place) → i < length xs → old ≡ slice_index_or xs i old → slice_index_or xs i None ≡ old
+pub old_is : (xs : List Place) (i : ℕ) (old : Place) → i < length xs → old ≡ slice_index_or xs i old → slice_index_or xs i None ≡ old
 old_is xs i old lt value = get_or_default xs i None old lt ∙ sym value
 
 pub set_self : (xs : List Place) (i : ℕ) (v : Place) → i < length xs → slice_index_or (slice_set xs i v) i None ≡ v
@@ -276,6 +277,8 @@ pub record PlaceMade (base : List ℕ) (all : ℕ) (info : Option TermInfo) (p :
   pub over : (collection asked t : List ℕ) (n : ℕ) → IsToldOf collection t info → all ≡ length (documents collection) → PlaceFor base collection asked t n p
   pub on : PlaceOn base all p
   pub fits : (files : Option Files) → PlaceFits files p
+  pub list : IsListOf base info all p
+  pub stands : (files : Option Files) (n : ℕ) → PlaceStands p files n
   pub nothing : place_pages p ≡ 0
 
 pub record PlacesMade (base : List ℕ) (all : ℕ) (infos : List (Option TermInfo)) (count : ℕ) (places : List Place) : Type 0 where

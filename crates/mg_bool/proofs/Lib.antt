@@ -5,4 +5,5 @@ mod FirstLaws
 mod NextLaws
 mod WordLaws
 mod StayLaws
+mod ShownLaws
 mod WalkLaws

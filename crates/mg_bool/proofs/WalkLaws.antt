@@ -15,6 +15,7 @@ use Rattle.mg_post.specs.TermLists.{ReadsLists}
 use Rattle.mg_bool.specs.Places.{AnswersFirst, AsksAll, FindsFirst, Place, PlacesAnswer, PlacesFit, PlacesFor, PlacesRead, SamePlaces, pages_read}
 use Rattle.mg_bool.specs.Matches.{FindsCandidate, GoesOver, IsNext, IsNextDoc, Leads, ReadsBetween, left_in}
 use Rattle.mg_bool.specs.Walked.{IsReady, Spot, Walked}
+use Rattle.mg_bool.proofs.ShownLaws.{NextShown, Passes, passes_miss, passes_on, passes_start, shown_end, shown_hit}
 use Rattle.mg_bool.proofs.AskLaws.{CursorsWithin, err_answer, places_later, same_all, same_then}
 use Rattle.mg_bool.proofs.AnyLaws.{any_asks, first_is_next}
 use Rattle.mg_bool.proofs.NextLaws.{Going, going_end, going_hit, going_miss, going_none, going_pages, going_start, goes_now, next_asks, pages_more, stands_now, sum_pages}
@@ -57,6 +58,7 @@ pub record Under (q : Query) (led : Option ℕ) (all : ℕ) (old now : Spot) (fi
   pub later : old.decided ≤ now.decided
   pub goes : (base collection : List ℕ) → GoesOver base collection q files_before old.places led all old.decided →
       Going base collection q old.places now.places led all old.decided now.decided reads_before reads_now
+  pub shows : Passes q led files_before files_now old.places now.places old.decided now.decided
 
 pub under_start : (q : Query) (led : Option ℕ) (all : ℕ) (old : Spot) (files : Option Files) (reads : Reads) (faults : ℕ) → IsReady files led all old →
     Under q led all old old files files reads reads faults faults
@@ -67,6 +69,7 @@ under_start q led all old files reads faults ready = record {
   most = ready.most;
   later = omega arith;
   goes = λ base collection goes. going_start base collection q files old.places led all old.decided reads goes;
+  shows = passes_start;
 }
 
 -- where the places go over a collection's documents, this one is the next that may satisfy the query, and it is told whether it does
@@ -94,6 +97,7 @@ module _ {q : Query} {led : Option ℕ} {all : ℕ} {old mid : Spot} {f g : Opti
     last = λ _. omega (arith, u.most, le);
     answer = λ base collection goes. going_end base collection q old.places mid.places led all old.decided mid.decided r s (u.goes base collection goes) le;
     pages = λ base collection goes. going_pages base collection q old.places mid.places led all old.decided mid.decided r s law (u.goes base collection goes);
+    shows = shown_end le u.shows;
     part = tt;
     reads = u.step.reads;
     files = u.step.files;
@@ -122,6 +126,7 @@ module _ {q : Query} {led : Option ℕ} {all : ℕ} {old mid : Spot} {f g : Opti
       last = λ is. absurd cc;
       answer = λ base collection goes. err_answer e _ _ (answer base collection (now_over base collection goes));
       pages = more_pages;
+      shows = λ stands. tt;
       part = part;
       reads = lists_on u.step.reads step.reads;
       files = step.files ∙ u.step.files;
@@ -133,8 +138,8 @@ module _ {q : Query} {led : Option ℕ} {all : ℕ} {old mid : Spot} {f g : Opti
     pub walk_none : PlacesFit h places →
         ((base collection : List ℕ) → GoesOver base collection q g mid.places led all mid.decided →
         (left_in collection q mid.decided ≡ []) × PlacesFor base collection (asked_of collection q) (query_terms q) (mid.decided + 1) places) →
-        Walked q led all old (record { places = places; there = told; decided = all }) (Ok None) f h r t l n
-    walk_none fits found = record {
+        Passes q led g h mid.places places mid.decided all → Walked q led all old (record { places = places; there = told; decided = all }) (Ok None) f h r t l n
+    walk_none fits found passes = record {
       fits = fits;
       same = same_then old.places mid.places places u.step.same step.same;
       there = there ∙ u.there;
@@ -146,6 +151,7 @@ module _ {q : Query} {led : Option ℕ} {all : ℕ} {old mid : Spot} {f g : Opti
           let a = found base collection (now_over base collection goes) in
           going_none base collection q old.places mid.places places led all old.decided mid.decided r s (u.goes base collection goes) a.0 a.1;
       pages = more_pages;
+      shows = shown_end (omega arith) (passes_on u.step.same u.step.files u.shows passes);
       part = tt;
       reads = lists_on u.step.reads step.reads;
       files = step.files ∙ u.step.files;
@@ -154,7 +160,8 @@ module _ {q : Query} {led : Option ℕ} {all : ℕ} {old mid : Spot} {f g : Opti
     }
 
     -- the next document that may satisfy it does, or not
-    module _ {doc : ℕ} {b : Bool} (fits : PlacesFit h places) (later : mid.decided < doc) (most : doc ≤ all) (decides : Decides q g led all mid.places mid.decided doc b places) where
+    module _ {doc : ℕ} {b : Bool} (fits : PlacesFit h places) (later : mid.decided < doc) (most : doc ≤ all) (decides : Decides q g led all mid.places mid.decided doc b places)
+        (next : NextShown q led g h mid.places places mid.decided doc b) where
       pub walk_hit : b ≡ true → Walked q led all old (record { places = places; there = told; decided = doc }) (Ok (Some doc)) f h r t l n
       walk_hit hit = record {
         fits = fits;
@@ -168,6 +175,7 @@ module _ {q : Query} {led : Option ℕ} {all : ℕ} {old mid : Spot} {f g : Opti
             let a = decides base collection (now_over base collection goes) in
             going_hit base collection q old.places mid.places places led all old.decided mid.decided doc b r s (u.goes base collection goes) a.0 a.1 a.2 hit;
         pages = more_pages;
+        shows = shown_hit u.step.same u.step.files u.shows next hit;
         part = tt;
         reads = lists_on u.step.reads step.reads;
         files = step.files ∙ u.step.files;
@@ -186,6 +194,7 @@ module _ {q : Query} {led : Option ℕ} {all : ℕ} {old mid : Spot} {f g : Opti
             let now = now_over base collection goes in
             let a = decides base collection now in
             going_miss base collection q old.places mid.places places led all old.decided mid.decided doc b r s t (u.goes base collection goes) a.0 a.1 a.2 miss (pages base collection now).post;
+        shows = passes_miss u.step.same u.step.files u.shows next miss;
       }
 
 -- ---- a candidate is asked of all places

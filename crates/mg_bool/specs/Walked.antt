@@ -9,6 +9,7 @@ use Rattle.mg_post.specs.Cursor.{NamesItsPart}
 use Rattle.mg_post.specs.TermLists.{ReadsLists}
 use Rattle.mg_bool.specs.Places.{Place, PlacesFit, PlacesOn, SamePlaces}
 use Rattle.mg_bool.specs.Matches.{FindsNext, IsWithin, ReadsBetween}
+use Rattle.mg_bool.specs.Shown.{DecidesShown, WalkStands}
 use Rattle.mg_bool.specs.declared.walk.Walk.{Walk}
 
 -- where a walk stands
@@ -41,6 +42,10 @@ pub record Walked (q : Query) (led : Option ℕ) (all : ℕ) (old now : Spot) (r
     pub last : result ≡ Ok None → now.decided ≡ all
     pub answer : FindsNext q files_before led all old.places now.places old.decided (λ _. now.decided) result
     pub pages : ReadsBetween q files_before reads_before reads_now led all old.places now.places old.decided
+    -- whatever the parts have, each document that was decided is shown to satisfy the query or not
+    pub shows : WalkStands q files_before old.places old.decided →
+        IfOk result (λ found. DecidesShown q files_before old.places led all old.decided found
+        × WalkStands q files_now now.places now.decided)
     pub part : IfErr result NamesItsPart
     pub reads : ReadsLists reads_before reads_now
     pub files : files_now ≡ files_before

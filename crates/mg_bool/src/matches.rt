@@ -9,6 +9,7 @@ ghost use Rattle.mg_post.specs.Cursor.{NamesItsPart};
 ghost use Rattle.mg_post.specs.TermLists.{ReadsLists};
 ghost use Rattle.mg_bool.specs.Places.{pages_read};
 ghost use Rattle.mg_bool.specs.Matches.{MatchesFit, SameMatches, StartsMatches, ForMatches, MatchesGoOn, MatchesRead};
+ghost use Rattle.mg_bool.specs.Shown.{AnswersShown, AreLists, MatchesStand, SameLists};
 
 use crate::lead::lead_place;
 use crate::next::next_match;
@@ -29,6 +30,9 @@ use std::marker::Model;
 /// the query holds in no document without its terms, only the documents of some list are asked.
 /// Contracts see what is still to come of a collection as `left_of`; the answer at each call is its
 /// first.
+///
+/// Whatever the parts have, a document is decided only by blocks of the lists that stand. So a damage
+/// that is met is told. It is taken neither for the end of a list nor for a term that a document lacks.
 #[derive(Drop)]
 pub struct Matches<'a, S: Store> {
     asks: Asks<'a>,
@@ -76,6 +80,8 @@ impl<'a, S: Store> Matches<'a, S> {
         ensures before { IfOk result (λ m. m.decided ≡ 0) }
         ensures fits { IfOk result (λ m. (files : Option Files) →
             MatchesFit base.entry.now files m) }
+        ensures lists { IfOk result (λ m. AreLists base.entry.now infos.now all m.places) }
+        ensures stands { IfOk result (λ m. (files : Option Files) → MatchesStand files m) }
         ensures nothing { IfOk result (λ m. pages_read m.places ≡ 0) }
     {
         let places = start_all(alloc, base, infos, all)?;
@@ -99,12 +105,16 @@ impl<'a, S: Store> Matches<'a, S> {
         ensures fits { OnOk result ((base : List ℕ) → MatchesFit base (S.files store.old) self.old →
             MatchesFit base (S.files store.new) self.new) }
         ensures same { SameMatches self.old self.new }
+        ensures lists { SameLists self.old self.new }
         ensures answer { ForMatches (S.files store.old) self.old
             (λ base collection. AnswersList result
             (MatchesGoOn base collection self.old self.new)) }
         ensures pages { ForMatches (S.files store.old) self.old
             (λ _ collection. MatchesRead collection self.old self.new (S.reads store.old)
             (S.reads store.new)) }
+        // Whatever the parts have, each document is decided by blocks that stand.
+        ensures shows { AnswersShown (S.files store.old) (S.files store.new) self.old self.new
+            result }
         ensures range { IfOk result (λ found.
             IfSome found (λ doc. (self.old.decided < doc) × (doc ≤ self.old.all)
             × (self.new.decided ≡ doc))) }

@@ -8,6 +8,7 @@ ghost use Rattle.mg_post.specs.Cursor.{NamesItsPart};
 ghost use Rattle.mg_post.specs.TermLists.{ReadsLists};
 ghost use Rattle.mg_bool.specs.Places.{IsInRange, PlacesFit, PlacesOn, SamePlaces};
 ghost use Rattle.mg_bool.specs.Matches.{IsWithin, FindsCandidate, ReadsNext};
+ghost use Rattle.mg_bool.specs.Shown.{PlacesStand, ShowsCandidate};
 ghost use Rattle.mg_bool.specs.Walked.{IsReady, Walked, spot};
 
 use crate::any::next_of_any;
@@ -38,6 +39,9 @@ fn candidate<S: Store>(
         places.new.items decided result }
     ensures pages { (q : Meant) → ReadsNext q S.files S.reads store.old store.new lead all
         places.old.items places.new.items decided }
+    ensures shows { PlacesStand (S.files store.old) places.old.items (decided + 1) →
+        IfOk result (λ found. ShowsCandidate (S.files store.old) places.old.items lead decided found
+        × PlacesStand (S.files store.new) places.new.items (decided + 1)) }
     ensures part { IfErr result NamesItsPart }
     ensures reads { ReadsLists (S.reads store.old) (S.reads store.new) }
     ensures files { S.files store.new ≡ S.files store.old }

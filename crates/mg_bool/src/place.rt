@@ -1,11 +1,12 @@
 //! The place of a term in a query.
-ghost use Rattle.std.specs.Prelude.{◌≡◌, ◌≢◌, ℕ, ◌≤◌, List, Option, Err, IfErr, IfOk, IfSome, OnOk};
+ghost use Rattle.std.specs.Prelude.{◌≡◌, ◌≢◌, ℕ, ◌≤◌, List, Option, Some, Err, IfErr, IfOk, IfSome, OnOk};
 ghost use Rattle.mg_dev.specs.Files.{Files};
 ghost use Rattle.mg_dev.specs.PartCauses.{HasPartCause};
 ghost use Rattle.mg_post.specs.Cursor.{CursorFits, NamesItsPart, SameList};
 ghost use Rattle.mg_post.specs.TermLists.{ReadsLists};
 ghost use Rattle.mg_bool.specs.Places.{IsInRange, PlaceFits, PlaceOn, SamePlace, place_pages};
 ghost use Rattle.mg_bool.specs.Places.{StartsPlace, CursorAnswers, CursorReads, PlaceAnswers, PlaceReads};
+ghost use Rattle.mg_bool.specs.Shown.{IsListOf, PlaceAsked, PlaceStands};
 
 use mg_dev::{PartErr, Store};
 use mg_layout::TermInfo;
@@ -42,6 +43,8 @@ fn ask_cursor<S: Store>(
     ensures answer { CursorAnswers doc (S.files store.old) cursor.old cursor.new result }
     ensures pages { CursorReads doc (S.files store.old) cursor.old cursor.new (S.reads store.old)
         (S.reads store.new) }
+    ensures shows { PlaceAsked (Some cursor.old) (Some cursor.new) (S.files store.old)
+        (S.files store.new) doc result }
     ensures range { IfOk result (λ found. IfSome found (IsInRange doc cursor.old.all)) }
     ensures part { IfErr result NamesItsPart }
     ensures reads { ReadsLists (S.reads store.old) (S.reads store.new) }
@@ -67,6 +70,8 @@ impl<'a, S: Store> Place<'a, S> {
         ensures place { IfOk result (StartsPlace base.entry.now info.now all) }
         ensures on { IfOk result (PlaceOn base.entry.now all) }
         ensures fits { IfOk result (λ p. (files : Option Files) → PlaceFits files p) }
+        ensures list { IfOk result (IsListOf base.entry.now info.now all) }
+        ensures stands { IfOk result (λ p. (files : Option Files) (n : ℕ) → PlaceStands p files n) }
         ensures nothing { IfOk result (λ p. place_pages p ≡ 0) }
     {
         match info {
@@ -90,6 +95,8 @@ impl<'a, S: Store> Place<'a, S> {
         ensures answer { PlaceAnswers doc (S.files store.old) self.old self.new result }
         ensures pages { PlaceReads doc (S.files store.old) self.old self.new (S.reads store.old)
             (S.reads store.new) }
+        ensures shows { PlaceAsked self.old self.new (S.files store.old) (S.files store.new) doc
+            result }
         ensures range { (base : List ℕ) (all : ℕ) → PlaceOn base all self.old →
             IfOk result (λ found. IfSome found (IsInRange doc all)) }
         ensures part { IfErr result NamesItsPart }

@@ -7,6 +7,7 @@ ghost use Rattle.mg_post.specs.Cursor.{NamesItsPart};
 ghost use Rattle.mg_post.specs.TermLists.{ReadsLists};
 ghost use Rattle.mg_bool.specs.Places.{IsInRange, PlaceOn, PlacesFit, PlacesOn, SamePlaces, pages_read, PlaceAnswers, PlaceReads, nth_place};
 ghost use Rattle.mg_bool.specs.Places.{StartPlaces, PlacesAnswer, PlacesRead, FindsFirst, TakesFound, comes_sooner, is_first};
+ghost use Rattle.mg_bool.specs.Shown.{AllAsked, AreLists, FirstAsked, PlaceAsked, PlacesStand};
 
 use crate::place::Place;
 use mg_dev::{PartErr, Store};
@@ -43,6 +44,8 @@ pub(crate) fn ask_at<S: Store>(
         (nth_place places.new.items i) result }
     ensures pages { PlaceReads doc (S.files store.old) (nth_place places.old.items i)
         (nth_place places.new.items i) (S.reads store.old) (S.reads store.new) }
+    ensures shows { PlaceAsked (nth_place places.old.items i) (nth_place places.new.items i)
+        (S.files store.old) (S.files store.new) doc result }
     ensures range { (base : List ℕ) (all : ℕ) → PlaceOn base all (nth_place places.old.items i) →
         IfOk result (λ found. IfSome found (IsInRange doc all)) }
     ensures part { IfErr result NamesItsPart }
@@ -72,6 +75,8 @@ pub(crate) fn ask_all<S: Store>(
         there.new.items result }
     ensures pages { PlacesRead doc (S.files store.old) places.old.items places.new.items
         (S.reads store.old) (S.reads store.new) }
+    ensures shows { AllAsked places.old.items places.new.items (S.files store.old)
+        (S.files store.new) doc there.new.items result }
     ensures part { IfErr result NamesItsPart }
     ensures reads { ReadsLists (S.reads store.old) (S.reads store.new) }
     ensures files { S.files store.new ≡ S.files store.old }
@@ -164,6 +169,8 @@ pub(crate) fn ask_first<S: Store>(
         there.new.items result }
     ensures pages { PlacesRead from (S.files store.old) places.old.items places.new.items
         (S.reads store.old) (S.reads store.new) }
+    ensures shows { FirstAsked places.old.items places.new.items (S.files store.old)
+        (S.files store.new) from there.new.items result }
     ensures part { IfErr result NamesItsPart }
     ensures reads { ReadsLists (S.reads store.old) (S.reads store.new) }
     ensures files { S.files store.new ≡ S.files store.old }
@@ -192,6 +199,9 @@ pub(crate) fn start_all<'a, S: Store>(
     ensures over { IfOk result (λ places. StartPlaces base.entry.now infos.now all places.items) }
     ensures on { IfOk result (λ places. PlacesOn base.entry.now all places.items) }
     ensures fits { IfOk result (λ places. (files : Option Files) → PlacesFit files places.items) }
+    ensures lists { IfOk result (λ places. AreLists base.entry.now infos.now all places.items) }
+    ensures stands { IfOk result (λ places. (files : Option Files) (n : ℕ) →
+        PlacesStand files places.items n) }
     ensures nothing { IfOk result (λ places. pages_read places.items ≡ 0) }
 {
     let mut places = Vec::new(alloc);

@@ -6,6 +6,7 @@ ghost use Rattle.mg_post.specs.Cursor.{NamesItsPart};
 ghost use Rattle.mg_post.specs.TermLists.{ReadsLists};
 ghost use Rattle.mg_bool.specs.Places.{IsInRange, PlacesFit, PlacesOn, SamePlaces};
 ghost use Rattle.mg_bool.specs.Matches.{decided_by, FindsNext, ReadsNext};
+ghost use Rattle.mg_bool.specs.Shown.{PlacesStand, ShowsCandidate};
 
 use crate::place::Place;
 use crate::places::ask_at;
@@ -33,6 +34,9 @@ pub(crate) fn next_of_word<S: Store>(
         places.old.items places.new.items decided (decided_by all) result }
     ensures pages { (t : List ℕ) → ReadsNext (term t) S.files S.reads store.old store.new
         (Some place) all places.old.items places.new.items decided }
+    ensures shows { PlacesStand (S.files store.old) places.old.items (decided + 1) →
+        IfOk result (λ found. ShowsCandidate (S.files store.old) places.old.items (Some place)
+        decided found × PlacesStand (S.files store.new) places.new.items (decided + 1)) }
     ensures part { IfErr result NamesItsPart }
     ensures reads { ReadsLists (S.reads store.old) (S.reads store.new) }
     ensures files { S.files store.new ≡ S.files store.old }

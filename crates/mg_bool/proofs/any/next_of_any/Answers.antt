@@ -1,5 +1,6 @@
 use Rattle.std.proofs.Common.{arith, sym, ap, ◌∙◌, Err}
 use Rattle.mg_bool.proofs.AskLaws.{on_still}
+use Rattle.mg_bool.proofs.ShownLaws.{first_next, first_none}
 use Rattle.mg_bool.proofs.WalkLaws.{any_decides, any_err, any_none, any_reads, under_start, walk_end, walk_err, walk_hit, walk_more, walk_none}
 use Rattle.mg_bool.proofs.any.next_of_any.Goals as goal
 
@@ -20,6 +21,7 @@ returns-in-Ok-None g c =
     walk_none c.loop-walk.invariant _ (record { same = e.same; files = e.files; reads = e.reads; faults = e.cause.later }) e.size
     (any_reads c.requires.none c.requires.some c.loop-walk-test.true c.ask_first.new.places.items _ _ e.pages) c.in-Ok-None.ensures.fits
     (any_none c.requires.none c.requires.some c.loop-walk-test.true c.ask_first.new.places.items c.ask_first.new.there.items (rw c.in-Ok-None.field-0-is at c.in-Ok-None.ensures.answer))
+    (first_none c.requires.some c.loop-walk.invariant.most e.same (rw c.in-Ok-None.field-0-is at c.in-Ok-None.ensures.shows))
 
 pub returns-in-Err : goal.returns-in-Err
 returns-in-Err g c =
@@ -38,7 +40,9 @@ returns-then-holds g c =
     walk_hit c.loop-walk.invariant _ (record { same = e.same; files = e.files; reads = e.reads; faults = e.cause.later }) e.size
     (any_reads c.requires.none c.requires.some c.loop-walk-test.true c.ask_first.new.places.items _ _ e.pages) e.fits (omega (arith, range.0)) range.1
     (any_decides c.requires.none c.requires.some c.loop-walk-test.true c.ask_first.new.places.items c.ask_first.new.there.items _ _
-    (rw c.in-Ok-Some.field-0-is at e.answer) (λ doc t. c.holds.ensures.satisfied doc (rw (← c.deref.ensures.value) at t))) c.if-holds.true
+    (rw c.in-Ok-Some.field-0-is at e.answer) (λ doc t. c.holds.ensures.satisfied doc (rw (← c.deref.ensures.value) at t)))
+    (first_next c.requires.some (omega (arith, range.0)) e.same (e.size ∙ c.loop-walk.invariant.there ∙ c.requires.ready.there ∙ sym c.loop-walk.invariant.step.same.size)
+    (rw c.in-Ok-Some.field-0-is at e.shows) (rw c.deref.ensures.value at c.holds.ensures.value)) c.if-holds.true
 
 pub loop-walk-smaller : goal.loop-walk-smaller
 loop-walk-smaller g c =
@@ -52,7 +56,9 @@ loop-walk-preserved g c =
     walk_more c.loop-walk.invariant _ (record { same = e.same; files = e.files; reads = e.reads; faults = e.cause.later }) e.size
     (any_reads c.requires.none c.requires.some c.loop-walk-test.true c.ask_first.new.places.items _ _ e.pages) e.fits (omega (arith, range.0)) range.1
     (any_decides c.requires.none c.requires.some c.loop-walk-test.true c.ask_first.new.places.items c.ask_first.new.there.items _ _
-    (rw c.in-Ok-Some.field-0-is at e.answer) (λ doc t. c.holds.ensures.satisfied doc (rw (← c.deref.ensures.value) at t))) c.if-holds.false
+    (rw c.in-Ok-Some.field-0-is at e.answer) (λ doc t. c.holds.ensures.satisfied doc (rw (← c.deref.ensures.value) at t)))
+    (first_next c.requires.some (omega (arith, range.0)) e.same (e.size ∙ c.loop-walk.invariant.there ∙ c.requires.ready.there ∙ sym c.loop-walk.invariant.step.same.size)
+    (rw c.in-Ok-Some.field-0-is at e.shows) (rw c.deref.ensures.value at c.holds.ensures.value)) c.if-holds.false
 
 -- ---- all documents were decided
 

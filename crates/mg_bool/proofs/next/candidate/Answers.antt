@@ -1,4 +1,4 @@
-use Rattle.std.proofs.Common.{arith, ◌+◌, List, [], get_or, sym, subst}
+use Rattle.std.proofs.Common.{arith, ◌+◌, List, [], get_or, refl, sym, subst}
 use Rattle.std.specs.Prelude.{slice_index_or, slice_set, None}
 use Rattle.mg_defs.specs.QueryTerms.{query_terms}
 use Rattle.mg_defs.specs.PageBounds.{asked_of, boolean_bound}
@@ -7,6 +7,7 @@ use Rattle.mg_post.specs.TermLists.{PagesWithin}
 use Rattle.mg_bool.specs.Places.{Place, PlacesFor, pages_read}
 use Rattle.mg_bool.specs.Matches.{IsNext, Leads}
 use Rattle.mg_bool.proofs.AskLaws.{answers_more, same_all}
+use Rattle.mg_bool.proofs.ShownLaws.{candidate_asked}
 use Rattle.mg_bool.proofs.NextLaws.{any_next, lead_answer, lead_of, lead_pages, still_pages}
 use Rattle.mg_bool.proofs.next.candidate.Goals as goal
 
@@ -43,3 +44,11 @@ returns-clause-pages g c = λ q base collection goes.
     (lead_pages base collection q _ c.args.places.now.items c.args.lead c.in-Some.place c.args.all c.args.decided
     (slice_index_or c.ask_at.new.places.items c.in-Some.place None) _ _ c.cursor_pages_are_within.ensures goes l
     (c.ask_at.ensures.pages base collection (asked_of collection q) (get_or (query_terms q) c.in-Some.place []) l.asks))
+
+pub returns-in_default-clause-shows : goal.returns-in_default-clause-shows
+returns-in_default-clause-shows g c = λ stands. (rw c.in_default.is refl, stands)
+
+pub returns-clause-shows : goal.returns-clause-shows
+returns-clause-shows g c =
+    candidate_asked c.args.decided (slice_index_or c.ask_at.new.places.items c.in-Some.place None) c.ask_at.result _ c.in-Some.place c.in-Some.is
+    (rw c.in-Some.is at c.requires.lead) c.ask_at.ensures.files c.ask_at.ensures.places c.ask_at.ensures.shows

@@ -2,6 +2,7 @@ use Rattle.std.proofs.Common.{arith, refl, sym, ap, subst, ◌∙◌, Err}
 use Rattle.mg_query.specs.QueryOf.{query_of}
 use Rattle.mg_bool.specs.Matches.{IsWithin}
 use Rattle.mg_bool.proofs.AskLaws.{err_answer, on_still}
+use Rattle.mg_bool.proofs.ShownLaws.{candidate_next, candidate_none}
 use Rattle.mg_bool.proofs.WalkLaws.{asked_decides, asked_err, asked_reads, stepped_on, under_start, walk_end, walk_err, walk_hit, walk_more, walk_none}
 use Rattle.mg_bool.proofs.next.next_asked.Goals as goal
 
@@ -27,6 +28,7 @@ returns-in-Ok-None g c =
     let e = c.candidate.ensures in
     walk_none c.loop-walk.invariant _ (record { same = e.same; files = e.files; reads = e.reads; faults = e.cause.later }) refl (e.pages _)
     c.in-Ok-None.ensures.fits ((rw c.in-Ok-None.field-0-is at c.in-Ok-None.ensures.answer) _)
+    (candidate_none c.loop-walk.invariant.most e.same (rw c.in-Ok-None.field-0-is at c.in-Ok-None.ensures.shows))
 
 pub returns-in-Err : goal.returns-in-Err
 returns-in-Err g c =
@@ -54,7 +56,9 @@ returns-then-holds g c =
     let range = rw c.in-Ok-Some.field-0-is at c.in-Ok-Some.ensures.range in
     walk_hit c.loop-walk.invariant _ step a.size (asked_reads e.files found (e.pages _) c.ask_all.new.places.items _ a.pages) a.fits (omega (arith, range.0)) range.1
     (asked_decides e.files found (e.pages _) c.ask_all.new.places.items c.ask_all.new.there.items _ a.answer
-    (λ doc t. c.holds.ensures.satisfied doc (rw (← c.deref.ensures.value) at t))) c.if-holds.true
+    (λ doc t. c.holds.ensures.satisfied doc (rw (← c.deref.ensures.value) at t)))
+    (candidate_next c.ask_all.new.there.items (omega (arith, range.0)) e.same a.same e.files (a.size ∙ c.loop-walk.invariant.there ∙ c.requires.there ∙ sym c.loop-walk.invariant.step.same.size)
+    (rw c.in-Ok-Some.field-0-is at c.in-Ok-Some.ensures.shows) a.shows (rw c.deref.ensures.value at c.holds.ensures.value)) c.if-holds.true
 
 pub loop-walk-preserved : goal.loop-walk-preserved
 loop-walk-preserved g c =
@@ -65,7 +69,9 @@ loop-walk-preserved g c =
     let range = rw c.in-Ok-Some.field-0-is at c.in-Ok-Some.ensures.range in
     walk_more c.loop-walk.invariant _ step a.size (asked_reads e.files found (e.pages _) c.ask_all.new.places.items _ a.pages) a.fits (omega (arith, range.0)) range.1
     (asked_decides e.files found (e.pages _) c.ask_all.new.places.items c.ask_all.new.there.items _ a.answer
-    (λ doc t. c.holds.ensures.satisfied doc (rw (← c.deref.ensures.value) at t))) c.if-holds.false
+    (λ doc t. c.holds.ensures.satisfied doc (rw (← c.deref.ensures.value) at t)))
+    (candidate_next c.ask_all.new.there.items (omega (arith, range.0)) e.same a.same e.files (a.size ∙ c.loop-walk.invariant.there ∙ c.requires.there ∙ sym c.loop-walk.invariant.step.same.size)
+    (rw c.in-Ok-Some.field-0-is at c.in-Ok-Some.ensures.shows) a.shows (rw c.deref.ensures.value at c.holds.ensures.value)) c.if-holds.false
 
 -- ---- all documents were decided
 

@@ -1,6 +1,7 @@
 use Rattle.std.proofs.Common.{arith, refl, ap}
 use Rattle.mg_query.specs.QueryOf.{query_of}
 use Rattle.mg_bool.proofs.AskLaws.{err_answer}
+use Rattle.mg_bool.proofs.ShownLaws.{word_shown}
 use Rattle.mg_bool.proofs.WordLaws.{word_found, word_goes, word_pages, word_range}
 use Rattle.mg_bool.proofs.next.next_match.Goals as goal
 
@@ -23,6 +24,7 @@ returns-in-Err g c =
           c.in-Term-Some.is-1 goes));
       pages = λ base collection goes. word_pages collection t _ _ _ _ _ (ap query_of c.in-Term-Some.is-0)
           (e.pages t base collection (word_goes base collection t _ _ _ _ c.in-Term-Some.place _ _ (ap query_of c.in-Term-Some.is-0) c.in-Term-Some.is-1 goes));
+      shows = λ stands. tt;
       part = e.part;
       reads = e.reads;
       files = e.files;
@@ -48,6 +50,8 @@ returns-then-walk-asks g c =
           (e.answer t base collection (word_goes base collection t _ _ _ _ c.in-Term-Some.place _ _ (ap query_of c.in-Term-Some.is-0) c.in-Term-Some.is-1 goes));
       pages = λ base collection goes. word_pages collection t _ _ _ _ _ (ap query_of c.in-Term-Some.is-0)
           (e.pages t base collection (word_goes base collection t _ _ _ _ c.in-Term-Some.place _ _ (ap query_of c.in-Term-Some.is-0) c.in-Term-Some.is-1 goes));
+      shows = word_shown t _ _ c.in-Term-Some.place c.in-Ok.found (ap query_of c.in-Term-Some.is-0) c.in-Term-Some.is-1 (rw c.in-Term-Some.is-1 at c.requires.lead) c.if-walk-asks.true
+          c.unwrap_or-walk.ensures e.range e.same e.shows;
       part = tt;
       reads = e.reads;
       files = e.files;

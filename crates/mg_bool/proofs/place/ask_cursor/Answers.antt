@@ -1,4 +1,4 @@
-use Rattle.std.proofs.Common.{ap}
+use Rattle.std.proofs.Common.{arith, ap, refl, Some, None}
 use Rattle.mg_bool.specs.Places.{number_in}
 use Rattle.mg_bool.proofs.AskLaws.{err_answer}
 use Rattle.mg_bool.proofs.place.ask_cursor.Goals as goal
@@ -15,3 +15,16 @@ returns-in-Ok-None-clause-answer g c = λ base collection asked t may.
 
 pub returns-in-Err-clause-answer : goal.returns-in-Err-clause-answer
 returns-in-Err-clause-answer g c = λ base collection asked t may. err_answer _ _ _ (c.in-Err.ensures.answer base collection asked t may)
+
+pub returns-in-Ok-Some-clause-shows : goal.returns-in-Ok-Some-clause-shows
+returns-in-Ok-Some-clause-shows g c = λ stands.
+    let a = (rw c.in-Ok-Some.field-0-is at c.in-Ok-Some.ensures.shows) c.args.doc (omega arith) stands in
+    ((Some c.in-Ok-Some.posting, a.first, refl), a.stands)
+
+pub returns-in-Ok-None-clause-shows : goal.returns-in-Ok-None-clause-shows
+returns-in-Ok-None-clause-shows g c = λ stands.
+    let a = (rw c.in-Ok-None.field-0-is at c.in-Ok-None.ensures.shows) c.args.doc (omega arith) stands in
+    ((None, a.first, refl), a.stands)
+
+pub returns-in-Err-clause-shows : goal.returns-in-Err-clause-shows
+returns-in-Err-clause-shows g c = λ stands. tt

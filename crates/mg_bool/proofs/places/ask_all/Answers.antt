@@ -5,6 +5,7 @@ use Rattle.mg_post.specs.TermLists.{PagesWithin}
 use Rattle.mg_bool.specs.Places.{Asking, Place, pages_read}
 use Rattle.mg_defs.specs.PageBounds.{pages_for}
 use Rattle.mg_bool.proofs.AskLaws.{same_all, same_then, asking_start, asking_next, asking_end, places_bound, asked_pages, err_answer, found_is, asks_one}
+use Rattle.mg_bool.proofs.ShownLaws.{AskingShown, asking_shown_next, asking_shown_start}
 use Rattle.mg_bool.proofs.places.ask_all.Goals as goal
 
 pub loop-i-init : goal.loop-i-init
@@ -16,6 +17,7 @@ loop-i-init g c = record {
   reads = record { later = λ p. omega arith; others = λ p a b. refl };
   faults = omega arith;
   asking = λ base collection asked ts a. asking_start base collection asked ts c.args.doc _ c.args.places.now.items c.args.there.now.items _ a;
+  shown = asking_shown_start;
 }
 
 pub loop-i-preserved : goal.loop-i-preserved
@@ -48,6 +50,13 @@ loop-i-preserved g c = record {
       subst (λ (ps : List Place). Asking base collection asked ts c.args.doc (c.loop-i.i + 1) c.args.places.now.items ps
       (slice_set c.loop-i.there.items c.loop-i.i c.is_at.result) (g.S.Store.reads c.args.store.now) (g.S.Store.reads c.ask_at.new.store))
       (sym c.ask_at.ensures.places) next;
+  shown = λ stands.
+      let lt : c.loop-i.i < length c.loop-i.places.items = omega (arith, c.loop-i.invariant.same.size, c.loop-i-test.true, c.len-i-end.ensures) in
+      let next = asking_shown_next (slice_index_or c.ask_at.new.places.items c.loop-i.i None) c.in-Ok.found c.is_at.result lt
+      (omega (arith, c.loop-i.invariant.there, c.requires.size, c.loop-i.invariant.same.size, lt)) c.loop-i.invariant.same c.loop-i.invariant.files c.ask_at.ensures.files
+      (c.loop-i.invariant.shown stands) c.in-Ok.ensures.shows c.is_at.ensures in
+      subst (λ (ps : List Place). AskingShown c.args.places.now.items ps (g.S.Store.files c.args.store.now) (g.S.Store.files c.ask_at.new.store) c.args.doc (c.loop-i.i + 1)
+      (slice_set c.loop-i.there.items c.loop-i.i c.is_at.result)) (sym c.ask_at.ensures.places) next;
 }
 
 pub returns-clause-answer : goal.returns-clause-answer
@@ -83,3 +92,11 @@ returns-in-Err-clause-pages g c = λ base collection asked ts asks.
     (asked_pages base collection asked ts c.args.doc c.loop-i.i c.args.places.now.items c.loop-i.places.items
     (slice_index_or c.ask_at.new.places.items c.loop-i.i None) (g.S.Store.reads c.args.store.now) (g.S.Store.reads c.loop-i.store)
     (g.S.Store.reads c.ask_at.new.store) c.cursor_pages_are_within.ensures a.places_for lt a.post step)
+
+pub returns-clause-shows : goal.returns-clause-shows
+returns-clause-shows g c = λ stands.
+    let a = c.loop-i.invariant.shown stands in
+    (λ k lt. a.each k (omega (arith, lt, c.loop-i.invariant.same.size, c.loop-i-test.false, c.len-i-end.ensures)), a.stands)
+
+pub returns-in-Err-clause-shows : goal.returns-in-Err-clause-shows
+returns-in-Err-clause-shows g c = λ stands. tt

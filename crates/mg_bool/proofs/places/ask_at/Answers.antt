@@ -1,4 +1,5 @@
 use Rattle.mg_bool.proofs.AskLaws.{old_asks, old_on, new_answer, new_pages, new_same}
+use Rattle.mg_bool.proofs.ShownLaws.{new_asked}
 use Rattle.mg_bool.proofs.places.ask_at.Goals as goal
 
 pub returns-clause-same : goal.returns-clause-same
@@ -18,3 +19,8 @@ returns-clause-pages g c = λ base collection asked t a.
 
 pub returns-clause-range : goal.returns-clause-range
 returns-clause-range g c = λ base all on. c.ask.ensures.range base all (old_on base all _ c.args.i _ c.requires.there c.index_mut-place.ensures.value on)
+
+pub returns-clause-shows : goal.returns-clause-shows
+returns-clause-shows g c =
+    new_asked (g.S.Store.files c.args.store.now) (g.S.Store.files c.ask.new.store) c.args.doc c.args.places.now.items c.args.i
+    c.index_mut-place.result.now c.ask.new.self c.requires.there c.index_mut-place.ensures.value _ c.ask.ensures.shows

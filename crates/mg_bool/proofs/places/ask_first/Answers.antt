@@ -5,6 +5,7 @@ use Rattle.mg_bool.specs.Places.{Place, first_from, pages_read}
 use Rattle.mg_defs.specs.PageBounds.{pages_for}
 use Rattle.mg_bool.proofs.AskLaws.{same_all, same_then, on_still, places_bound, asked_pages, err_answer, asks_one}
 use Rattle.mg_bool.proofs.FirstLaws.{AskingFirst, asking_first_start, asking_first_next, asking_first_end}
+use Rattle.mg_bool.proofs.ShownLaws.{AskingFirstShown, asking_first_shown_end, asking_first_shown_next, asking_first_shown_start}
 use Rattle.mg_bool.proofs.places.ask_first.Goals as goal
 
 pub loop-i-init : goal.loop-i-init
@@ -17,6 +18,7 @@ loop-i-init g c = record {
   faults = omega arith;
   range = λ base all on. tt;
   asking = λ base collection asked ts a. asking_first_start base collection asked ts c.args.from c.args.places.now.items c.args.there.now.items _ a.places_for;
+  shown = asking_first_shown_start;
 }
 
 pub loop-i-preserved : goal.loop-i-preserved
@@ -45,6 +47,12 @@ loop-i-preserved g c = record {
       answer.place taken step.post in
       subst (λ (ps : List Place). AskingFirst base collection asked ts c.args.from (c.loop-i.i + 1) c.take_found-first.result c.args.places.now.items ps
       c.take_found-first.new.there.items (g.S.Store.reads c.args.store.now) (g.S.Store.reads c.ask_at.new.store)) (sym c.ask_at.ensures.places) next;
+  shown = λ stands.
+      let lt : c.loop-i.i < length c.loop-i.places.items = omega (arith, c.loop-i.invariant.same.size, c.loop-i-test.true, c.len-i-end.ensures) in
+      let next = asking_first_shown_next (slice_index_or c.ask_at.new.places.items c.loop-i.i None) c.in-Ok.found c.take_found-first.result c.take_found-first.new.there.items lt
+      c.loop-i.invariant.same c.loop-i.invariant.files c.ask_at.ensures.files (c.loop-i.invariant.shown stands) c.in-Ok.ensures.shows c.take_found-first.ensures.first in
+      subst (λ (ps : List Place). AskingFirstShown c.args.places.now.items ps (g.S.Store.files c.args.store.now) (g.S.Store.files c.ask_at.new.store) c.args.from (c.loop-i.i + 1)
+      c.take_found-first.result c.take_found-first.new.there.items) (sym c.ask_at.ensures.places) next;
 }
 
 pub returns-clause-answer : goal.returns-clause-answer
@@ -80,3 +88,10 @@ returns-in-Err-clause-pages g c = λ base collection asked ts asks.
     (asked_pages base collection asked ts c.args.from c.loop-i.i c.args.places.now.items c.loop-i.places.items
     (slice_index_or c.ask_at.new.places.items c.loop-i.i None) (g.S.Store.reads c.args.store.now) (g.S.Store.reads c.loop-i.store)
     (g.S.Store.reads c.ask_at.new.store) c.cursor_pages_are_within.ensures a.places_for lt a.post step)
+
+pub returns-clause-shows : goal.returns-clause-shows
+returns-clause-shows g c = λ stands.
+    asking_first_shown_end (omega (arith, c.loop-i.invariant.same.size, c.loop-i-test.false, c.len-i-end.ensures, c.loop-i.auto)) (c.loop-i.invariant.shown stands)
+
+pub returns-in-Err-clause-shows : goal.returns-in-Err-clause-shows
+returns-in-Err-clause-shows g c = λ stands. tt

@@ -1,5 +1,6 @@
 use Rattle.std.proofs.Common.{arith, refl}
 use Rattle.mg_bool.proofs.AskLaws.{made_next, made_over, made_fits, made_nothing, made_on}
+use Rattle.mg_bool.proofs.ShownLaws.{made_lists, made_stands}
 use Rattle.mg_bool.proofs.places.start_all.Goals as goal
 
 pub loop-info-init : goal.loop-info-init
@@ -12,6 +13,8 @@ loop-info-preserved g c =
       over = c.in_ok-place.ensures.place;
       on = c.in_ok-place.ensures.on;
       fits = c.in_ok-place.ensures.fits;
+      list = c.in_ok-place.ensures.list;
+      stands = c.in_ok-place.ensures.stands;
       nothing = c.in_ok-place.ensures.nothing;
     }))
 
@@ -26,3 +29,9 @@ returns-clause-nothing g c = made_nothing _ _ _ _ _ c.loop-info.invariant
 
 pub returns-clause-on : goal.returns-clause-on
 returns-clause-on g c = made_on _ _ _ _ _ c.loop-info.invariant
+
+pub returns-clause-stands : goal.returns-clause-stands
+returns-clause-stands g c = made_stands _ _ _ _ _ c.loop-info.invariant
+
+pub returns-clause-lists : goal.returns-clause-lists
+returns-clause-lists g c = made_lists _ _ _ _ _ c.loop-info.invariant (omega (arith, c.loop-info-test.false, c.loop-info.auto))

@@ -7,6 +7,7 @@ use Rattle.mg_post.specs.Answers.{AnswersList}
 use Rattle.mg_post.specs.TermLists.{PagesWithin}
 use Rattle.mg_bool.specs.Places.{Place, pages_read}
 use Rattle.mg_bool.proofs.AskLaws.{answers_more}
+use Rattle.mg_bool.proofs.ShownLaws.{candidate_asked}
 use Rattle.mg_bool.proofs.NextLaws.{lead_of, lead_pages}
 use Rattle.mg_bool.proofs.WordLaws.{WordFound, word_answer}
 use Rattle.mg_bool.proofs.word.next_of_word.Goals as goal
@@ -32,3 +33,8 @@ returns-clause-pages g c = λ t base collection goes.
     (lead_pages base collection (term t) _ c.args.places.now.items (Some c.args.place) c.args.place c.args.all c.args.decided
     (slice_index_or c.ask_at.new.places.items c.args.place None) _ _ c.cursor_pages_are_within.ensures goes l
     (c.ask_at.ensures.pages base collection (asked_of collection (term t)) (get_or (query_terms (term t)) c.args.place []) l.asks))
+
+pub returns-clause-shows : goal.returns-clause-shows
+returns-clause-shows g c =
+    candidate_asked c.args.decided (slice_index_or c.ask_at.new.places.items c.args.place None) c.ask_at.result (Some c.args.place) c.args.place refl
+    c.requires.place c.ask_at.ensures.files c.ask_at.ensures.places c.ask_at.ensures.shows

@@ -1,4 +1,7 @@
+use Rattle.std.proofs.Common.{refl}
+use Rattle.mg_bool.proofs.AskLaws.{same_all}
 use Rattle.mg_bool.proofs.NextLaws.{ended_goes, ended_pages}
+use Rattle.mg_bool.proofs.ShownLaws.{ended_shown}
 use Rattle.mg_bool.proofs.matches.Matches.next.Goals as goal
 
 pub returns-then-self-clause-answer : goal.returns-then-self-clause-answer
@@ -9,3 +12,15 @@ returns-then-self-clause-pages g c = λ base collection stand over. ended_pages 
 
 pub returns-clause-pages : goal.returns-clause-pages
 returns-clause-pages g c = rw (← c.self.view_is) (λ base collection stand over. c.next_match.ensures.pages base collection (record { stand = stand; over = over }))
+
+pub returns-then-self-clause-shows : goal.returns-then-self-clause-shows
+returns-then-self-clause-shows g c = ended_shown c.args.self.now _ (rw (← c.self.view_is) c.if-self.true)
+
+pub returns-clause-shows : goal.returns-clause-shows
+returns-clause-shows g c = rw (← c.self.view_is) c.next_match.ensures.shows
+
+pub returns-then-self-clause-lists : goal.returns-then-self-clause-lists
+returns-then-self-clause-lists g c = record { places = same_all c.args.self.now.places; lead = refl }
+
+pub returns-clause-lists : goal.returns-clause-lists
+returns-clause-lists g c = rw (← c.self.view_is) record { places = c.next_match.ensures.same; lead = refl }

@@ -1,4 +1,4 @@
-use Rattle.std.proofs.Common.{arith, ◌+◌}
+use Rattle.std.proofs.Common.{arith, ◌+◌, ◌∙◌}
 use Rattle.mg_query.specs.QueryOf.{query_of}
 use Rattle.mg_defs.specs.QueryTerms.{query_terms}
 use Rattle.mg_defs.specs.PageBounds.{asked_of}
@@ -14,3 +14,6 @@ returns-clause-over g c = λ collection a all_is. record {
 
 pub returns-clause-fits : goal.returns-clause-fits
 returns-clause-fits g c = λ files. record { on = c.in_ok-places.ensures.on; fits = c.in_ok-places.ensures.fits files }
+
+pub returns-clause-stands : goal.returns-clause-stands
+returns-clause-stands g c = λ files. record { size = c.in_ok-places.ensures.size ∙ c.requires.size; each = c.in_ok-places.ensures.stands files (0 + 1) }
