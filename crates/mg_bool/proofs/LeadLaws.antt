@@ -1,14 +1,15 @@
 -- The place that leads.
-use Rattle.std.proofs.Common.{arith, ◌≡◌, ◌+◌, ◌-◌, ◌≤◌, ◌<◌, ℕ, zero, suc, true, false, List, [], ◌∷◌, ◌++◌, length, drop, get_or, refl, sym, ap, subst, ◌∙◌, ◌⊎◌, inl, inr, Option, Some, None, length-append}
+use Rattle.std.proofs.Common.{arith, ◌≡◌, ◌+◌, ◌-◌, ◌≤◌, ◌<◌, ℕ, zero, suc, Bool, true, false, ◌&&◌, List, [], ◌∷◌, ◌++◌, length, drop, get_or, refl, sym, ap, subst, ◌∙◌, ◌⊎◌, inl, inr, Option, Some, None, length-append}
 use Rattle.std.specs.Prelude.{nat_le, if◌then◌else◌}
 use Rattle.std.proofs.lemmas.Bool.{cases_lt, le-leb, cases_Bool}
 use Rattle.std.proofs.lemmas.List.{get_or_append_left, get_or-append-add, get_or-drop, length-drop}
-use Rattle.mg_defs.specs.Sat.{Query, both}
+use Rattle.mg_defs.specs.Sat.{Query, both, term}
 use Rattle.mg_defs.specs.QueryTerms.{query_terms}
 use Rattle.mg_defs.specs.Terms.{docs}
 use Rattle.mg_defs.specs.PageBounds.{leading, leftmost_fewest, fewer}
 use Rattle.mg_layout.specs.declared.term_info.TermInfo.{TermInfo}
-use Rattle.mg_bool.specs.Leads.{IsLead, IsPlaceOf, better}
+use Rattle.mg_query.specs.Holds.{holds}
+use Rattle.mg_bool.specs.Leads.{IsLead, IsPlaceOf, NeedsLead, NeedsPlace, better}
 use Rattle.mg_bool.specs.Places.{AreInfos, TellFirst, IsToldOf}
 use Rattle.mg_bool.specs.Matches.{Leads}
 use Rattle.mg_bool.specs.declared.lead.Lead.{Lead}
@@ -171,3 +172,45 @@ lead_leads collection q infos lead a leads place = ((place (omega (arith, a.size
 pub none_leads : (collection : List ℕ) (q : Query) (infos : List (Option TermInfo)) → AreInfos collection (query_terms q) infos →
     (TellFirst collection (query_terms q) infos → IsLead collection q (length infos) None) → Leads collection q None
 none_leads collection q infos a leads = leads (tell_all collection (query_terms q) infos a)
+
+-- ---- the query fails where the term that leads isn't there
+
+right_fails : (a b : Bool) → b ≡ false → a && b ≡ false
+right_fails true b is = is
+right_fails false b is = refl
+
+pub needs_term : (t : List ℕ) (size : ℕ) → NeedsPlace (term t) (size - size)
+needs_term t size there none = let e : size - size ≡ 0 = omega arith in subst (λ k. get_or there k false ≡ false) e none
+
+needs_first : (p q : Query) (place : ℕ) → NeedsPlace p place → NeedsPlace (both p q) place
+needs_first p q place needs there none = ap (λ b. b && holds q (drop (length (query_terms p)) there)) (needs there none)
+
+needs_second : (p q : Query) (size left : ℕ) → left ≤ size - length (query_terms p) → length (query_terms p) ≤ size →
+    NeedsPlace q (size - length (query_terms p) - left) → NeedsPlace (both p q) (size - left)
+needs_second p q size left le fits needs there none =
+    let n = length (query_terms p) in
+    let e : size - left ≡ n + (size - n - left) = omega (arith, le, fits) in
+    let behind : get_or (drop n there) (size - n - left) false ≡ false = get_or-drop n there (size - n - left) false ∙ subst (λ k. get_or there k false ≡ false) e none in
+    right_fails (holds p there) (holds q (drop n there)) (needs (drop n there) behind)
+
+pub needs_both : (p q : Query) (size : ℕ) (a b : Option Lead) → length (query_terms p) + length (query_terms q) ≤ size → IsPlaceOf q (size - length (query_terms p)) b →
+    NeedsLead p size a → NeedsLead q (size - length (query_terms p)) b → NeedsLead (both p q) size (better a b)
+needs_both p q size None None fits pb na nb = tt
+needs_both p q size (Some a) None fits pb na nb = needs_first p q (size - a.left) na
+needs_both p q size None (Some b) fits pb na nb = needs_second p q size b.left pb.0 (omega (arith, fits)) nb
+needs_both p q size (Some a) (Some b) fits pb na nb =
+    elim (cases_Bool (nat_le a.docs b.docs)) [
+      | inl less ↦ subst (NeedsLead (both p q) size) (sym (ap (λ c. if c then Some a else Some b) less)) (needs_first p q (size - a.left) na)
+      | inr more ↦ subst (NeedsLead (both p q) size) (sym (ap (λ c. if c then Some a else Some b) more)) (needs_second p q size b.left pb.0 (omega (arith, fits)) nb)
+    ]
+
+-- of the infos of a query, those of its second operand follow those of the first
+pub needs_whole : (p q : Query) (infos rest : List (Option TermInfo)) (a b : Option Lead) → length (query_terms p ++ query_terms q) ≤ length infos → rest ≡ drop (length (query_terms p)) infos →
+    (length (query_terms q) ≤ length rest → IsPlaceOf q (length rest) b) → (length (query_terms p) ≤ length infos → NeedsLead p (length infos) a) →
+    (length (query_terms q) ≤ length rest → NeedsLead q (length rest) b) → NeedsLead (both p q) (length infos) (better a b)
+needs_whole p q infos rest a b fits is place first second =
+    let whole = length-append (query_terms p) (query_terms q) in
+    let size : length rest ≡ length infos - length (query_terms p) = ap length is ∙ length-drop (length (query_terms p)) infos in
+    let some : length (query_terms q) ≤ length rest = omega (arith, fits, whole, size) in
+    needs_both p q (length infos) a b (omega (arith, fits, whole)) (subst (λ n. IsPlaceOf q n b) size (place some)) (first (omega (arith, fits, whole)))
+    (subst (λ n. NeedsLead q n b) size (second some))

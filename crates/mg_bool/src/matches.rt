@@ -9,6 +9,7 @@ ghost use Rattle.mg_post.specs.Cursor.{NamesItsPart};
 ghost use Rattle.mg_post.specs.TermLists.{ReadsLists};
 ghost use Rattle.mg_bool.specs.Places.{pages_read};
 ghost use Rattle.mg_bool.specs.Matches.{MatchesFit, SameMatches, StartsMatches, ForMatches, MatchesGoOn, MatchesRead};
+ghost use Rattle.mg_bool.specs.Leads.{NeedsPlace};
 ghost use Rattle.mg_bool.specs.Shown.{AnswersShown, AreLists, MatchesStand, SameLists};
 
 use crate::lead::lead_place;
@@ -81,6 +82,7 @@ impl<'a, S: Store> Matches<'a, S> {
         ensures fits { IfOk result (λ m. (files : Option Files) →
             MatchesFit base.entry.now files m) }
         ensures lists { IfOk result (λ m. AreLists base.entry.now infos.now all m.places) }
+        ensures needs { IfOk result (λ m. IfSome m.lead (NeedsPlace (query_of query.entry.now))) }
         ensures stands { IfOk result (λ m. (files : Option Files) → MatchesStand files m) }
         ensures nothing { IfOk result (λ m. pages_read m.places ≡ 0) }
     {
