@@ -1,8 +1,9 @@
 -- What the proofs of crates above cite of this crate's. No other module of them can be named from there.
-use Rattle.std.proofs.Common.{arith, ◌≡◌, ◌≤◌, ℕ, List, Option, ap, is_some, ◌∙◌}
-use Rattle.mg_dev.specs.Causes.{Rose}
+use Rattle.std.proofs.Common.{◌≡◌, ℕ, List, Option, ap, is_some, ◌∙◌}
 use Rattle.mg_dev.specs.Files.{Files, file_at}
 use Rattle.mg_make.specs.Putting.{OthersSame}
+-- failures that rose later rose
+pub use Rattle.mg_index.proofs.CallerLemmas.{rose_behind}
 
 -- ---- files that no call of a set may touch
 
@@ -11,8 +12,3 @@ others_more base f g h one two = record { told = two.told ∙ one.told; others =
 
 pub others_none : (base : List ℕ) (f g : Option Files) → g ≡ f → OthersSame base f g
 others_none base f g same = record { told = ap is_some same; others = λ name apart. ap (λ files. file_at files name) same }
-
--- ---- failures that rose later rose
-
-pub rose_behind : (a b c : ℕ) → a ≤ b → Rose b c → Rose a c
-rose_behind a b c up rose = omega (arith, up, rose)

@@ -8,8 +8,8 @@ use Rattle.mg_defs.proofs.Gathering.{added-cases}
 use Rattle.mg_defs.specs.declared.TermPosting.{TermPosting}
 use Rattle.mg_defs.specs.DocCounts.{NeverFall, docs_with, last_with}
 use Rattle.mg_defs.specs.Postings.{added, once, term_postings}
-use Rattle.mg_make.specs.DocCounting.{AreDocCounts, DocCounting}
-use Rattle.mg_make.specs.Listing.{AreListSizes}
+use Rattle.mg_count.specs.DocCounting.{AreDocCounts, DocCounting}
+use Rattle.mg_index.specs.Listing.{AreListSizes}
 
 length_added : (e : TermPosting) (xs : List TermPosting) → length (added e xs) ≤ length xs + 1
 length_added e [] = omega arith

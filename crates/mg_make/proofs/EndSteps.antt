@@ -8,10 +8,10 @@ use Rattle.mg_dev.specs.Files.{Files}
 use Rattle.mg_defs.specs.Marks.{Mark, marks}
 use Rattle.mg_make.specs.Finishing.{EndsWith, budget_of}
 use Rattle.mg_make.specs.Fronts.{IsFrontOf}
-use Rattle.mg_make.specs.Listing.{ListStops}
-use Rattle.mg_make.specs.Plans.{IsPlanOf}
+use Rattle.mg_index.specs.Listing.{ListStops}
+use Rattle.mg_count.specs.Plans.{IsPlanOf}
 use Rattle.mg_make.specs.Putting.{IsHanded}
-use Rattle.mg_make.specs.Scanning.{HasMet, Scanning}
+use Rattle.mg_count.specs.Scanning.{HasMet, Scanning}
 use Rattle.mg_make.specs.Second.{FinishStops, HasWritten, Inversion, IsNext, IsWhole, SamePass, StopsBefore, WroteMarks}
 use Rattle.mg_make.specs.Written.{SecondStops}
 use Rattle.mg_make.specs.declared.inverter.Inverted.{Inverted}

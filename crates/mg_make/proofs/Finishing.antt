@@ -20,12 +20,13 @@ use Rattle.mg_runs.specs.Fed.{IsFed}
 use Rattle.mg_runs.specs.Left.{Merging}
 use Rattle.mg_text_writer.specs.Documents.{coded_docs}
 use Rattle.mg_text_writer.specs.Writing.{DocumentsStand, IsOnText, text_bytes}
-use Rattle.mg_make.specs.DocCounting.{AreDocCounts, DocCounting}
+use Rattle.mg_count.specs.DocCounting.{AreDocCounts, DocCounting}
 use Rattle.mg_make.specs.Finishing.{EndsWith, IsMergeOf}
 use Rattle.mg_make.specs.Indexes.{Indexing, OfRuns}
-use Rattle.mg_make.specs.Plans.{IsPlanOf, Plan}
+use Rattle.mg_count.specs.Plans.{IsPlanOf, Plan}
 use Rattle.mg_make.specs.Second.{FinishStops, HasWritten, Inversion, IsWhole, coded_by, occurring_by}
-use Rattle.mg_make.specs.Written.{SecondStops, WroteParts}
+use Rattle.mg_index.specs.Written.{WroteParts}
+use Rattle.mg_make.specs.Written.{SecondStops}
 use Rattle.mg_make.proofs.CallerLemmas.{rose_behind}
 use Rattle.mg_make.proofs.Frames.{OthersStay, RunsStay, index_kept, places_file_kept, text_file_kept}
 use Rattle.mg_make.proofs.MarkFronts.{all_documents}

@@ -11,7 +11,8 @@ use Rattle.mg_runs.specs.Fed.{Inverting, IsFed}
 use Rattle.mg_text_writer.specs.Writing.{IsOnText, TextWriting}
 use Rattle.mg_text_writer.proofs.CallerLemmas.{writer_stays}
 use Rattle.mg_make.specs.Indexes.{HasTaken, Indexing, OfRuns}
-use Rattle.mg_make.specs.Written.{OfSecond, WroteParts, WroteSecond}
+use Rattle.mg_index.specs.Written.{WroteParts}
+use Rattle.mg_make.specs.Written.{OfSecond, WroteSecond}
 
 apart : (base : List ℕ) (p q : AnyPart) → (number p ≡ number q → ⊥) → full_name base p ≢ full_name base q
 apart base p q different e = different (ap number (same_part_of_name base p q e))

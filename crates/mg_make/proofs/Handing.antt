@@ -8,11 +8,11 @@ use Rattle.mg_defs.specs.Occurrences.{occurrences}
 use Rattle.mg_defs.specs.Postings.{term_postings}
 use Rattle.mg_defs.specs.Terms.{dictionary}
 use Rattle.mg_runs.specs.Left.{IsMerging}
-use Rattle.mg_make.specs.DocCounting.{AreDocCounts}
+use Rattle.mg_count.specs.DocCounting.{AreDocCounts}
 use Rattle.mg_make.specs.Finishing.{EndsWith}
 use Rattle.mg_make.specs.Index.{IsInverted}
-use Rattle.mg_make.specs.Listing.{AreListSizes}
-use Rattle.mg_make.specs.Plans.{IsPlanOf}
+use Rattle.mg_index.specs.Listing.{AreListSizes}
+use Rattle.mg_count.specs.Plans.{IsPlanOf}
 use Rattle.mg_make.specs.Second.{HasWritten, Inversion, occurring_by}
 use Rattle.mg_make.specs.declared.inverter.Inverted.{Inverted}
 use Rattle.mg_make.proofs.CountSizes.{sizes_of_counts}

@@ -19,7 +19,7 @@ use Rattle.mg_defs.specs.Heads as heads
 use Rattle.mg_defs.specs.Stands.{head_of}
 use Rattle.mg_laws.proofs.CutHeads.{no_front}
 use Rattle.mg_layout.specs.Stands.{Stands, StandsForNone, StandsIn}
-use Rattle.mg_make.specs.Listing.{ListStops}
+use Rattle.mg_index.specs.Listing.{ListStops}
 use Rattle.mg_make.specs.Putting.{IsReady, OthersSame}
 use Rattle.mg_make.proofs.HeadLaws.{empty_stands_for_none}
 use Rattle.mg_make.proofs.SetFrames.{bytes_kept}

@@ -1,5 +1,5 @@
 -- Lists, lexicon, weights and the working parts side by side, and what was inverted of a collection.
-use Rattle.std.proofs.Common.{arith, ◌≡◌, ◌≢◌, ◌<◌, ◌/◌, ℕ, List, [], length, map, get_or, sym, ap, subst, ◌∙◌, Some}
+use Rattle.std.proofs.Common.{arith, ◌≡◌, ◌<◌, ◌/◌, ℕ, List, [], length, map, get_or, sym, ap, subst, ◌∙◌, Some}
 use Rattle.std.specs.Prelude.{replicate}
 use Rattle.std.specs.declared.option.Option.{Option}
 use Rattle.std.proofs.lemmas.List.{get_or-map, get_or_default, length-map, length-replicate, same_lists}
@@ -21,11 +21,12 @@ use Rattle.mg_defs.specs.Split.{documents}
 use Rattle.mg_defs.specs.Stands.{post_part, weights_part}
 use Rattle.mg_defs.specs.Terms.{dictionary}
 use Rattle.mg_runs.specs.Left.{IsMerging, Merging}
-use Rattle.mg_make.specs.DocCounting.{DocCounting}
-use Rattle.mg_make.specs.Index.{IndexStands, IsInverted, OfIndex, OfWeights}
-use Rattle.mg_make.specs.Listing.{HasLists, ListsStand}
-use Rattle.mg_make.specs.Plans.{Plan}
-use Rattle.mg_make.specs.Written.{OfLists, WroteParts}
+use Rattle.mg_count.specs.DocCounting.{DocCounting}
+use Rattle.mg_make.specs.Index.{IndexStands, IsInverted, OfIndex}
+use Rattle.mg_index.specs.Listing.{HasLists, ListsStand}
+use Rattle.mg_count.specs.Plans.{Plan}
+use Rattle.mg_index.specs.Written.{OfLists, OfWeights, WroteParts}
+use Rattle.mg_index.proofs.CallerLemmas.{bytes_stay}
 use Rattle.mg_laws.proofs.TermLaws.{lists_long}
 
 -- ---- what was written
@@ -66,9 +67,6 @@ weights_of_index Plain h = absurd h
 pub part_stays : (P : AnyPart → Type 0) (base : List ℕ) (f g : Option Files) (part : AnyPart) → (P part → ⊥) → WroteParts P base f g → file_at g (full_name base part) ≡ file_at f (full_name base part)
 part_stays P base f g part none wrote = wrote.others (full_name base part) (λ p of_p e. none (subst P (sym (same_part_of_name base part p e)) of_p))
 
-bytes_stay : (f g : Option Files) (name : List ℕ) → file_at g name ≡ file_at f name → bytes_at g name ≡ bytes_at f name
-bytes_stay f g name same = cc
-
 -- lists and lexicon stay while weights are written
 pub index_stands : (base collection : List ℕ) (f g : Option Files) → ListsStand f base collection → WroteParts OfWeights base f g → bytes_at g (full_name base Weights) ≡ weights_part collection →
     file_at g (full_name base MergeA) ≡ Some [] → file_at g (full_name base MergeB) ≡ Some [] → IndexStands g base collection
@@ -90,11 +88,11 @@ zeros sums n is = ap (λ (xs : List ℕ). length xs) is ∙ length-replicate n 0
 pub lists_of_inverted :
     ((collection : List ℕ) → term_postings (occurrences collection) ≡ by_terms 0 (inverted collection)) →
     ((collection : List ℕ) (term : ℕ) → docs_with term (occurrences collection) ≡ length (get_or (inverted collection) term [])) →
-    (p : Plan) (counts : DocCounting) (collection : List ℕ) (merge : Merging) (files : Option Files) (all : ℕ) → all ≡ length p.pairs → IsInverted p counts collection merge files →
-    HasLists p.terms.terms counts.docs all collection merge files
-lists_of_inverted in_lists counted p counts collection merge files all all_is is = record {
+    (p : Plan) (counts : DocCounting) (docs : List ℕ) (collection : List ℕ) (merge : Merging) (files : Option Files) (all : ℕ) → docs ≡ counts.docs → all ≡ length p.pairs →
+    IsInverted p counts collection merge files → HasLists p.terms.terms docs all collection merge files
+lists_of_inverted in_lists counted p counts docs collection merge files all same all_is is = record {
   told = is.told;
-  of = record { terms_are = is.plan_is.terms; docs_are = docs_are; all_are = all_is ∙ ap (λ (xs : List ℕ). length xs) is.plan_is.pairs ∙ pairs_long; few = is.few };
+  of = record { terms_are = is.plan_is.terms; docs_are = same ∙ docs_are; all_are = all_is ∙ ap (λ (xs : List ℕ). length xs) is.plan_is.pairs ∙ pairs_long; few = is.few };
   merging = subst (λ xs. IsMerging merge files xs) (in_lists collection) is.merging;
 }
   where
@@ -116,16 +114,3 @@ pub size_is :
     ((all : ℕ) (lists : List (List Posting)) → filled (lists_bits all lists) ≡ lists_bits all lists) → ((bits : Bits) → filled bits ≡ bits → length (as_bytes bits) ≡ length bits / 8) →
     (collection : List ℕ) → length (post_bits collection) / 8 ≡ length (post_part collection)
 size_is whole size collection = sym (size (post_bits collection) (whole (length (documents collection)) (inverted collection)))
-
--- ---- weights and the working parts
-
-pub weights_stay : (base : List ℕ) (f g : Option Files) → ((n : List ℕ) → n ≢ full_name base MergeA → n ≢ full_name base MergeB → file_at g n ≡ file_at f n) →
-    bytes_at g (full_name base Weights) ≡ bytes_at f (full_name base Weights)
-weights_stay base f g others =
-    bytes_stay f g (full_name base Weights) (others (full_name base Weights) (λ e. not_first (same_part_of_name base Weights MergeA e)) (λ e. not_second (same_part_of_name base Weights MergeB e)))
-  where
-    not_first : Weights ≢ MergeA
-    not_first e = cc
-
-    not_second : Weights ≢ MergeB
-    not_second e = cc

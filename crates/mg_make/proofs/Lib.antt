@@ -1,12 +1,6 @@
-pub mod ListFrames
-pub mod SquareSteps
 pub mod CountSizes
-pub mod ListSteps
-pub mod TermSteps
-pub mod IndexSteps
 pub mod WeightSteps
 pub mod IndexLaws
-pub mod IndexEnds
 pub mod MarkFronts
 pub mod Frames
 pub mod SecondSteps
@@ -14,14 +8,6 @@ pub mod Stopping
 pub mod Finishing
 pub mod Taking
 pub mod PassLaws
-pub mod StepLaws
-pub mod Scans
-pub mod ReadingOn
-pub mod Slices
-pub mod Counted
-pub mod Planned
-pub mod Fed
-pub mod DocsCounted
 pub mod SetFrames
 pub mod PutSteps
 pub mod SliceSteps
@@ -31,4 +17,5 @@ pub mod RestSteps
 pub mod HeadLaws
 pub mod ReadySteps
 pub mod HeadSteps
+pub mod SortLaws
 pub mod CallerLemmas

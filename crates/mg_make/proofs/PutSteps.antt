@@ -11,14 +11,15 @@ use Rattle.mg_defs.specs.Marks.{Mark, marks}
 use Rattle.mg_model.specs.Models.{PartsHold}
 use Rattle.mg_make.specs.Finishing.{budget_of}
 use Rattle.mg_make.specs.Fronts.{IsFrontOf}
-use Rattle.mg_make.specs.Plans.{IsPlanOf, Plan}
+use Rattle.mg_count.specs.Plans.{IsPlanOf, Plan}
 use Rattle.mg_make.specs.Putting.{HasPut, IsUnbuilt, OfPass, OthersSame, Putting}
-use Rattle.mg_make.specs.Scanning.{HasMet, Scanning}
+use Rattle.mg_count.specs.Scanning.{HasMet, Scanning}
 use Rattle.mg_make.specs.Second.{HasWritten, Inversion, IsNext, SamePass, StopsBefore, WroteMarks}
 use Rattle.mg_make.specs.SetSteps.{ByteStep}
 use Rattle.mg_make.specs.Steps.{PassStep}
-use Rattle.mg_make.specs.Written.{SecondStops, WroteParts, WroteSecond}
-use Rattle.mg_make.proofs.Scans.{marks-go_on}
+use Rattle.mg_index.specs.Written.{WroteParts}
+use Rattle.mg_make.specs.Written.{SecondStops, WroteSecond}
+use Rattle.mg_count.proofs.CallerLemmas.{marks-go_on}
 use Rattle.mg_make.proofs.SetFrames.{head_of_second, kept, models_of_second, others_kept, others_of_second, pass_from}
 
 -- the view of a writer with these parts

@@ -19,17 +19,18 @@ use Rattle.mg_text_writer.specs.Documents.{TextHolds, coded_docs}
 use Rattle.mg_text_writer.specs.Writing.{DocumentsStand, text_bytes}
 use Rattle.mg_make.specs.Finishing.{budget_of}
 use Rattle.mg_make.specs.Index.{IndexStands, OfIndex}
-use Rattle.mg_make.specs.Listing.{ListStops}
-use Rattle.mg_make.specs.Plans.{IsPlanOf, Plan}
+use Rattle.mg_index.specs.Listing.{ListStops}
+use Rattle.mg_count.specs.Plans.{IsPlanOf, Plan}
 use Rattle.mg_make.specs.Putting.{ForScanned, HandsFor, HasPut, IsHanded, IsReady, OthersSame, PlanStops, Putting}
 use Rattle.mg_make.specs.Second.{coded_by, occurring_by}
 use Rattle.mg_make.specs.SetSteps.{PartsStep, RestStep}
 use Rattle.mg_make.specs.Steps.{SortStep}
-use Rattle.mg_make.specs.Written.{OfSecond, WroteParts, WroteSecond}
+use Rattle.mg_index.specs.Written.{WroteParts}
+use Rattle.mg_make.specs.Written.{OfSecond, WroteSecond}
 use Rattle.mg_make.specs.declared.inverter.Inverted.{Inverted}
 use Rattle.mg_make.proofs.Finishing.{planned_occurrences, planned_text}
 use Rattle.mg_make.proofs.CallerLemmas.{others_more, rose_behind}
-use Rattle.mg_make.proofs.ListFrames.{stops_for}
+use Rattle.mg_index.proofs.CallerLemmas.{stops_for}
 use Rattle.mg_make.proofs.SetFrames.{bytes_kept, head_of_second, index_from, kept, models_of_second, others_kept, others_of_second}
 
 -- the laws of text that a caller takes from mg_text_writer

@@ -19,8 +19,8 @@ use Rattle.mg_text_writer.specs.Documents.{coded_docs}
 use Rattle.mg_text_writer.specs.Writing.{text_bytes}
 use Rattle.mg_make.specs.Finishing.{budget_of}
 use Rattle.mg_make.specs.Index.{IsInverted}
-use Rattle.mg_make.specs.Listing.{AreListSizes, ListStops}
-use Rattle.mg_make.specs.Plans.{IsPlan, IsPlanOf, Plan}
+use Rattle.mg_index.specs.Listing.{AreListSizes, ListStops}
+use Rattle.mg_count.specs.Plans.{IsPlan, IsPlanOf, Plan}
 use Rattle.mg_make.specs.Putting.{IsHanded}
 use Rattle.mg_make.specs.Second.{coded_by, occurring_by}
 use Rattle.mg_make.specs.declared.inverter.Inverted.{Inverted}
@@ -28,7 +28,7 @@ use Rattle.mg_make.proofs.CountSizes.{together}
 use Rattle.mg_make.proofs.Finishing.{planned_occurrences, planned_text}
 use Rattle.mg_make.proofs.MarkFronts.{same_number}
 use Rattle.mg_make.proofs.Handing.{inverted_by_pass, sizes_of_pass}
-use Rattle.mg_make.proofs.ListFrames.{stops_for}
+use Rattle.mg_index.proofs.CallerLemmas.{stops_for}
 
 module _ (plan : Plan) (limit : ℕ) (base fed : List ℕ) (before now : Option Files) (r : Inverted) (handed : IsHanded plan limit base fed before now r) where
   -- over any store the lengths of lists are within what the writers take

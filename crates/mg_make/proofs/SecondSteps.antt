@@ -17,7 +17,7 @@ use Rattle.mg_laws.proofs.MarkLaws.{coded_append, open_append, open_at_append, p
 use Rattle.mg_text_writer.specs.Writing.{Began, Ended, IsOnText, PutOne, TextWriting, turn}
 use Rattle.mg_make.specs.Fronts.{IsFrontOf}
 use Rattle.mg_make.specs.Indexes.{HasTaken, Indexing, MayFollow}
-use Rattle.mg_make.specs.Plans.{IsPlan, Plan}
+use Rattle.mg_count.specs.Plans.{IsPlan, Plan}
 use Rattle.mg_make.specs.Second.{HasWritten, Inversion, coded_by, occurring_by, open_by, term_at}
 use Rattle.mg_make.proofs.MarkFronts.{one_more_term, terms_more}
 

@@ -12,7 +12,8 @@ use Rattle.mg_defs.specs.CodedText.{TextCode}
 use Rattle.mg_model.specs.Models.{PartsHold}
 use Rattle.mg_make.specs.Index.{OfIndex}
 use Rattle.mg_make.specs.Putting.{OfPass, OthersSame}
-use Rattle.mg_make.specs.Written.{OfSecond, WroteParts, WroteSecond}
+use Rattle.mg_index.specs.Written.{WroteParts}
+use Rattle.mg_make.specs.Written.{OfSecond, WroteSecond}
 
 -- ---- numbers of parts
 

@@ -9,14 +9,14 @@ use Rattle.mg_dev.specs.declared.part.Part.TheVariants.{Head}
 use Rattle.mg_dev.specs.Files.{Files, Reads, file_at}
 use Rattle.mg_dev.specs.Names.{full_name}
 use Rattle.mg_defs.specs.Marks.{Mark}
-use Rattle.mg_make.specs.Plans.{IsPlanOf, Plan}
+use Rattle.mg_count.specs.Plans.{IsPlanOf, Plan}
 use Rattle.mg_make.specs.Putting.{HasPut, OthersSame, Putting}
-use Rattle.mg_make.specs.Scanning.{HasMet, Scanning}
+use Rattle.mg_count.specs.Scanning.{HasMet, Scanning}
 use Rattle.mg_make.specs.SetSteps.{ByteStep, SliceStep, WentOn}
 use Rattle.mg_make.specs.Written.{SecondStops}
 use Rattle.mg_make.proofs.CallerLemmas.{others_more, rose_behind}
 use Rattle.mg_make.proofs.PutSteps.{writing}
-use Rattle.mg_make.proofs.Slices.{one_more, rest_is}
+use Rattle.mg_count.proofs.CallerLemmas.{one_more, rest_is}
 use Rattle.mg_make.proofs.Taking.{stops_more}
 
 -- bytes that go on the piece that is read

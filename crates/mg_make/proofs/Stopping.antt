@@ -14,7 +14,7 @@ use Rattle.mg_defs.specs.declared.Stream.TheVariants.{Words, Others}
 use Rattle.mg_defs.specs.Marks.{Mark, code_of, pair_counts, start, piece, stop, starts}
 use Rattle.mg_defs.specs.Vocabulary.{sorted_pieces}
 use Rattle.mg_make.specs.Fronts.{IsFrontOf}
-use Rattle.mg_make.specs.Plans.{IsPlanOf, Plan}
+use Rattle.mg_count.specs.Plans.{IsPlanOf, Plan}
 use Rattle.mg_make.specs.Second.{HasWritten, Inversion, IsChange}
 use Rattle.mg_make.specs.Written.{SecondStops}
 use Rattle.mg_make.proofs.MarkFronts.{has_symbol, more_documents, more_pieces, no_more_pieces}

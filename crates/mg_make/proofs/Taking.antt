@@ -10,8 +10,8 @@ use Rattle.mg_dev.specs.declared.fault.Fault.TheVariants.{Changed, Memory, Store
 use Rattle.mg_defs.specs.Marks.{Mark, piece, start, stop}
 use Rattle.mg_defs.specs.Pieces.{other_kind}
 use Rattle.mg_make.specs.Fronts.{IsFrontOf}
-use Rattle.mg_make.specs.Meeting.{Meeting, only_if}
-use Rattle.mg_make.specs.Plans.{IsPlanOf, Plan}
+use Rattle.mg_count.specs.Meeting.{Meeting, only_if}
+use Rattle.mg_count.specs.Plans.{IsPlanOf, Plan}
 use Rattle.mg_make.specs.Second.{HasWritten, Inversion, IsNext, SamePass, StopsBefore, WroteMarks}
 use Rattle.mg_make.specs.Written.{SecondStops}
 use Rattle.mg_make.proofs.CallerLemmas.{rose_behind}

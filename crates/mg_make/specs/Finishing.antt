@@ -1,14 +1,13 @@
 -- What a second pass hands on at its end.
-use Rattle.std.specs.Prelude.{◌≡◌, ◌≤◌, ℕ, false, List, [], length, IfErr, IfOk, OnOk}
+use Rattle.std.specs.Prelude.{◌≡◌, ◌≤◌, ℕ, List, [], length, IfErr, IfOk, OnOk}
 use Rattle.std.specs.Option.{IsSome, is_some}
 use Rattle.std.specs.declared.option.Option.{Option}
 use Rattle.std.specs.declared.result.Result.{Result}
 use Rattle.mg_dev.specs.Causes.{Rose}
 use Rattle.mg_dev.specs.Files.{Files, Reads, SameReads, bytes_at}
-use Rattle.mg_dev.specs.Names.{full_name, same_part}
+use Rattle.mg_dev.specs.Names.{full_name}
 use Rattle.mg_dev.specs.declared.fault.Fault.{Fault}
-use Rattle.mg_dev.specs.declared.part.Part.{Part as AnyPart}
-use Rattle.mg_dev.specs.declared.part.Part.TheVariants.{MergeA, MergeB, Places, Run, Text}
+use Rattle.mg_dev.specs.declared.part.Part.TheVariants.{Places, Run, Text}
 use Rattle.mg_bits.specs.Writer.{KeepsOthers}
 use Rattle.mg_defs.specs.Bits.{Bits, as_bytes}
 use Rattle.mg_defs.specs.Heads.{run_count}
@@ -19,8 +18,8 @@ use Rattle.mg_defs.specs.Summaries.{pool_peak, run_cap}
 use Rattle.mg_runs.specs.Fed.{Inverting, cap_of}
 use Rattle.mg_runs.specs.Left.{IsMerging, Merging}
 use Rattle.mg_text_writer.specs.Writing.{DocumentsStand, IsOnText, text_bytes}
-use Rattle.mg_make.specs.DocCounting.{AreDocCounts}
-use Rattle.mg_make.specs.Plans.{IsPlanOf}
+use Rattle.mg_count.specs.DocCounting.{AreDocCounts}
+use Rattle.mg_count.specs.Plans.{IsPlanOf}
 use Rattle.mg_make.specs.Second.{HasWritten, Inversion, coded_by, occurring_by}
 use Rattle.mg_make.specs.Written.{SecondStops}
 use Rattle.mg_make.specs.declared.inverter.Inverted.{Inverted}
@@ -83,11 +82,6 @@ pub record TextEnd (old new : Inversion) (result : Result ℕ Fault) (files_befo
   -- why it stops
   pub refused : IfErr result (λ fault. (collection : List ℕ) → HasWritten old files_before (marks collection)
       → SecondStops (Rose faults_before faults_now) (IsPlanOf old.plan collection) fault)
-
--- no part was read but those of the runs
-abbrev pub ReadRuns : Reads → Reads → Type 0
-ReadRuns before now = (p : AnyPart) → same_part p Run ≡ false → same_part p MergeA ≡ false →
-    same_part p MergeB ≡ false → now p ≡ before p
 
 -- whatever marks it wrote, a pass that wrote them ends with this
 abbrev pub HandsOn : {E : Type 0} → Inversion → Option Files → Option Files → Result Inverted E → Type 0

@@ -1,5 +1,5 @@
 -- Lists, lexicon and weights of a collection as they stand, and from what they are written.
-use Rattle.std.specs.Prelude.{◌≡◌, ◌<◌, ◌^◌, ℕ, List, [], flat_map, length, IfOk, OnOk, Some}
+use Rattle.std.specs.Prelude.{◌≡◌, ◌<◌, ◌^◌, ℕ, List, [], length, IfOk, OnOk, Some}
 use Rattle.std.specs.Option.{IsSome}
 use Rattle.std.specs.declared.option.Option.{Option}
 use Rattle.std.specs.declared.result.Result.{Result}
@@ -8,18 +8,17 @@ use Rattle.mg_dev.specs.declared.part.Part.TheVariants.{Lex, LexAt, MergeA, Merg
 use Rattle.mg_dev.specs.Files.{Files, bytes_at, file_at}
 use Rattle.mg_dev.specs.Names.{full_name}
 use Rattle.mg_defs.specs.Bits.{as_bytes}
-use Rattle.mg_defs.specs.Fixed.{isqrt}
 use Rattle.mg_defs.specs.Lexicon.{lex_at_part, lex_part}
 use Rattle.mg_defs.specs.Lists.{skip_bits}
-use Rattle.mg_defs.specs.Numbers.{four}
 use Rattle.mg_defs.specs.Occurrences.{occurrences}
 use Rattle.mg_defs.specs.Postings.{term_postings}
 use Rattle.mg_defs.specs.Stands.{post_part, skip_count, weights_part}
 use Rattle.mg_runs.specs.Left.{IsMerging, Merging}
-use Rattle.mg_make.specs.DocCounting.{AreDocCounts, DocCounting}
-use Rattle.mg_make.specs.Plans.{IsPlanOf, Plan}
+use Rattle.mg_count.specs.DocCounting.{AreDocCounts, DocCounting}
+use Rattle.mg_count.specs.Plans.{IsPlanOf, Plan}
 use Rattle.mg_make.specs.declared.inverter.Inverted.{Inverted}
-use Rattle.mg_make.specs.declared.lists.Sizes.{Sizes}
+use Rattle.mg_index.specs.Written.{OfWeights}
+use Rattle.mg_index.specs.declared.lists.Sizes.{Sizes}
 
 -- The store tells its files, plan and counts are those of a collection, and the merge has the postings of all its occurrences left.
 pub record IsInverted (p : Plan) (counts : DocCounting) (collection : List ℕ) (merge : Merging) (files : Option Files) :
@@ -40,24 +39,13 @@ pub record IndexStands (files : Option Files) (base collection : List ℕ) : Typ
   pub merge_a : file_at files (full_name base MergeA) ≡ Some []
   pub merge_b : file_at files (full_name base MergeB) ≡ Some []
 
--- the parts of weights, and the working parts
-abbrev pub OfWeights : AnyPart → Type 0
-OfWeights Weights = Unit {0}
-OfWeights MergeA = Unit {0}
-OfWeights MergeB = Unit {0}
-OfWeights p = ⊥
-
--- those, and the parts of lists and the lexicon
+-- the parts of lists, of the lexicon and of weights, and the working parts
 abbrev pub OfIndex : AnyPart → Type 0
 OfIndex Lex = Unit {0}
 OfIndex LexAt = Unit {0}
 OfIndex Post = Unit {0}
 OfIndex Skip = Unit {0}
 OfIndex p = OfWeights p
-
--- the part of weights is the roots of these sums
-abbrev pub WeightsAreRoots : Option Files → List ℕ → List ℕ → Type 0
-WeightsAreRoots files base sums = bytes_at files (full_name base Weights) ≡ flat_map (λ sum. four (isqrt sum)) sums
 
 -- what was inverted by a plan is of a collection
 abbrev pub InvertedBy : Plan → Inverted → Option Files → List ℕ → Type 0

@@ -5,7 +5,7 @@ use Rattle.mg_dev.specs.Files.{Files}
 use Rattle.mg_dev.specs.declared.part.Part.{Part as AnyPart}
 use Rattle.mg_dev.specs.declared.part.Part.TheVariants.{MergeA, MergeB, Run}
 use Rattle.mg_defs.specs.DocCounts.{NeverFall}
-use Rattle.mg_make.specs.DocCounting.{AreDocCounts, DocCounting}
+use Rattle.mg_count.specs.DocCounting.{AreDocCounts, DocCounting}
 use Rattle.mg_runs.specs.Fed.{IsFed, Inverting}
 
 -- the runs, the documents of each term, and how many occurrences were taken

@@ -25,9 +25,9 @@ use Rattle.mg_layout.specs.declared.head.Head.{Head}
 use Rattle.mg_model.specs.Models.{PartsHold}
 use Rattle.mg_make.specs.Finishing.{EndsWith, budget_of}
 use Rattle.mg_make.specs.Index.{IndexStands}
-use Rattle.mg_make.specs.Listing.{ListStops}
-use Rattle.mg_make.specs.Plans.{IsPlanOf, Plan}
-use Rattle.mg_make.specs.Scanning.{HasMet, Scanning}
+use Rattle.mg_index.specs.Listing.{ListStops}
+use Rattle.mg_count.specs.Plans.{IsPlanOf, Plan}
+use Rattle.mg_count.specs.Scanning.{HasMet, Scanning}
 use Rattle.mg_make.specs.Second.{HasWritten, Inversion}
 use Rattle.mg_make.specs.Written.{OfSecond, SecondStops}
 use Rattle.mg_make.specs.declared.inverter.Inverted.{Inverted}

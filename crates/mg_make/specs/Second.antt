@@ -14,7 +14,7 @@ use Rattle.mg_defs.specs.Marks.{Mark, coded_from, is_open_after, marks, open_fro
 use Rattle.mg_text_writer.specs.Writing.{IsOnText, TextWriting}
 use Rattle.mg_make.specs.Fronts.{IsFrontOf}
 use Rattle.mg_make.specs.Indexes.{HasTaken, Indexing}
-use Rattle.mg_make.specs.Plans.{IsPlan, IsPlanOf, Plan}
+use Rattle.mg_count.specs.Plans.{IsPlan, IsPlanOf, Plan}
 use Rattle.mg_make.specs.Written.{SecondStops}
 
 -- ---- what a plan makes of marks

@@ -12,15 +12,16 @@ use Rattle.mg_dev.specs.declared.part.Part.TheVariants as part
 use Rattle.mg_defs.specs.Heads.{IsWithin}
 use Rattle.mg_layout.specs.HeadAnswers.{fields_of}
 use Rattle.mg_layout.specs.declared.head.Head.{Head}
-use Rattle.mg_make.specs.Finishing.{ReadRuns}
+use Rattle.mg_index.specs.Steps.{ReadRuns}
 use Rattle.mg_make.specs.Index.{HasPostPart, HasSkipPart, InvertedBy, OfIndex, WroteIndex}
-use Rattle.mg_make.specs.Listing.{ListStops}
-use Rattle.mg_make.specs.Plans.{IsPlanOf, Plan}
+use Rattle.mg_index.specs.Listing.{ListStops}
+use Rattle.mg_count.specs.Plans.{IsPlanOf, Plan}
 use Rattle.mg_make.specs.Putting.{ForHanded, ForPut, HasHeadOf, HasPeakOf, HasPut, MakesHead, MakesReady, OthersSame, PlanStops, Putting}
-use Rattle.mg_make.specs.Steps.{MergeStep, SortStep}
+use Rattle.mg_index.specs.Steps.{MergeStep}
+use Rattle.mg_make.specs.Steps.{SortStep}
 use Rattle.mg_make.specs.Written.{SecondStops}
 use Rattle.mg_make.specs.declared.inverter.Inverted.{Inverted}
-use Rattle.mg_make.specs.declared.lists.Sizes.{Sizes}
+use Rattle.mg_index.specs.declared.lists.Sizes.{Sizes}
 
 -- one byte more is put, or why it is not
 pub record ByteStep (old new : Putting) (byte : ℕ) (result : Result (Unit {0}) Fault)

@@ -1,19 +1,12 @@
--- Which files a step of a build writes, and why it stops.
-use Rattle.std.specs.Prelude.{◌≡◌, ◌≢◌, ℕ, List}
-use Rattle.std.specs.Option.{is_some}
+-- Which files the second pass writes, and why it stops.
+use Rattle.std.specs.Prelude.{◌≢◌, ℕ, List}
 use Rattle.std.specs.declared.option.Option.{Option}
 use Rattle.mg_dev.specs.declared.part.Part.{Part as AnyPart}
-use Rattle.mg_dev.specs.declared.part.Part.TheVariants.{Head, Lex, LexAt, MergeA, MergeB, Places, Plain, Post, Run, Skip, Text}
-use Rattle.mg_dev.specs.Files.{Files, file_at}
-use Rattle.mg_dev.specs.Names.{full_name}
+use Rattle.mg_dev.specs.declared.part.Part.TheVariants.{MergeA, MergeB, Places, Run, Text}
+use Rattle.mg_dev.specs.Files.{Files}
 use Rattle.mg_dev.specs.declared.fault.Fault.{Fault}
 use Rattle.mg_dev.specs.declared.fault.Fault.TheVariants.{Changed, Memory, StoreFault}
-
--- only files of these parts of a base were written
-pub record WroteParts (parts : AnyPart → Type 0) (base : List ℕ) (before now : Option Files) : Type 0 where
-  pub told : is_some now ≡ is_some before
-  pub others : (name : List ℕ) → ((p : AnyPart) → parts p → name ≢ full_name base p) →
-      file_at now name ≡ file_at before name
+use Rattle.mg_index.specs.Written.{WroteParts}
 
 -- the parts that the second pass writes
 abbrev pub OfSecond : AnyPart → Type 0
@@ -24,20 +17,7 @@ OfSecond MergeA = Unit {0}
 OfSecond MergeB = Unit {0}
 OfSecond p = ⊥
 
--- the parts of lists and the lexicon
-abbrev pub OfLists : AnyPart → Type 0
-OfLists Lex = Unit {0}
-OfLists LexAt = Unit {0}
-OfLists Post = Unit {0}
-OfLists Skip = Unit {0}
-OfLists p = ⊥
-
--- every part of a set but the head
-abbrev pub OfBuild : AnyPart → Type 0
-OfBuild Head = ⊥
-OfBuild Plain = ⊥
-OfBuild p = Unit {0}
-
+-- a step writes them alone
 abbrev pub WroteSecond : List ℕ → Option Files → Option Files → Type 0
 WroteSecond base before now = WroteParts OfSecond base before now
 

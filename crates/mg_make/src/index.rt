@@ -1,22 +1,15 @@
 //! Lists, lexicon and weights, from what was inverted.
-ghost use Rattle.std.specs.Prelude.{◌≡◌, ◌≤◌, List, [], length, replicate, IfOk, OnOk, IsSome, Some, sum};
-ghost use Rattle.mg_dev.specs.Files.{file_at};
-ghost use Rattle.mg_dev.specs.Names.{full_name};
-ghost use Rattle.mg_dev.specs.declared.part.Part.TheVariants as part;
+ghost use Rattle.std.specs.Prelude.{◌≡◌, List, length, replicate};
 ghost use Rattle.mg_dev.specs.Moments.{Between};
 ghost use Rattle.mg_defs.specs.declared.TermPosting.{TermPosting};
 ghost use Rattle.mg_runs.specs.Left.{IsMerging};
-ghost use Rattle.mg_make.specs.Index.{OfWeights, WeightsAreRoots};
-ghost use Rattle.mg_make.specs.Listing.{AreListSizes};
+ghost use Rattle.mg_index.specs.Listing.{AreListSizes};
 ghost use Rattle.mg_make.specs.SetSteps.{WeighedStep};
-ghost use Rattle.mg_make.specs.Steps.{PutStep};
 
-use crate::Plan;
 use crate::inverter::Inverted;
-use crate::lists::{Sizes, Terms, write_lists};
-use crate::merge_parts::reset_merge_parts;
-use crate::weights::write_weights;
-use mg_dev::{Fault, PutErr, Store};
+use mg_count::Plan;
+use mg_dev::{Fault, Store};
+use mg_index::{Sizes, Terms, write_lists, write_weights_part};
 use mg_laws::{documents_are_counted, lists_are_whole, postings_are_lists, squares_weigh};
 use std::alloc::Global;
 
@@ -28,26 +21,6 @@ pub(crate) struct Rest<'p> {
     pub(crate) sums: Vec<u64>,
     pub(crate) size: u64,
     pub(crate) limit: u64,
-}
-
-/// Writes the weights, and empties the working parts.
-fn write_weights_part<S: Store>(
-    alloc: Global,
-    store: &mut S,
-    base: &str,
-    sums: &[u64],
-) -> Result<(), PutErr>
-    ensures bytes { IsSome (S.files store.old) →
-        OnOk result (WeightsAreRoots (S.files store.new) base.now sums.now) }
-    ensures first { IsSome (S.files store.old) →
-        OnOk result (file_at (S.files store.new) (full_name base.now part.MergeA) ≡ Some []) }
-    ensures second { IsSome (S.files store.old) →
-        OnOk result (file_at (S.files store.new) (full_name base.now part.MergeB) ≡ Some []) }
-    ensures step { Between S.files S.reads S.faults store.old store.new
-        (PutStep OfWeights base.now result) }
-{
-    write_weights(alloc, store, base, sums)?;
-    reset_merge_parts(store, base)
 }
 
 /// Writes lists, lexicon and weights of what was inverted, and empties the working parts of merging.
@@ -77,7 +50,7 @@ pub(crate) fn write_all<S: Store>(
     let plan = rest.plan;
     let terms = Terms {
         table: &plan.table,
-        counts: &inverted.counts,
+        docs: inverted.counts.docs(),
     };
     let sizes = match write_lists(
         alloc,

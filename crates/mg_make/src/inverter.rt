@@ -10,12 +10,12 @@ ghost use Rattle.mg_dev.specs.PartCauses.{HasPartCause};
 ghost use Rattle.mg_runs.specs.Cursors.{NoDamage};
 ghost use Rattle.mg_runs.specs.Fed.{IsFed};
 ghost use Rattle.mg_runs.specs.Joins.{Worked};
-ghost use Rattle.mg_make.specs.DocCounting.{AreDocCounts};
+ghost use Rattle.mg_count.specs.DocCounting.{AreDocCounts};
 ghost use Rattle.mg_make.specs.Finishing.{IsMergeOf};
 ghost use Rattle.mg_make.specs.Indexes.{HasTaken, MayFollow, OfRuns, TakesOneMore};
-ghost use Rattle.mg_make.specs.Written.{WroteParts};
+ghost use Rattle.mg_index.specs.Written.{WroteParts};
 
-use crate::doc_counts::DocCounts;
+use mg_count::DocCounts;
 use mg_dev::{PartErr, PutErr, Store};
 use mg_runs::{Merge, Pool, Runs};
 use std::alloc::Global;

@@ -3,28 +3,20 @@
 //!
 //! What comes here is bytes, whatever they come from: the pages of the collection's own file for a build,
 //! two texts for a merge. Nothing here reads a collection.
+//!
+//! The first pass is mg_count's, and its [`Count`], [`Plan`] and [`Room`] are handed on from there. Here stand
+//! the second pass and what follows it: a [`SetWriter`] writes text and runs as the bytes come, has mg_index
+//! write the lists, the lexicon and the weights from the merged runs, and appends the head last.
 #![tactic(auto)]
 
-mod count;
-mod counts;
-mod doc_counts;
 mod index;
 mod inverter;
-mod lists;
 mod mark_writer;
-mod merge_parts;
-mod met;
-mod one_list;
-mod pairs;
-mod plan;
-mod scanner;
 mod second;
 mod set_parts;
 mod summary;
-mod weights;
 mod writer;
 
-pub use count::Count;
-pub use plan::{Plan, Room};
+pub use mg_count::{Count, Plan, Room};
 pub use summary::Summary;
 pub use writer::{SetWriter, empty_heads_stand_for_none, heads_make_sets};

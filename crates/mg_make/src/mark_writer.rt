@@ -5,13 +5,13 @@ ghost use Rattle.std.specs.Prelude.{◌≡◌};
 ghost use Rattle.mg_dev.specs.Moments.{Between};
 ghost use Rattle.mg_defs.specs.Marks.{start as start_mark, stop as stop_mark};
 ghost use Rattle.mg_make.specs.Finishing.{HandsOn, TextEnd};
-ghost use Rattle.mg_make.specs.Meeting.{marks_of, only_if, piece_if};
+ghost use Rattle.mg_count.specs.Meeting.{marks_of, only_if, piece_if};
 ghost use Rattle.mg_make.specs.Second.{EndRefused, Inversion, IsNext, IsWhole};
 ghost use Rattle.mg_make.specs.Steps.{PassStep, SortStep};
 ghost use Rattle.mg_make.specs.Written.{OfSecond};
 
 use crate::inverter::{Inverted, Inverter};
-use crate::met::Met;
+use mg_count::Met;
 use mg_dev::{Fault, Store};
 use mg_parse::Stream;
 use mg_runs::runs_stay;

@@ -7,16 +7,16 @@
 ghost use Rattle.std.specs.Prelude.{◌≡◌, ◌≤◌, ◌<◌, ◌*◌, ◌-◌, ◌∷◌, ℕ, List, [], length, get_or, IfOk, Some, slice_get};
 ghost use Rattle.mg_dev.specs.Moments.{Between};
 ghost use Rattle.mg_defs.specs.Marks.{code_of, piece as piece_mark};
-ghost use Rattle.mg_make.specs.DocCounting.{AreDocCounts};
-ghost use Rattle.mg_make.specs.Plans.{IsPlan};
+ghost use Rattle.mg_count.specs.DocCounting.{AreDocCounts};
+ghost use Rattle.mg_count.specs.Plans.{IsPlan};
 ghost use Rattle.mg_make.specs.Second.{HasWritten, IsChange, IsNext, term_at};
-ghost use Rattle.mg_make.specs.Steps.{PassStep, PutStep};
+ghost use Rattle.mg_index.specs.Steps.{PutStep};
+ghost use Rattle.mg_make.specs.Steps.{PassStep};
 ghost use Rattle.mg_make.specs.Written.{OfSecond};
 
-use crate::doc_counts::DocCounts;
 use crate::inverter::Inverter;
 use crate::mark_writer::MarkWriter;
-use crate::plan::Plan;
+use mg_count::{DocCounts, Plan};
 use mg_dev::{Fault, PutErr, Store, What};
 use mg_model::{symbol_and_piece, terms_are_the_dictionary, words_have_terms};
 use mg_parse::Stream;

@@ -6,12 +6,13 @@
 ghost use Rattle.std.specs.Prelude.{◌≡◌, ◌<◌, ◌≤◌, ◌+◌, ◌-◌, ◌^◌, ◌++◌, ◌∷◌, ℕ, List, [], length, take, IfOk, OnOk, Option, Some};
 ghost use Rattle.std.specs.Option.{IsSome};
 ghost use Rattle.mg_dev.specs.Causes.{HasPutCause};
-ghost use Rattle.mg_dev.specs.Files.{Files, file_at};
+ghost use Rattle.mg_dev.specs.Files.{Files, SameReads, file_at};
 ghost use Rattle.mg_dev.specs.Moments.{Between};
 ghost use Rattle.mg_dev.specs.Names.{full_name};
 ghost use Rattle.mg_dev.specs.declared.part.Part.TheVariants as part;
+ghost use Rattle.mg_index.specs.Steps.{ReadRuns};
 ghost use Rattle.mg_layout.specs.Stands.{StandsForNone, StandsIn};
-ghost use Rattle.mg_make.specs.Plans.{IsPlan, IsRoomFor};
+ghost use Rattle.mg_count.specs.Plans.{IsPlan, IsRoomFor};
 ghost use Rattle.mg_make.specs.Putting.{ForPut, GrewByHead, HasPut, IsEmptied, IsUnbuilt, NextRefused, OthersSame, PutRefused};
 ghost use Rattle.mg_make.specs.Putting.{StandsForNoOther, WhereHeadLacks, with_head};
 ghost use Rattle.mg_make.specs.Outcomes.{HasSummaryOf, MakesSet};
@@ -19,11 +20,10 @@ ghost use Rattle.mg_make.specs.SetSteps.{ByteStep, PartsStep, SliceStep, WentOn}
 
 use crate::index::Rest;
 use crate::mark_writer::put_marks;
-use crate::plan::{Plan, Room};
-use crate::scanner::Scanner;
 use crate::second::SecondPass;
 use crate::set_parts::{end_pass, open_parts, reset_head, write_rest};
 use crate::summary::Summary;
+use mg_count::{Plan, Room, Scanner};
 use mg_dev::{Fault, PutErr, Store};
 use mg_layout::Head;
 use mg_text_writer::text_has_its_documents;
@@ -67,13 +67,20 @@ impl<'a> SetWriter<'a> {
         ensures limit { IfOk result (λ w. w.limit ≡ room.pool.limit) }
         ensures unbuilt { IsUnbuilt base.entry.now (S.files store.old) (S.files store.new) }
         ensures others { OthersSame base.entry.now (S.files store.old) (S.files store.new) }
+        ensures reads { SameReads (S.reads store.old) (S.reads store.new) }
         ensures plain { S.reads store.old part.Plain ≤ S.reads store.new part.Plain }
         ensures cause { HasPutCause (S.faults store.old) (S.faults store.new) result }
     {
         let Room { pool, counts, sums } = room;
         let limit = pool.limit();
-        reset_head(store, base)?;
-        let pass = open_parts(alloc, store, base, plan, pool, counts)?;
+        match reset_head(store, base) {
+            Ok(()) => {}
+            Err(refusal) => return Err(refusal),
+        }
+        let pass = match open_parts(alloc, store, base, plan, pool, counts) {
+            Ok(pass) => pass,
+            Err(refusal) => return Err(refusal),
+        };
         Ok(SetWriter {
             base,
             plan,
@@ -99,6 +106,7 @@ impl<'a> SetWriter<'a> {
         ensures head { IsSome (S.files store.old) →
             file_at (S.files store.new) (full_name self.old.base part.Head) ≡ Some [] }
         ensures others { OthersSame self.old.base (S.files store.old) (S.files store.new) }
+        ensures reads { SameReads (S.reads store.old) (S.reads store.new) }
         ensures plain { S.reads store.old part.Plain ≤ S.reads store.new part.Plain }
         ensures later { S.faults store.old ≤ S.faults store.new }
         ensures refused { NextRefused self.old (λ more. byte ∷ more) S.files S.faults store.old
@@ -215,6 +223,7 @@ impl<'a> SetWriter<'a> {
         ensures left { ForPut self.entry (S.files store.old)
             (StandsForNoOther (S.files store.new) self.entry.base) }
         ensures others { OthersSame self.entry.base (S.files store.old) (S.files store.new) }
+        ensures reads { ReadRuns (S.reads store.old) (S.reads store.new) }
         ensures plain { S.reads store.old part.Plain ≤ S.reads store.new part.Plain }
         ensures later { S.faults store.old ≤ S.faults store.new }
         ensures refused { PutRefused self.entry S.files S.faults store.old store.new result }

@@ -1,11 +1,12 @@
-use Rattle.std.proofs.Common.{◌∙◌, length, sym, ap, subst}
+use Rattle.std.proofs.Common.{◌∙◌, ◌≤◌, ℕ, List, length, sym, ap, subst}
+use Rattle.std.specs.Prelude.{sum}
 use Rattle.std.specs.List.{flat_map}
 use Rattle.mg_make.specs.Index.{IsInverted}
-use Rattle.mg_make.specs.Plans.{Plan}
+use Rattle.mg_count.specs.Plans.{Plan}
 use Rattle.mg_make.proofs.IndexLaws.{index_stands, lists_of_inverted, of_index, size_is, weights_of_index, zeros}
-use Rattle.mg_make.proofs.ListFrames.{stops_for, store_stops}
+use Rattle.mg_index.proofs.CallerLemmas.{stops_for, store_stops}
 use Rattle.mg_make.proofs.WeightSteps.{root_bytes, weights_are}
-use Rattle.mg_make.proofs.StepLaws.{put_wider, step_more, step_put, step_wider}
+use Rattle.mg_index.proofs.CallerLemmas.{put_wider, step_more, step_put, step_wider}
 use Rattle.mg_make.proofs.index.write_all.Goals as goal
 
 pub returns-in-Err : goal.returns-in-Err
@@ -19,7 +20,7 @@ returns-in-Err g c =
       step = step_wider of_index c.write_lists.ensures.step;
       refused = λ collection. stops_for c.in-Err.refusal (λ rose. rose)
           (λ is.
-          lists_of_inverted c.postings_are_lists.ensures c.documents_are_counted.ensures.all _ c.args.inverted.now.counts collection c.args.inverted.now.merge (g.S.Store.files c.args.store.now) _ all
+          lists_of_inverted c.postings_are_lists.ensures c.documents_are_counted.ensures.all _ c.args.inverted.now.counts _ collection c.args.inverted.now.merge (g.S.Store.files c.args.store.now) _ c.docs.ensures all
           (subst (λ p. IsInverted p c.args.inverted.now.counts collection c.args.inverted.now.merge (g.S.Store.files c.args.store.now)) (sym c.plan.view_is) is))
           (c.in-Err.ensures.refused collection);
     }
@@ -33,7 +34,7 @@ returns-in-Ok-write_weights_part g c =
     record {
       stand = λ collection is.
           let has =
-          lists_of_inverted c.postings_are_lists.ensures c.documents_are_counted.ensures.all _ c.args.inverted.now.counts collection c.args.inverted.now.merge (g.S.Store.files c.args.store.now) _ all
+          lists_of_inverted c.postings_are_lists.ensures c.documents_are_counted.ensures.all _ c.args.inverted.now.counts _ collection c.args.inverted.now.merge (g.S.Store.files c.args.store.now) _ c.docs.ensures all
           (subst (λ p. IsInverted p c.args.inverted.now.counts collection c.args.inverted.now.merge (g.S.Store.files c.args.store.now)) (sym c.plan.view_is) is) in
           let bytes =
           weights.bytes (told ∙ is.told) ∙ ap (λ sums. flat_map root_bytes sums) c.deref.ensures.value
@@ -42,15 +43,15 @@ returns-in-Ok-write_weights_part g c =
           (weights.first (told ∙ is.told)) (weights.second (told ∙ is.told));
       post_bytes = λ collection is.
           let has =
-          lists_of_inverted c.postings_are_lists.ensures c.documents_are_counted.ensures.all _ c.args.inverted.now.counts collection c.args.inverted.now.merge (g.S.Store.files c.args.store.now) _ all
+          lists_of_inverted c.postings_are_lists.ensures c.documents_are_counted.ensures.all _ c.args.inverted.now.counts _ collection c.args.inverted.now.merge (g.S.Store.files c.args.store.now) _ c.docs.ensures all
           (subst (λ p. IsInverted p c.args.inverted.now.counts collection c.args.inverted.now.merge (g.S.Store.files c.args.store.now)) (sym c.plan.view_is) is) in
           lists.post_bytes collection has ∙ size_is c.lists_are_whole.ensures.lists c.lists_are_whole.ensures.size collection;
       skip_count = λ collection is.
           let has =
-          lists_of_inverted c.postings_are_lists.ensures c.documents_are_counted.ensures.all _ c.args.inverted.now.counts collection c.args.inverted.now.merge (g.S.Store.files c.args.store.now) _ all
+          lists_of_inverted c.postings_are_lists.ensures c.documents_are_counted.ensures.all _ c.args.inverted.now.counts _ collection c.args.inverted.now.merge (g.S.Store.files c.args.store.now) _ c.docs.ensures all
           (subst (λ p. IsInverted p c.args.inverted.now.counts collection c.args.inverted.now.merge (g.S.Store.files c.args.store.now)) (sym c.plan.view_is) is) in
           lists.skip_count collection has;
-      few = lists.few;
+      few = subst (λ (docs : List ℕ). c.in-Ok.sizes.skip_count ≤ sum docs) c.docs.ensures lists.few;
       step = step_more (step_wider of_index c.write_lists.ensures.step) (step_put (put_wider weights_of_index c.write_weights_part.ensures.step));
       refused = tt;
     }

@@ -1,11 +1,11 @@
 use Rattle.std.proofs.Common.{◌≡◌, ◌++◌, ℕ, List, refl, subst, sym}
 use Rattle.mg_defs.specs.Marks.{Mark, marks}
-use Rattle.mg_make.specs.Meeting.{Meeting, marks_of}
-use Rattle.mg_make.specs.Scanning.{HasMet}
+use Rattle.mg_count.specs.Meeting.{Meeting, marks_of}
+use Rattle.mg_count.specs.Scanning.{HasMet}
 use Rattle.mg_make.specs.Second.{HasWritten}
 use Rattle.mg_make.proofs.CallerLemmas.{rose_behind}
 use Rattle.mg_make.proofs.EndSteps.{all_written, end_refused, handed_all, is_whole, last_marks, stops_before}
-use Rattle.mg_make.proofs.StepLaws.{sort_for, sort_more, sort_pass}
+use Rattle.mg_make.proofs.SortLaws.{sort_for, sort_more, sort_pass}
 use Rattle.mg_make.proofs.set_parts.end_pass.Goals as goal
 
 pub put_marks-requires : goal.put_marks-requires

@@ -1,9 +1,9 @@
 use Rattle.std.proofs.Common.{subst}
 use Rattle.std.proofs.lemmas.Result.{err_from_is_err_and}
 use Rattle.mg_model.specs.Models.{PartsHold}
-use Rattle.mg_make.specs.Plans.{Plan}
+use Rattle.mg_count.specs.Plans.{Plan}
 use Rattle.mg_make.proofs.SetFrames.{models_of_pass, models_wrote, second_is_pass}
-use Rattle.mg_make.proofs.StepLaws.{put_err, put_more, put_wider}
+use Rattle.mg_index.proofs.CallerLemmas.{put_err, put_more, put_wider}
 use Rattle.mg_make.proofs.set_parts.open_parts.Goals as goal
 
 pub returns-clause-models : goal.returns-clause-models

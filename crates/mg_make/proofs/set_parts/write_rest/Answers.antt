@@ -10,10 +10,10 @@ use Rattle.mg_defs.specs.Stands.{post_part, skip_count}
 use Rattle.mg_defs.specs.Summaries.{run_cap}
 use Rattle.mg_defs.specs.Terms.{dictionary}
 use Rattle.mg_defs.specs.Vocabulary.{sorted_pieces}
-use Rattle.mg_make.specs.Plans.{Plan}
+use Rattle.mg_count.specs.Plans.{Plan}
 use Rattle.mg_make.proofs.Finishing.{planned_occurrences}
 use Rattle.mg_make.proofs.RestSteps.{few_occurring, few_terms_of, handed_count, handed_docs, handed_high, handed_lists, handed_low, handed_peak, handed_runs, handed_sizes, handed_text, rest_stops, same_heads}
-use Rattle.mg_make.proofs.StepLaws.{sort_merge}
+use Rattle.mg_make.proofs.SortLaws.{sort_merge}
 use Rattle.mg_make.proofs.set_parts.write_rest.Goals as goal
 
 pub write_all-requires-clause-sizes : goal.write_all-requires-clause-sizes

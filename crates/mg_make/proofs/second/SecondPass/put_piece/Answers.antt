@@ -3,7 +3,7 @@ use Rattle.std.specs.Str.{bytes_eq}
 use Rattle.mg_defs.specs.CodedText.{TextCode}
 use Rattle.mg_defs.specs.Marks.{code_of, with_doc}
 use Rattle.mg_make.specs.Indexes.{HasTaken}
-use Rattle.mg_make.specs.Plans.{Plan}
+use Rattle.mg_count.specs.Plans.{Plan}
 use Rattle.mg_make.specs.Second.{occurring_by}
 use Rattle.mg_make.proofs.CallerLemmas.{rose_behind}
 use Rattle.mg_make.proofs.Frames.{index_kept, runs_wrote, text_kept, text_wrote, wrote_both}

@@ -1,7 +1,7 @@
 use Rattle.std.proofs.Common.{refl, sym}
 use Rattle.mg_make.proofs.Frames.{runs_wrote, text_kept, text_wrote}
 use Rattle.mg_make.proofs.SecondSteps.{wrote_nothing}
-use Rattle.mg_make.proofs.StepLaws.{put_err, put_more, put_ok}
+use Rattle.mg_index.proofs.CallerLemmas.{put_err, put_more, put_ok}
 use Rattle.mg_make.proofs.second.SecondPass.start.Goals as goal
 
 pub returns-in-Err-clause-step : goal.returns-in-Err-clause-step

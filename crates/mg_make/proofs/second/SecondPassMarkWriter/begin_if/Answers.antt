@@ -1,5 +1,5 @@
 use Rattle.std.proofs.Common.{refl, ◌≡◌, ◌≤◌, ◌<◌, length, get_or, sym, ap, ◌∙◌, arith}
-use Rattle.mg_make.specs.Plans.{Plan}
+use Rattle.mg_count.specs.Plans.{Plan}
 use Rattle.mg_make.proofs.Frames.{index_kept}
 use Rattle.mg_make.proofs.MarkFronts.{closed_at_start}
 use Rattle.mg_make.proofs.PassLaws.{pass_none, pass_refused, text_done, text_refused}

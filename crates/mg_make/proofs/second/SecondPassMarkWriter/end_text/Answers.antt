@@ -1,5 +1,5 @@
 use Rattle.std.proofs.Common.{◌≤◌, ◌<◌, refl, length, ap, arith}
-use Rattle.mg_make.specs.Plans.{Plan}
+use Rattle.mg_count.specs.Plans.{Plan}
 use Rattle.mg_make.proofs.Finishing.{fewer_documents, whole_is_closed}
 use Rattle.mg_make.proofs.SecondSteps.{none_open}
 use Rattle.mg_make.proofs.Stopping.{stops_store}

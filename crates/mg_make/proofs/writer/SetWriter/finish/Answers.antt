@@ -1,8 +1,8 @@
 use Rattle.std.proofs.Common.{arith, ◌≡◌, ◌∙◌, IsSome, length, ap, inl, inr, refl, subst, sym}
 use Rattle.mg_dev.specs.Causes.{Rose}
 use Rattle.mg_dev.specs.declared.fault.Fault.{Fault}
-use Rattle.mg_make.specs.Listing.{ListStops}
-use Rattle.mg_make.specs.Plans.{IsPlanOf}
+use Rattle.mg_index.specs.Listing.{ListStops}
+use Rattle.mg_count.specs.Plans.{IsPlanOf}
 use Rattle.mg_dev.specs.Files.{GrewInPart, grown}
 use Rattle.mg_dev.specs.Names.{full_name}
 use Rattle.mg_dev.specs.declared.part.Part.TheVariants.{Head, Plain}
@@ -134,6 +134,15 @@ returns-in-Err-write-clause-refused g c = λ fed put. subst
     (λ (fault : Fault). ListStops (Rose (g.S.Store.faults c.args.store.now) (g.S.Store.faults c.write.new.store))
     (IsSome (g.S.Store.files c.args.store.now) × IsPlanOf c.args.self.plan fed) fault) (sym c.of_store.ensures)
     (append_stops _ _ _ c.in-Err-write.refusal _ c.in-Ok.ensures.later c.in-Err-write.ensures.cause)
+
+pub returns-in-Err-clause-reads : goal.returns-in-Err-clause-reads
+returns-in-Err-clause-reads g c = c.write_parts.ensures.reads
+
+pub returns-in-Ok-write-clause-reads : goal.returns-in-Ok-write-clause-reads
+returns-in-Ok-write-clause-reads g c = λ p run first second. c.write.ensures.reads p ∙ c.write_parts.ensures.reads p run first second
+
+pub returns-in-Err-write-clause-reads : goal.returns-in-Err-write-clause-reads
+returns-in-Err-write-clause-reads g c = λ p run first second. c.write.ensures.reads p ∙ c.write_parts.ensures.reads p run first second
 
 pub returns-in-Err-clause-plain : goal.returns-in-Err-clause-plain
 returns-in-Err-clause-plain g c = omega (arith, c.write_parts.ensures.reads Plain refl refl refl)

@@ -1,5 +1,5 @@
 use Rattle.std.proofs.Common.{arith, ◌≤◌, ◌<◌, ◌+◌, ◌-◌, ◌++◌, length, take, drop}
-use Rattle.mg_make.proofs.Slices.{all_given, given_length, rest_within}
+use Rattle.mg_count.proofs.CallerLemmas.{all_given, given_length, rest_within}
 use Rattle.mg_make.proofs.SliceSteps.{slice_as, slice_more, slice_none, slice_on, slice_refused}
 use Rattle.mg_make.proofs.writer.SetWriter.take_all.Goals as goal
 

@@ -1,7 +1,7 @@
 use Rattle.std.proofs.Common.{◌++◌, ◌∷◌, [], ℕ, List, refl, subst, sym}
 use Rattle.mg_defs.specs.Marks.{Mark}
-use Rattle.mg_make.specs.Meeting.{Meeting, marks_of}
-use Rattle.mg_make.specs.Scanning.{HasMet}
+use Rattle.mg_count.specs.Meeting.{Meeting, marks_of}
+use Rattle.mg_count.specs.Scanning.{HasMet}
 use Rattle.mg_make.proofs.PutSteps.{byte_done, byte_refused, next_marks, writing}
 use Rattle.mg_make.proofs.writer.SetWriter.take_other.Goals as goal
 

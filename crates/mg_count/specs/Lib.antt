@@ -1,0 +1,7 @@
+pub mod Meeting
+pub mod DocCounting
+pub mod Plans
+pub mod Pairs
+pub mod Entries
+pub mod Scanning
+pub mod Counting

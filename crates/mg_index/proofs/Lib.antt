@@ -1,0 +1,11 @@
+pub mod Causes
+pub mod ListFrames
+pub mod SquareSteps
+pub mod ListSteps
+pub mod TermSteps
+pub mod IndexSteps
+pub mod IndexEnds
+pub mod StepLaws
+pub mod TermsLaws
+pub mod WeightFrames
+pub mod CallerLemmas

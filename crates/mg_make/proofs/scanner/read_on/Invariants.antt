@@ -1,6 +1,0 @@
-use Rattle.std.proofs.Common.{take}
-use Rattle.mg_make.specs.Scanning.{HasReadOn}
-use Rattle.mg_make.proofs.scanner.read_on.Given as goal
-
-abbrev pub invariant-loop-count : goal.invariant-loop-count
-invariant-loop-count l = HasReadOn l.fn.reader l.reader (take l.count l.bytes)
