@@ -106,7 +106,8 @@ pub indexed_more : {terms : List (List ℕ)} {docs : List ℕ} {collection : Lis
     now.all ≡ lists.all → now.post.name ≡ full_name next.base Post → now.skip.name ≡ full_name next.base Skip → SameMerge merge next → WroteParts OfPostings merge.base f h → lex.base ≡ merge.base →
     ((ts : List Term) → TookTerms lex h ts → TookTerms lexed g (ts ++ term ∷ [])) → take (n + 1) (terms_of collection) ≡ take n (terms_of collection) ++ term ∷ [] →
     is_some g ≡ is_some h → BesideLex lex.base h g → HasIndexed terms docs collection (n + 1) next now lexed summed g
-indexed_more {terms} {docs} {collection} {n} {merge} {next} {lists} {now} {lex} {lexed} {sums} {summed} {f} {h} {g} {term} runs_stay lists_stay terms_stay has lt list all post skip same wrote base took more told others =
+indexed_more {terms} {docs} {collection} {n} {merge} {next} {lists} {now} {lex} {lexed} {sums} {summed} {f} {h} {g} {term}
+    runs_stay lists_stay terms_stay has lt list all post skip same wrote base took more told others =
     let within = number_within terms docs lists.all n collection has.of lt in
     let front : take n (inverted collection) ++ get_or (inverted collection) n [] ∷ [] ≡ take (n + 1) (inverted collection) =
     sym (take_more (inverted collection) n [] (omega (arith, within, lists_long collection))) in

@@ -54,7 +54,10 @@ fn write_weights<S: Store>(
         Err(refusal) => return Err(refusal),
     };
     for sum in sums {
-        put_root(&mut writer, store, *sum)?;
+        match put_root(&mut writer, store, *sum) {
+            Ok(()) => {}
+            Err(refusal) => return Err(refusal),
+        }
     }
     writer.finish(store)
 }

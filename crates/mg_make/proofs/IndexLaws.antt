@@ -85,12 +85,11 @@ index_stands base collection f g lists wrote weights first second = record {
 pub zeros : (sums : List ℕ) (n : ℕ) → sums ≡ replicate n 0 → length sums ≡ n
 zeros sums n is = ap (λ (xs : List ℕ). length xs) is ∙ length-replicate n 0
 
-pub lists_of_inverted :
+pub lists_of_inverted : {p : Plan} {counts : DocCounting} {docs collection : List ℕ} {merge : Merging} {files : Option Files} {all : ℕ} →
     ((collection : List ℕ) → term_postings (occurrences collection) ≡ by_terms 0 (inverted collection)) →
     ((collection : List ℕ) (term : ℕ) → docs_with term (occurrences collection) ≡ length (get_or (inverted collection) term [])) →
-    (p : Plan) (counts : DocCounting) (docs : List ℕ) (collection : List ℕ) (merge : Merging) (files : Option Files) (all : ℕ) → docs ≡ counts.docs → all ≡ length p.pairs →
-    IsInverted p counts collection merge files → HasLists p.terms.terms docs all collection merge files
-lists_of_inverted in_lists counted p counts docs collection merge files all same all_is is = record {
+    docs ≡ counts.docs → all ≡ length p.pairs → IsInverted p counts collection merge files → HasLists p.terms.terms docs all collection merge files
+lists_of_inverted {p} {counts} {docs} {collection} {merge} {files} {all} in_lists counted same all_is is = record {
   told = is.told;
   of = record { terms_are = is.plan_is.terms; docs_are = same ∙ docs_are; all_are = all_is ∙ ap (λ (xs : List ℕ). length xs) is.plan_is.pairs ∙ pairs_long; few = is.few };
   merging = subst (λ xs. IsMerging merge files xs) (in_lists collection) is.merging;

@@ -75,7 +75,10 @@ pub(crate) fn open_parts<'a, S: Store>(
     ensures step { Between S.files S.reads S.faults store.old store.new
         (PutStep OfPass base.entry.now result) }
 {
-    plan.model.write(alloc, store, base)?;
+    match plan.model.write(alloc, store, base) {
+        Ok(()) => {}
+        Err(refusal) => return Err(refusal),
+    }
     SecondPass::start(alloc, store, base, plan, pool, counts)
 }
 

@@ -20,7 +20,7 @@ returns-in-Err g c =
       step = step_wider of_index c.write_lists.ensures.step;
       refused = λ collection. stops_for c.in-Err.refusal (λ rose. rose)
           (λ is.
-          lists_of_inverted c.postings_are_lists.ensures c.documents_are_counted.ensures.all _ c.args.inverted.now.counts _ collection c.args.inverted.now.merge (g.S.Store.files c.args.store.now) _ c.docs.ensures all
+          lists_of_inverted c.postings_are_lists.ensures c.documents_are_counted.ensures.all c.docs.ensures all
           (subst (λ p. IsInverted p c.args.inverted.now.counts collection c.args.inverted.now.merge (g.S.Store.files c.args.store.now)) (sym c.plan.view_is) is))
           (c.in-Err.ensures.refused collection);
     }
@@ -34,7 +34,7 @@ returns-in-Ok-write_weights_part g c =
     record {
       stand = λ collection is.
           let has =
-          lists_of_inverted c.postings_are_lists.ensures c.documents_are_counted.ensures.all _ c.args.inverted.now.counts _ collection c.args.inverted.now.merge (g.S.Store.files c.args.store.now) _ c.docs.ensures all
+          lists_of_inverted c.postings_are_lists.ensures c.documents_are_counted.ensures.all c.docs.ensures all
           (subst (λ p. IsInverted p c.args.inverted.now.counts collection c.args.inverted.now.merge (g.S.Store.files c.args.store.now)) (sym c.plan.view_is) is) in
           let bytes =
           weights.bytes (told ∙ is.told) ∙ ap (λ sums. flat_map root_bytes sums) c.deref.ensures.value
@@ -43,12 +43,12 @@ returns-in-Ok-write_weights_part g c =
           (weights.first (told ∙ is.told)) (weights.second (told ∙ is.told));
       post_bytes = λ collection is.
           let has =
-          lists_of_inverted c.postings_are_lists.ensures c.documents_are_counted.ensures.all _ c.args.inverted.now.counts _ collection c.args.inverted.now.merge (g.S.Store.files c.args.store.now) _ c.docs.ensures all
+          lists_of_inverted c.postings_are_lists.ensures c.documents_are_counted.ensures.all c.docs.ensures all
           (subst (λ p. IsInverted p c.args.inverted.now.counts collection c.args.inverted.now.merge (g.S.Store.files c.args.store.now)) (sym c.plan.view_is) is) in
           lists.post_bytes collection has ∙ size_is c.lists_are_whole.ensures.lists c.lists_are_whole.ensures.size collection;
       skip_count = λ collection is.
           let has =
-          lists_of_inverted c.postings_are_lists.ensures c.documents_are_counted.ensures.all _ c.args.inverted.now.counts _ collection c.args.inverted.now.merge (g.S.Store.files c.args.store.now) _ c.docs.ensures all
+          lists_of_inverted c.postings_are_lists.ensures c.documents_are_counted.ensures.all c.docs.ensures all
           (subst (λ p. IsInverted p c.args.inverted.now.counts collection c.args.inverted.now.merge (g.S.Store.files c.args.store.now)) (sym c.plan.view_is) is) in
           lists.skip_count collection has;
       few = subst (λ (docs : List ℕ). c.in-Ok.sizes.skip_count ≤ sum docs) c.docs.ensures lists.few;
