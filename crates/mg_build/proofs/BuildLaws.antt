@@ -1,5 +1,5 @@
 -- What a build answers, by what the calls that it makes answer.
-use Rattle.std.proofs.Common.{arith, ◌+◌, ◌/◌, ◌≡◌, ◌≤◌, ◌∙◌, ◌⊎◌, ℕ, List, [], length, Option, None, Some, Ok, Err, IsSome, refl, sym, ap, subst, inl, inr}
+use Rattle.std.proofs.Common.{◌+◌, ◌/◌, ◌≡◌, ◌≤◌, ◌⊎◌, ℕ, List, [], length, Option, None, Some, Ok, Err, IsSome, refl, sym, ap, subst, inl, inr}
 use Rattle.std.specs.Prelude.{IfErr, OnOk, Result}
 use Rattle.std.specs.Option.{unwrap_or}
 use Rattle.mg_dev.specs.Files.{Files, HasSize, bytes_at, file_at}
@@ -17,11 +17,9 @@ use Rattle.mg_defs.specs.TextBits.{text_bits}
 use Rattle.mg_defs.proofs.TextBitsLaws.{text-within}
 use Rattle.mg_laws.proofs.FirstMarks.{first_is_beyond, one_first, within_from}
 use Rattle.mg_layout.specs.Stands.{StandsIn}
-use Rattle.mg_build.specs.Building.{BuildStops, IsPlanFor, PassStops, WriteStops}
+use Rattle.mg_build.specs.Building.{BuildStops, PassStops, WriteStops}
 use Rattle.mg_dev.specs.Runs.{IsDone, RefusedFor}
-use Rattle.mg_make.specs.Outcomes.{IsEarly, most_bytes}
-use Rattle.mg_build.specs.Sources.{OpenStops}
-use Rattle.mg_make.specs.Plans.{Plan}
+use Rattle.mg_make.specs.Outcomes.{IsEarly}
 
 -- ---- the file
 
@@ -52,36 +50,7 @@ not_both bytes stream x first second = never (one_first version_2 bytes start (p
 pub within_passes : (bytes : List ℕ) (mark : Mark) → IsWithinLimits 2 bytes → PassesFirst version_2 bytes mark → ⊥
 within_passes bytes mark limits first = first_is_beyond version_2 bytes mark first (within_from 2 bytes limits)
 
--- ---- the file is not opened
-
--- a file that is there, and no larger than it may be, is not opened only where the store fails or memory lacks
-pub open_only : (rose : Type 0) (files : Option Files) (name bytes : List ℕ) (fault : Fault) → file_at files name ≡ Some bytes → length bytes ≤ most_bytes →
-    OpenStops rose files name fault → ((fault ≡ cause.StoreFault) × rose) ⊎ (fault ≡ cause.Memory)
-open_only rose files name bytes cause.StoreFault is few stop = inl (refl, stop)
-open_only rose files name bytes cause.Memory is few stop = inr refl
-open_only rose files name bytes cause.NoCollection is few stop = absurd (absent (sym is ∙ stop (is_told files name bytes is)))
-  where
-    absent : {b : List ℕ} → Some b ≡ None → ⊥
-    absent bad = cc
-open_only rose files name bytes (cause.TooLarge size most) is few stop =
-    let whole : length bytes ≡ size = sym (ap length (its_bytes files name bytes is)) ∙ stop.2 (is_told files name bytes is) in
-    absurd (omega (arith, few, stop.0, stop.1, whole))
-open_only rose files name bytes cause.Usage is few stop = absurd stop
-open_only rose files name bytes cause.ReadFault is few stop = absurd stop
-open_only rose files name bytes cause.WriteFault is few stop = absurd stop
-open_only rose files name bytes cause.NotBuilt is few stop = absurd stop
-open_only rose files name bytes (cause.Damaged bad) is few stop = absurd stop
-open_only rose files name bytes cause.TooManyDocuments is few stop = absurd stop
-open_only rose files name bytes (cause.TooManyPieces stream) is few stop = absurd stop
-open_only rose files name bytes (cause.Changed what first second) is few stop = absurd stop
-open_only rose files name bytes (cause.NameClash p) is few stop = absurd stop
-open_only rose files name bytes cause.InputTooLong is few stop = absurd stop
-open_only rose files name bytes cause.SameName is few stop = absurd stop
-open_only rose files name bytes (cause.TooManyRotations count) is few stop = absurd stop
-
-pub opened_or : {T : Type 0} (rose : Type 0) (fault wanted : Fault) → ((fault ≡ cause.StoreFault) × rose) ⊎ (fault ≡ cause.Memory) → RefusedFor {T = T} (Err fault) wanted
-opened_or rose fault wanted (inl only) = inr (inl (ap Err only.0))
-opened_or rose fault wanted (inr only) = inr (inr (ap Err only))
+-- ---- it is refused
 
 pub done_or_lacks : (T : Type 0) (rose : Type 0) (fault : Fault) → (rose → ⊥) → ((fault ≡ cause.StoreFault) × rose) ⊎ (fault ≡ cause.Memory) → IsDone {T = T} (Err fault)
 done_or_lacks T rose fault never (inl only) = absurd (never only.1)
@@ -245,14 +214,3 @@ pub text_all : {T : Type 0} (r : Result T Fault) (cap : ℕ) (files : Option Fil
 text_all (Ok value) cap files base collection stands = subst (λ n. n ≤ text_bits collection / 8 + length (documents collection))
     (sym (ap length stands.are.text)) (text-within stands.code collection stands.are.code_is)
 text_all (Err fault) cap files base collection stands = tt
-
--- ---- from one moment to another
-
-pub pass_at : (rose : Type 0) (f g : Option Files) (m n : List ℕ) (size : ℕ) (fault : Fault) → f ≡ g → m ≡ n → PassStops rose f m size fault → PassStops rose g n size fault
-pass_at rose f g m n size fault one two stop = subst (λ x. PassStops rose g x size fault) two (subst (λ x. PassStops rose x m size fault) one stop)
-
-pub plan_at : (plan : Plan) (f g : Option Files) (m n : List ℕ) (a b : ℕ) → f ≡ g → m ≡ n → a ≡ b → IsPlanFor plan f m a → IsPlanFor plan g n b
-plan_at plan f g m n a b one two three is = subst (λ x. IsPlanFor plan g n x) three (subst (λ x. IsPlanFor plan g x a) two (subst (λ x. IsPlanFor plan x m a) one is))
-
-pub size_at : (f g : Option Files) (m n : List ℕ) (size : ℕ) → f ≡ g → m ≡ n → length (bytes_at f m) ≡ size → length (bytes_at g n) ≡ size
-size_at f g m n size one two is = subst (λ x. length (bytes_at g x) ≡ size) two (subst (λ x. length (bytes_at x m) ≡ size) one is)

@@ -5,3 +5,6 @@ mod PutLaws
 mod NameLaws
 mod BuildLaws
 mod MadeLaws
+mod StepLaws
+mod WrittenLaws
+mod BuiltLaws

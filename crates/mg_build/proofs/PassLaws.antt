@@ -96,9 +96,9 @@ looked_nowhere part f r n = record { files = refl; faults = omega arith; later =
 -- ---- the first pass
 
 -- a byte that is not read
-pub pass_byte : (rose now : Type 0) (files later : Option Files) (name same : List ℕ) (size kept : ℕ) (fault : Fault) → (rose → now) → later ≡ files →
+pub pass_byte : {rose now : Type 0} {files later : Option Files} {name same : List ℕ} {size kept : ℕ} (fault : Fault) → (rose → now) → later ≡ files →
     same ≡ name → kept ≡ size → ByteStops rose later same kept fault → PassStops now files name size fault
-pass_byte rose now files later name same size kept fault more f n k stop =
+pass_byte {rose} {now} {files} {later} {name} {same} {size} {kept} fault more f n k stop =
     refused fault (subst (λ x. ByteStops rose x name size fault) f
     (subst (λ x. ByteStops rose later x size fault) n (subst (λ x. ByteStops rose later same x fault) k stop)))
   where
@@ -170,25 +170,25 @@ pass_end now files name fed size (cause.TooManyRotations count) are stop = absur
 -- ---- the second pass
 
 -- a byte that is not read
-pub write_byte : (rose now : Type 0) (plan : Plan) (first later : Option Files) (name same : List ℕ) (size kept : ℕ) (fault : Fault) → (rose → now) →
+pub write_byte : {rose now : Type 0} (plan : Plan) (first later : Option Files) (name same : List ℕ) {size kept : ℕ} (fault : Fault) → (rose → now) →
     (IsSome first → IsSome later) → bytes_at later same ≡ bytes_at first name → kept ≡ size
     → ByteStops rose later same kept fault → WriteStops now (IsPlanFor plan first name size) fault
-write_byte rose now plan first later name same size kept cause.StoreFault more still bytes k stop = more stop
-write_byte rose now plan first later name same size kept (cause.Changed what one two) more still bytes k stop = (stop.0, λ is. stop.1 (still is.told) (ap length bytes ∙ is.whole ∙ sym k))
-write_byte rose now plan first later name same size kept cause.Usage more still bytes k stop = absurd stop
-write_byte rose now plan first later name same size kept cause.ReadFault more still bytes k stop = absurd stop
-write_byte rose now plan first later name same size kept cause.WriteFault more still bytes k stop = absurd stop
-write_byte rose now plan first later name same size kept cause.NotBuilt more still bytes k stop = absurd stop
-write_byte rose now plan first later name same size kept (cause.Damaged bad) more still bytes k stop = absurd stop
-write_byte rose now plan first later name same size kept cause.NoCollection more still bytes k stop = absurd stop
-write_byte rose now plan first later name same size kept (cause.TooLarge most_size most) more still bytes k stop = absurd stop
-write_byte rose now plan first later name same size kept cause.TooManyDocuments more still bytes k stop = absurd stop
-write_byte rose now plan first later name same size kept (cause.TooManyPieces stream) more still bytes k stop = absurd stop
-write_byte rose now plan first later name same size kept cause.Memory more still bytes k stop = absurd stop
-write_byte rose now plan first later name same size kept (cause.NameClash p) more still bytes k stop = absurd stop
-write_byte rose now plan first later name same size kept cause.InputTooLong more still bytes k stop = absurd stop
-write_byte rose now plan first later name same size kept cause.SameName more still bytes k stop = absurd stop
-write_byte rose now plan first later name same size kept (cause.TooManyRotations count) more still bytes k stop = absurd stop
+write_byte plan first later name same cause.StoreFault more still bytes k stop = more stop
+write_byte plan first later name same (cause.Changed what one two) more still bytes k stop = (stop.0, λ is. stop.1 (still is.told) (ap length bytes ∙ is.whole ∙ sym k))
+write_byte plan first later name same cause.Usage more still bytes k stop = absurd stop
+write_byte plan first later name same cause.ReadFault more still bytes k stop = absurd stop
+write_byte plan first later name same cause.WriteFault more still bytes k stop = absurd stop
+write_byte plan first later name same cause.NotBuilt more still bytes k stop = absurd stop
+write_byte plan first later name same (cause.Damaged bad) more still bytes k stop = absurd stop
+write_byte plan first later name same cause.NoCollection more still bytes k stop = absurd stop
+write_byte plan first later name same (cause.TooLarge most_size most) more still bytes k stop = absurd stop
+write_byte plan first later name same cause.TooManyDocuments more still bytes k stop = absurd stop
+write_byte plan first later name same (cause.TooManyPieces stream) more still bytes k stop = absurd stop
+write_byte plan first later name same cause.Memory more still bytes k stop = absurd stop
+write_byte plan first later name same (cause.NameClash p) more still bytes k stop = absurd stop
+write_byte plan first later name same cause.InputTooLong more still bytes k stop = absurd stop
+write_byte plan first later name same cause.SameName more still bytes k stop = absurd stop
+write_byte plan first later name same (cause.TooManyRotations count) more still bytes k stop = absurd stop
 
 -- bytes of which the last is not written
 pub write_put : (rose now : Type 0) (plan : Plan) (files : Option Files) (name fed run : List ℕ) (size n : ℕ) (fault : Fault) → (rose → now) → size < 2 ^ 32 →
@@ -267,14 +267,6 @@ plan_later plan before now name size told same is = record {
     bytes : bytes_at now name ≡ bytes_at before name
     bytes = same_bytes before now name name refl same
 
--- what was read of the file as it is now was read of it as it was
-pub read_of_before : (before now : Option Files) (name : List ℕ) (n : ℕ) (fed : List ℕ) → is_some now ≡ is_some before →
-    file_at now name ≡ file_at before name → AreRead now name n fed → AreRead before name n fed
-read_of_before before now name n fed told same are = record {
-  size = are.size;
-  told = λ is. are.told (still_told before now told is) ∙ ap (λ bytes. take n bytes) (same_bytes before now name name refl same);
-}
-
 -- a plan of the file's bytes is one of the bytes that were read
 pub plan_of_read : (plan : Plan) (files : Option Files) (name : List ℕ) (size : ℕ) (fed : List ℕ) → AreRead files name size fed → IsPlanFor plan files name size → IsPlanOf plan fed
 plan_of_read plan files name size fed are is = subst (λ bytes. IsPlanOf plan bytes) (sym (read_all files name size fed are is.told is.whole)) is.counted
@@ -297,9 +289,6 @@ write_wider rose now same less (cause.NameClash p) grows back stop = absurd stop
 write_wider rose now same less cause.InputTooLong grows back stop = absurd stop
 write_wider rose now same less cause.SameName grows back stop = absurd stop
 write_wider rose now same less (cause.TooManyRotations count) grows back stop = absurd stop
-
-pub moved : (P : ℕ → List ℕ → List ℕ → Type 0) (k l : ℕ) (a b c d : List ℕ) → k ≡ l → a ≡ b → c ≡ d → P k a c → P l b d
-moved P k l a b c d one two three holds = subst (λ n. P n b d) one (subst (λ x. P k x d) two (subst (λ x. P k a x) three holds))
 
 -- what a start that was refused leaves
 pub left_by_start : (base collection : List ℕ) (before now : Option Files) → IsSome before →

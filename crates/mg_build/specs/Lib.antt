@@ -1,3 +1,4 @@
 pub mod Sources
 pub mod Building
 pub mod Made
+pub mod Steps

@@ -7,6 +7,23 @@ ghost use Rattle.mg_make.specs.Putting.{IsApart};
 
 use mg_dev::{Part, names_apart};
 
+// The parts of a set: all that have a file of their own.
+static PARTS: [Part; 13] = [
+    Part::Head,
+    Part::Words,
+    Part::Nonwords,
+    Part::Text,
+    Part::Places,
+    Part::Lex,
+    Part::LexAt,
+    Part::Post,
+    Part::Skip,
+    Part::Weights,
+    Part::Run,
+    Part::MergeA,
+    Part::MergeB,
+];
+
 /// The part of a set of this base that a file has the name of.
 pub(crate) fn part_named(base: &str, name: &str) -> Option<Part>
     ensures part { IfSome result (λ part. (part ≢ Plain) × (name.now ≡ full_name base.now part)) }
@@ -26,20 +43,10 @@ fn part_ending_in(end: &[u8]) -> Option<Part>
     ensures part { IfSome result (λ part. (part ≢ Plain) × (end.now ≡ ending part)) }
     ensures none { result ≡ None → (p : AnyPart) → p ≢ Plain → end.now ≢ ending p }
 {
-    match end {
-        b".head" => Some(Part::Head),
-        b".words" => Some(Part::Words),
-        b".nonwords" => Some(Part::Nonwords),
-        b".text" => Some(Part::Text),
-        b".places" => Some(Part::Places),
-        b".lex" => Some(Part::Lex),
-        b".lexat" => Some(Part::LexAt),
-        b".post" => Some(Part::Post),
-        b".skip" => Some(Part::Skip),
-        b".weights" => Some(Part::Weights),
-        b".run" => Some(Part::Run),
-        b".mergea" => Some(Part::MergeA),
-        b".mergeb" => Some(Part::MergeB),
-        _ => None,
+    for part in &PARTS {
+        if part.ending().as_bytes() == end {
+            return Some(*part);
+        }
     }
+    None
 }

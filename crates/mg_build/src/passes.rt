@@ -1,19 +1,17 @@
 //! The two passes over a collection.
-ghost use Rattle.std.specs.Prelude.{◌≡◌, ◌<◌, ◌≤◌, ◌^◌, ℕ, List, [], IfErr, IfOk, OnOk, None, Some};
+ghost use Rattle.std.specs.Prelude.{◌≡◌, ◌<◌, ◌≤◌, ◌^◌, ℕ, List, [], IfErr, IfOk, OnOk, Some};
 ghost use Rattle.std.specs.Option.{IsSome};
-ghost use Rattle.mg_dev.specs.Causes.{Rose};
 ghost use Rattle.mg_dev.specs.Files.{file_at};
 ghost use Rattle.mg_dev.specs.Names.{full_name};
 ghost use Rattle.mg_dev.specs.declared.part.Part.TheVariants as part;
-ghost use Rattle.mg_dev.specs.Moments.{Between};
-ghost use Rattle.mg_bits.specs.Pages.{Fits, Looked, SameFile};
-ghost use Rattle.mg_make.specs.Putting.{IsApart, IsEmptied, OthersSame};
-ghost use Rattle.mg_make.specs.Plans.{IsPlan, IsRoomFor};
+ghost use Rattle.mg_bits.specs.Pages.{Fits};
 ghost use Rattle.mg_make.specs.Counting.{HasCounted};
-ghost use Rattle.mg_make.specs.Putting.{HasPut};
-ghost use Rattle.mg_make.specs.Outcomes.{Fails, HasSummaryOf, Left, MakesSet};
-ghost use Rattle.mg_build.specs.Building.{HasItsSize, IfPlanned, IsPlanAt, PassStops, WriteStops};
-ghost use Rattle.mg_build.specs.Sources.{AreRead, ReadsPages};
+ghost use Rattle.mg_make.specs.Outcomes.{BetweenMoments, Fails};
+ghost use Rattle.mg_make.specs.Plans.{IsPlan, IsRoomFor};
+ghost use Rattle.mg_make.specs.Putting.{HasPut, IsApart};
+ghost use Rattle.mg_build.specs.Building.{HasItsSize, IsPlanAt, WriteStops};
+ghost use Rattle.mg_build.specs.Sources.{AreRead};
+ghost use Rattle.mg_build.specs.Steps.{CountsSource, WritesOn, WritesSet};
 
 use crate::source::Source;
 use mg_dev::{Fault, Store};
@@ -30,15 +28,8 @@ fn count_bytes<S: Store>(
     requires nothing { HasCounted count.old [] }
     ensures counted { OnOk result ((fed : List ℕ) × AreRead (S.files store.old) source.old.feed.name
         source.old.size fed × HasCounted count.new fed) }
-    ensures fits { Fits source.new.feed (S.files store.new) }
-    ensures file { SameFile source.old.feed source.new.feed }
-    ensures size { source.new.size ≡ source.old.size }
-    ensures small { source.old.size < 2 ^ 32 }
-    ensures whole { source.old.feed.held ≡ None → OnOk result
-        (ReadsPages source.old.size (S.reads store.old part.Plain) (S.reads store.new part.Plain)) }
-    ensures refused { IfErr result (PassStops (Rose (S.faults store.old) (S.faults store.new))
-        (S.files store.old) source.old.feed.name source.old.size) }
-    ensures looked { Between S.files S.reads S.faults store.old store.new (Looked part.Plain) }
+    ensures counts { BetweenMoments S.files S.reads S.faults store.old store.new
+        (λ before now. CountsSource source.old source.new before now result) }
 {
     let size = source.size();
     let mut at = 0;
@@ -71,14 +62,8 @@ pub(crate) fn count_all<S: Store>(
     ensures room { IfOk result (λ made. IsRoomFor made.1 made.0 budget) }
     ensures of { IsSome (S.files store.old) → HasItsSize (S.files store.old) source.old →
         IfOk result (λ made. IsPlanAt made.0 (S.files store.old) source.old) }
-    ensures fits { Fits source.new.feed (S.files store.new) }
-    ensures file { SameFile source.old.feed source.new.feed }
-    ensures size { source.new.size ≡ source.old.size }
-    ensures whole { source.old.feed.held ≡ None → OnOk result
-        (ReadsPages source.old.size (S.reads store.old part.Plain) (S.reads store.new part.Plain)) }
-    ensures refused { IfErr result (PassStops (Rose (S.faults store.old) (S.faults store.new))
-        (S.files store.old) source.old.feed.name source.old.size) }
-    ensures looked { Between S.files S.reads S.faults store.old store.new (Looked part.Plain) }
+    ensures counts { BetweenMoments S.files S.reads S.faults store.old store.new
+        (λ before now. CountsSource source.old source.new before now result) }
 {
     let mut count = Count::new(alloc);
     match count_bytes(store, source, &mut count) {
@@ -102,17 +87,11 @@ fn put_bytes<S: Store>(
     ensures put { OnOk result ((fed : List ℕ) × AreRead (S.files store.old) source.old.feed.name
         source.old.size fed ×
         HasPut writer.new (S.files store.new) fed) }
-    ensures base { writer.new.base ≡ writer.old.base }
-    ensures plan { writer.new.plan ≡ writer.old.plan }
-    ensures limit { writer.new.limit ≡ writer.old.limit }
     ensures small { source.old.size < 2 ^ 32 }
-    ensures head { IsSome (S.files store.old) →
-        file_at (S.files store.new) (full_name writer.old.base part.Head) ≡ Some [] }
-    ensures others { OthersSame writer.old.base (S.files store.old) (S.files store.new) }
-    ensures plain { S.reads store.old part.Plain ≤ S.reads store.new part.Plain }
+    ensures goes { BetweenMoments S.files S.reads S.faults store.old store.new
+        (WritesOn writer.old writer.new) }
     ensures refused { IfErr result (WriteStops (Fails S.faults store.old store.new)
         (IsPlanAt writer.old.plan (S.files store.old) source.old)) }
-    ensures later { S.faults store.old ≤ S.faults store.new }
 {
     let size = source.size();
     let mut at = 0;
@@ -144,30 +123,38 @@ pub(crate) fn write_set<'a, S: Store>(
     requires room { IsRoomFor room plan.now room.pool.limit }
     requires fits { Fits source.old.feed (S.files store.old) }
     requires apart { IsApart base.now source.old.feed.name }
-    ensures stands { IfPlanned plan.entry.now (S.files store.old) source.old
-        (MakesSet room.pool.limit (S.files store.new) base.entry.now result) }
-    ensures summary { IfPlanned plan.entry.now (S.files store.old) source.old
-        (HasSummaryOf room.pool.limit result) }
-    ensures merge_a { IfPlanned plan.entry.now (S.files store.old) source.old
-        (λ _. OnOk result (IsEmptied (S.files store.new) base.entry.now part.MergeA)) }
-    ensures merge_b { IfPlanned plan.entry.now (S.files store.old) source.old
-        (λ _. OnOk result (IsEmptied (S.files store.new) base.entry.now part.MergeB)) }
-    ensures left { IfPlanned plan.entry.now (S.files store.old) source.old
-        (Left base.entry.now (S.files store.old) (S.files store.new)) }
-    ensures others { OthersSame base.entry.now (S.files store.old) (S.files store.new) }
-    ensures plain { S.reads store.old part.Plain ≤ S.reads store.new part.Plain }
-    ensures refused { IfErr result (WriteStops (Fails S.faults store.old store.new)
-        (IsPlanAt plan.entry.now (S.files store.old) source.old)) }
-    ensures later { S.faults store.old ≤ S.faults store.new }
+    ensures writes { BetweenMoments S.files S.reads S.faults store.old store.new
+        (λ before now. WritesSet plan.entry.now room.pool.limit base.entry.now source.old
+        before now result) }
 {
     empty_heads_stand_for_none();
-    let mut writer = match SetWriter::start(alloc, store, base, plan, room) {
-        Ok(writer) => writer,
-        Err(refusal) => return Err(Fault::of_store(refusal)),
-    };
-    match put_bytes(store, source, &mut writer) {
-        Ok(()) => {}
-        Err(refusal) => return Err(refusal),
+    match SetWriter::start(alloc, store, base, plan, room) {
+        Ok(writer) => write_started(alloc, store, source, writer),
+        Err(refusal) => Err(Fault::of_store(refusal)),
     }
-    writer.finish(alloc, store)
+}
+
+// Gives the bytes of a collection to a writer whose head is emptied, and ends it.
+fn write_started<S: Store>(
+    alloc: Global,
+    store: &mut S,
+    source: &mut Source<'_, S>,
+    writer: SetWriter<'_>,
+) -> Result<Summary, Fault>
+    requires fits { Fits source.old.feed (S.files store.old) }
+    requires apart { IsApart writer.base source.old.feed.name }
+    requires nothing { HasPut writer (S.files store.old) [] }
+    ensures writes { BetweenMoments S.files S.reads S.faults store.old store.new
+        (λ before now. WritesSet writer.entry.plan writer.entry.limit writer.entry.base source.old
+        before now result) }
+{
+    empty_heads_stand_for_none();
+    let mut writer = writer;
+    match put_bytes(store, source, &mut writer) {
+        Ok(()) => writer.finish(alloc, store),
+        Err(refusal) => {
+            drop(writer);
+            Err(refusal)
+        }
+    }
 }

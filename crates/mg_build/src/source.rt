@@ -9,7 +9,9 @@ ghost use Rattle.mg_dev.specs.declared.part.Part.TheVariants.{Plain};
 ghost use Rattle.mg_dev.specs.Moments.{Between};
 ghost use Rattle.mg_bits.specs.Feed.{held_after};
 ghost use Rattle.mg_bits.specs.Pages.{Fits, Looked, SameFile};
-ghost use Rattle.mg_build.specs.Sources.{ByteStops, FillsFront, IsFrom, IsOfOnePage, OpenStops, TurnsTo};
+ghost use Rattle.mg_make.specs.Outcomes.{BetweenMoments};
+ghost use Rattle.mg_build.specs.Sources.{FillsFront, IsFrom, IsOfOnePage, OpenStops};
+ghost use Rattle.mg_build.specs.Steps.{TurnsPage};
 
 use mg_bits::{Feed, PageFeed};
 use mg_dev::{Failed, Fault, FileRef, Part, Store, What};
@@ -97,18 +99,12 @@ impl<'a, S: Store> Source<'a, S> {
     pub(crate) fn turn(&mut self, store: &mut S, at: u64) -> Result<(), Fault>
         requires fits { Fits self.old.feed (S.files store.old) }
         requires within { at < self.old.size }
-        ensures fits { Fits self.new.feed (S.files store.new) }
-        ensures file { SameFile self.old.feed self.new.feed }
         ensures size { self.new.size ≡ self.old.size }
         ensures block { OnOk result (IsOfOnePage at (length self.new.block) self.old.size) }
         ensures told { IsSome (S.files store.old) → OnOk result
             (IsFrom at (bytes_at (S.files store.old) self.old.feed.name) self.new.block) }
-        ensures refused { IfErr result
-            (ByteStops (Rose (S.faults store.old) (S.faults store.new)) (S.files store.old)
-            self.old.feed.name self.old.size) }
-        ensures turned { OnOk result (TurnsTo at self.old.feed.held self.new.feed.held
-            (S.reads store.old Plain) (S.reads store.new Plain)) }
-        ensures looked { Between S.files S.reads S.faults store.old store.new (Looked Plain) }
+        ensures turns { BetweenMoments S.files S.reads S.faults store.old store.new (λ before now.
+            TurnsPage at self.old.size self.old.feed self.new.feed before now result) }
     {
         match read_block(&mut self.feed, store, at, self.size, &mut self.block) {
             Ok(count) => {
@@ -148,16 +144,8 @@ fn read_page<S: Store>(
     requires part { feed.old.part ≡ Plain }
     requires fits { Fits feed.old (S.files store.old) }
     requires within { at < size }
-    ensures fits { Fits feed.new (S.files store.new) }
-    ensures file { SameFile feed.old feed.new }
-    ensures refused { IfErr result
-        (ByteStops (Rose (S.faults store.old) (S.faults store.new)) (S.files store.old)
-        feed.old.name size) }
-    ensures turned { OnOk result (TurnsTo at feed.old.held feed.new.held
-        (S.reads store.old Plain) (S.reads store.new Plain)) }
-    ensures looked { Looked Plain (S.files store.old) (S.files store.new) (S.reads store.old)
-        (S.reads store.new)
-        (S.faults store.old) (S.faults store.new) }
+    ensures turns { BetweenMoments S.files S.reads S.faults store.old store.new
+        (λ before now. TurnsPage at size feed.old feed.new before now result) }
 {
     match feed.byte(store, at) {
         Ok(Some(_)) => Ok(()),
@@ -223,20 +211,12 @@ fn read_block<S: Store>(
     requires within { at < size }
     requires small { size < 2 ^ 32 }
     requires room { length block.old ≡ 4096 }
-    ensures fits { Fits feed.new (S.files store.new) }
-    ensures file { SameFile feed.old feed.new }
     ensures page { IfOk result (λ count. IsOfOnePage at count size) }
     ensures few { IfOk result (λ count. count ≤ 4096) }
     ensures told { IsSome (S.files store.old) → IfOk result (λ count.
         IsFrom at (bytes_at (S.files store.old) feed.old.name) (take count block.new)) }
-    ensures refused { IfErr result
-        (ByteStops (Rose (S.faults store.old) (S.faults store.new)) (S.files store.old)
-        feed.old.name size) }
-    ensures turned { OnOk result (TurnsTo at feed.old.held feed.new.held
-        (S.reads store.old Plain) (S.reads store.new Plain)) }
-    ensures looked { Looked Plain (S.files store.old) (S.files store.new) (S.reads store.old)
-        (S.reads store.new)
-        (S.faults store.old) (S.faults store.new) }
+    ensures turns { BetweenMoments S.files S.reads S.faults store.old store.new
+        (λ before now. TurnsPage at size feed.old feed.new before now result) }
 {
     match read_page(feed, store, at, size) {
         Ok(()) => {}

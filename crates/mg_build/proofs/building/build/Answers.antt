@@ -1,10 +1,41 @@
-use Rattle.mg_build.proofs.MadeLaws.{made_by}
+use Rattle.std.proofs.Common.{rules, sym, subst}
+use Rattle.mg_dev.specs.Files.{HasSize}
+use Rattle.mg_dev.specs.Moments.{store_at}
+use Rattle.mg_make.specs.Putting.{IsApart}
+use Rattle.mg_build.specs.Steps.{BuildsSet}
+use Rattle.mg_build.proofs.BuiltLaws.{built_before, clash_refused, not_opened}
 use Rattle.mg_build.proofs.building.build.Goals as goal
 
-pub returns-clause-made : goal.returns-clause-made
-returns-clause-made g c = made_by _ _ _ _ _ c.build_files.result
-    c.build_files.ensures.stands c.build_files.ensures.text c.build_files.ensures.merge_a c.build_files.ensures.merge_b c.build_files.ensures.others
-    c.build_files.ensures.left c.build_files.ensures.early
-    c.build_files.ensures.changed
-    c.build_files.ensures.cause c.build_files.ensures.clash c.build_files.ensures.missing c.build_files.ensures.large c.build_files.ensures.documents
-    c.build_files.ensures.pieces c.build_files.ensures.complete
+pub returns-in-Some-clause-made : goal.returns-in-Some-clause-made
+returns-in-Some-clause-made g c =
+    let before = store_at g.S.Store.files g.S.Store.reads g.S.Store.faults c.args.store.now in
+    let named = c.in-Some.ensures.part in
+    (clash_refused c.args.collection.now c.args.base.now c.args.budget before c.in-Some.part named.0 named.1 c.in-Some.ensures.one).made
+
+-- ---- the collection has the name of no part
+
+pub returns-in-Err-clause-made : goal.returns-in-Err-clause-made
+returns-in-Err-clause-made g c =
+    let before = store_at g.S.Store.files g.S.Store.reads g.S.Store.faults c.args.store.now in
+    let now = store_at g.S.Store.files g.S.Store.reads g.S.Store.faults c.open.new.store in
+    let apart : IsApart c.args.base.now c.args.collection.now = search rules in
+    (not_opened c.args.collection.now c.args.base.now c.args.budget before now c.in-Err.ensures.files c.in-Err.ensures.later apart c.in-Err.refusal c.in-Err.ensures.refused).made
+
+pub build_opened-requires-clause-size : goal.build_opened-requires-clause-size
+build_opened-requires-clause-size g c = subst (λ f. HasSize f c.in-Ok.source.feed.name c.in-Ok.source.size) (sym c.in-Ok.ensures.files)
+    (subst (λ name. HasSize (g.S.Store.files c.args.store.now) name c.in-Ok.source.size) (sym c.in-Ok.ensures.name) c.in-Ok.ensures.size)
+
+pub build_opened-requires-clause-apart : goal.build_opened-requires-clause-apart
+build_opened-requires-clause-apart g c =
+    let apart : IsApart c.args.base.now c.args.collection.now = search rules in
+    subst (λ name. IsApart c.args.base.now name) (sym c.in-Ok.ensures.name) apart
+
+pub returns : goal.returns
+returns g c =
+    let before = store_at g.S.Store.files g.S.Store.reads g.S.Store.faults c.args.store.now in
+    let opened = store_at g.S.Store.files g.S.Store.reads g.S.Store.faults c.open.new.store in
+    let now = store_at g.S.Store.files g.S.Store.reads g.S.Store.faults c.build_opened.new.store in
+    let built : BuildsSet c.args.collection.now c.args.base.now c.args.budget before now c.build_opened.result
+    = built_before {opened = opened} c.in-Ok.ensures.files c.in-Ok.ensures.reads c.in-Ok.ensures.later
+    (subst (λ name. BuildsSet name c.args.base.now c.args.budget opened now c.build_opened.result) c.in-Ok.ensures.name c.build_opened.ensures.builds) in
+    record { made = built.made; summary = built.summary; later = built.later }

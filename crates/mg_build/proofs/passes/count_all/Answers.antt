@@ -1,7 +1,13 @@
 use Rattle.mg_make.specs.Counting.{HasCounted}
 use Rattle.mg_build.proofs.PassLaws.{pass_end_all}
+use Rattle.mg_build.proofs.StepLaws.{counts_ended, counts_refused}
 use Rattle.mg_build.proofs.passes.count_all.Goals as goal
 
-pub returns-clause-refused : goal.returns-clause-refused
-returns-clause-refused g c = pass_end_all c.finish.result (λ fed. HasCounted c.count_bytes.new.count fed) _ _ _ c.in-Ok.ensures.counted.0 _
-    c.in-Ok.ensures.counted.1 c.in-Ok.ensures.counted.2 c.finish.ensures.refused
+pub returns-in-Err-clause-counts : goal.returns-in-Err-clause-counts
+returns-in-Err-clause-counts g c = counts_refused c.in-Err.ensures.counts
+
+pub returns-clause-counts : goal.returns-clause-counts
+returns-clause-counts g c =
+    let counted = c.in-Ok.ensures.counted in
+    counts_ended c.finish.result c.in-Ok.ensures.counts
+    (pass_end_all c.finish.result (λ fed. HasCounted c.count_bytes.new.count fed) _ _ _ counted.0 _ counted.1 counted.2 c.finish.ensures.refused)
