@@ -20,7 +20,7 @@ MOST_LINES = 130
 NAMING = ["docs/ARCHITECTURE.md", "docs/CONTRIBUTING.md", "docs/DECISIONS.md", "docs/DEFINITIONS.md", "docs/GLOSSARY.md", "docs/OPEN.md", "docs/PROOFS.md"]
 # Imports of proofs that another crate keeps for itself, by file and module: none may come to them. docs/OPEN.md has them.
 PRIVATE = {
-    ("mg_check/proofs/RunSteps.antt", "mg_runs.proofs.Segments"),
+    ("mg_check_index/proofs/RunSteps.antt", "mg_runs.proofs.Segments"),
     ("mg_rank/proofs/SumLaws.antt", "mg_post.proofs.ListHeads"),
     ("mg_rank/proofs/list/add_list/Answers.antt", "mg_post.proofs.ListHeads"),
     ("mg_session/proofs/WildListLaws.antt", "mg_post.proofs.ListHeads"),

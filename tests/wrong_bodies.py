@@ -15,7 +15,7 @@ from refusals import not_judged, refused_at
 from wrong_bodies_page import GATE, LEFT_OUT, crates_of, edits_of, faults, named_edits
 
 # The crates that are dearest to prove, of which the gate tries no edit.
-DEAREST = ("mg_session", "mg_check", "mg_check_text", "mg_make", "mg_merge", "mg_runs", "mg_post", "mg_args", "mg_top")
+DEAREST = ("mg_session", "mg_check", "mg_check_text", "mg_check_index", "mg_check_parts", "mg_make", "mg_merge", "mg_runs", "mg_post", "mg_args", "mg_top")
 
 
 def all_edits():

@@ -12,9 +12,9 @@ use Rattle.mg_defs.proofs.StandGrow.{docs-are, grown, grows-by}
 use Rattle.mg_dev.specs.Files.{Files}
 use Rattle.mg_model.specs.Terms.{TermNumbers, terms_and_numbers}
 use Rattle.mg_text.specs.Reading.{TextReading, TextStands}
-use Rattle.mg_check_text.specs.Documents.{counted_in}
+use Rattle.mg_check_parts.specs.Documents.{counted_in}
 use Rattle.mg_check_text.proofs.CallerLemmas.{table_terms}
-use Rattle.mg_check.specs.Listing.{HasRoomFor, HasRoomForAll, HoldsLists, Ranged, SameRooms, lists_of, lists_upto, postings_in, room_at, with_document}
+use Rattle.mg_check_index.specs.Listing.{HasRoomFor, HasRoomForAll, HoldsLists, Ranged, SameRooms, lists_of, lists_upto, postings_in, room_at, with_document}
 
 -- ---- the posting of a document in the list of one of its terms
 

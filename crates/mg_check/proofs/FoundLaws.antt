@@ -22,10 +22,10 @@ use Rattle.mg_layout.specs.HeadAnswers.{AnswersBack, AnswersHead, AnswersWithin,
 use Rattle.mg_layout.specs.Stands.{Stands, parts_at}
 use Rattle.mg_layout.specs.declared.head.Head.{Head}
 use Rattle.mg_layout.proofs.CallerLemmas.{head_there, no_empty_head, own_head}
-use Rattle.mg_check_text.specs.Refusals.{IfBad}
+use Rattle.mg_check_parts.specs.Refusals.{IfBad}
 use Rattle.mg_check.specs.declared.found.Found.{Found}
 use Rattle.mg_dev.specs.Files.{Reads}
-use Rattle.mg_check_text.specs.Reads.{reads_outside}
+use Rattle.mg_check_parts.specs.Looks.{reads_outside}
 use Rattle.mg_check.specs.Reads.{ReadsSet}
 use Rattle.mg_check.specs.Found.{CheckStops, StandsWith, TellsOutside}
 
@@ -73,6 +73,16 @@ pub early-err : (refusal : PartErr) (f : Fault) → f ≡ fault_of_part refusal 
 early-err refusal f is within same =
     let inner : f ≡ fault.Memory = cc in
     early-refused refusal within (sym is ∙ inner)
+
+-- nor what a set without a head wants
+pub early-none : refused fault.NotBuilt ≢ refused fault.Memory
+early-none same = cc
+
+abbrev accepted : Found → Result Found Fault
+accepted found = Ok found
+
+pub early-found : (found : Found) → accepted found ≢ refused fault.Memory
+early-found found same = cc
 
 -- ---- a set with a head
 

@@ -1,17 +1,5 @@
-mod Comparing
-mod LexiconLaws
-mod RangedLaws
 mod DocumentLaws
-mod WrittenLaws
-mod ListedLaws
-mod ComparedLaws
 mod IndexLaws
 mod RestLaws
 mod FoundLaws
-mod DocumentSums
-mod RunSteps
-mod RunWritten
-mod RunPartLaws
-mod TallySteps
-mod TallyAdds
 mod TallyText

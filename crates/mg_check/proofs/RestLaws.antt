@@ -31,13 +31,14 @@ use Rattle.mg_layout.specs.declared.head.Head.{Head}
 use Rattle.mg_model.specs.Terms.{TermNumbers, terms_and_numbers}
 use Rattle.mg_text.specs.Reading.{SameText, TextReading, TextStands}
 use Rattle.mg_check_text.specs.Checking.{FoundText, IsLoaded, IsMeant}
-use Rattle.mg_check_text.specs.Refusals.{IfBad, OnBad, Refutes}
-use Rattle.mg_check.specs.Counting.{TermsStand}
+use Rattle.mg_check_parts.specs.Refusals.{IfBad, OnBad, Refutes}
+use Rattle.mg_check_index.specs.Counting.{TermsStand}
 use Rattle.mg_check.specs.Found.{StandsWith}
-use Rattle.mg_check.specs.Listing.{IndexStands, IsIndexOf}
+use Rattle.mg_check_index.specs.Listing.{IndexStands}
+use Rattle.mg_check.specs.IndexedText.{IsIndexOf}
 use Rattle.mg_check.specs.Rest.{AreNumbers, Compares, HaveSizes, IsTold, PartsStand, RestStands}
 use Rattle.mg_check_text.proofs.CallerLemmas.{code-meant, meant-stands, own-docs, stands_on, table_terms, head-few}
-use Rattle.mg_check.proofs.RunSteps.{same_runs}
+use Rattle.mg_check_index.proofs.CallerLemmas.{same_runs}
 
 -- ---- all parts
 

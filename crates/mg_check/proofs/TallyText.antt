@@ -23,12 +23,12 @@ use Rattle.mg_defs.specs.Weights.{weight}
 use Rattle.mg_model.specs.Terms.{TermNumbers, terms_and_numbers}
 use Rattle.mg_runs.specs.Fed.{cap_of}
 use Rattle.mg_text.specs.Reading.{SameText, TextReading, TextStands}
-use Rattle.mg_check.specs.Counting.{AreOwn, AreTallied, CanAdd, GoesOn, HasTallied, HaveTallied, IsTallyOf, NoneGoesOn, NotTallied, SameParts, TalliedText, Tallying, TermsStand, docs_among, occurrences_from}
-use Rattle.mg_check_text.specs.TermsRead.{AreTermsOf, TermsRead}
-use Rattle.mg_check_text.specs.Refusals.{WhereBad, Refutes}
-use Rattle.mg_check.proofs.Comparing.{where_bad}
+use Rattle.mg_check_index.specs.Counting.{AreOwn, AreTallied, CanAdd, GoesOn, HasTallied, HaveTallied, NoneGoesOn, NotTallied, SameParts, Tallying, TermsStand, docs_among, occurrences_from}
+use Rattle.mg_check.specs.CountedText.{IsTallyOf, TalliedText}
+use Rattle.mg_check_parts.specs.TermsRead.{AreTermsOf, TermsRead}
+use Rattle.mg_check_parts.specs.Refusals.{WhereBad, Refutes}
+use Rattle.mg_check_index.proofs.CallerLemmas.{where_bad, occ_is}
 use Rattle.mg_check_text.proofs.CallerLemmas.{doc_codable, stands_on, table_terms}
-use Rattle.mg_check.proofs.TallySteps.{occ_is}
 
 -- ---- the same text
 

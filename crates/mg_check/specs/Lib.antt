@@ -1,5 +1,6 @@
-pub mod Counting
-pub mod Listing
+pub mod CountedText
+pub mod IndexedText
 pub mod Rest
 pub mod Reads
 pub mod Found
+pub mod Checks

@@ -10,10 +10,10 @@ use Rattle.mg_defs.specs.Stands.{Parts, post_part, skip_count}
 use Rattle.mg_defs.specs.Terms.{dictionary}
 use Rattle.mg_layout.specs.Stands.{parts_at}
 use Rattle.mg_layout.specs.declared.head.Head.{Head}
-use Rattle.mg_check.specs.Counting.{TermsStand}
+use Rattle.mg_check_index.specs.Counting.{TermsStand}
 use Rattle.mg_check.specs.Found.{StandsWith}
-use Rattle.mg_check.specs.Listing.{IndexStands}
-use Rattle.mg_check_text.specs.Refusals.{OnBad, Refutes}
+use Rattle.mg_check_index.specs.Listing.{IndexStands}
+use Rattle.mg_check_parts.specs.Refusals.{OnBad, Refutes}
 
 -- the head has as many terms and occurrences as a collection, and the sizes of its lists and skip entries
 pub record AreNumbers (head : Head) (collection : List ℕ) : Type 0 where

@@ -6,11 +6,12 @@ ghost use Rattle.std.specs.Prelude.{◌<◌, ◌≤◌, ◌+◌, ◌-◌, ◌^�
 ghost use Rattle.mg_dev.specs.Moments.{Between};
 ghost use Rattle.mg_text.specs.Reading.{WhereTextStands};
 ghost use Rattle.mg_check_text.specs.Reads.{HasTerms, ReadsText};
-ghost use Rattle.mg_check_text.specs.Refusals.{WhereBad};
-ghost use Rattle.mg_check.specs.Counting.{AreOwn, DocumentsTallied, IsCountOf, IsTallyOf, TalliedText};
+ghost use Rattle.mg_check_parts.specs.Refusals.{WhereBad};
+ghost use Rattle.mg_check_index.specs.Counting.{AreOwn};
+ghost use Rattle.mg_check.specs.CountedText.{DocumentsTallied, IsCountOf, IsTallyOf, TalliedText};
 ghost use Rattle.mg_check.specs.Rest.{RefutesTerms};
 
-use crate::tally::Tally;
+use mg_check_index::Tally;
 use mg_check_text::TermReader;
 use mg_dev::{PartErr, Store};
 use mg_model::TermTable;
@@ -39,17 +40,16 @@ fn count_document<S: Store>(
     requires within { before < reader.old.documents }
     requires few { before < 2 ^ 32 - 1 }
     requires tallied { TalliedText tally.old (S.files store.old) table.now.terms before reader.old }
-    ensures tallied { DocumentsTallied reader.old table.now.terms (before + 1)
-        tally.old tally.new (S.files store.old) (S.files store.new) result }
-    ensures text { Between S.files S.reads S.faults store.old store.new
-        (ReadsText reader.old reader.new result) }
+    ensures tallied { Between S.files S.reads S.faults store.old store.new
+        (DocumentsTallied reader.old reader.new table.now.terms (before + 1) tally.old tally.new
+        result) }
 {
     let number = before + 1;
     match terms.read(store, reader, table, number) {
         Ok(()) => {}
         Err(refusal) => return Err(refusal),
     }
-    tally.add(store, number, terms)
+    tally.add(store, number, terms.terms())
 }
 
 // Reads all documents, and takes their terms.
@@ -63,10 +63,9 @@ fn count_documents<S: Store>(
 ) -> Result<(), PartErr>
     requires text { HasTerms reader.old (S.files store.old) table.now documents }
     requires tallied { TalliedText tally.old (S.files store.old) table.now.terms 0 reader.old }
-    ensures tallied { DocumentsTallied reader.old table.now.terms documents
-        tally.old tally.new (S.files store.old) (S.files store.new) result }
-    ensures text { Between S.files S.reads S.faults store.old store.new
-        (ReadsText reader.old reader.new result) }
+    ensures tallied { Between S.files S.reads S.faults store.old store.new
+        (DocumentsTallied reader.old reader.new table.now.terms documents tally.old tally.new
+        result) }
 {
     for before in 0..documents {
         match count_document(store, reader, table, before, terms, tally) {

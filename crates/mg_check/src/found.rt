@@ -1,11 +1,12 @@
 //! Whether a set of files stands for a collection.
 ghost use Rattle.std.specs.Prelude.{◌≡◌, ◌≢◌, ◌≤◌, Err, IfErr, IfOk, IsSome};
 ghost use Rattle.mg_dev.specs.Causes.{Rose};
+ghost use Rattle.mg_dev.specs.Moments.{Between};
 ghost use Rattle.mg_dev.specs.declared.fault.Fault.TheVariants as fault;
 ghost use Rattle.mg_layout.specs.Stands.{HasNoHead};
 ghost use Rattle.mg_check.specs.Found.{CheckStops, StandsWith, TellsOutside, TellsNotBuilt, IfStands};
 ghost use Rattle.mg_check.specs.Reads.{ReadsSet};
-ghost use Rattle.mg_check_text.specs.Reads.{reads_outside};
+ghost use Rattle.mg_check.specs.Checks.{ChecksFiles};
 
 use crate::checking::check_set;
 use mg_dev::{Fault, Store};
@@ -56,17 +57,10 @@ pub fn check<S: Store>(alloc: Global, store: &mut S, base: &str) -> Result<Found
     check_files(alloc, store, base)
 }
 
-// The same, with the clauses from which the others follow.
+// The same, told by the facts from which its promise follows.
 fn check_files<S: Store>(alloc: Global, store: &mut S, base: &str) -> Result<Found, Fault>
-    ensures stands { IsSome (S.files store.old) →
-        IfOk result (λ found. StandsWith (S.files store.old) base.now found.documents found.bytes) }
-    ensures cause { IfErr result (CheckStops (Rose (S.faults store.old) (S.faults store.new))
-        (S.files store.old) base.now) }
-    ensures early { IsSome (S.files store.old) → HasNoHead (S.files store.old) base.now →
-        result ≢ Err fault.Memory }
-    ensures files { S.files store.new ≡ S.files store.old }
-    ensures unread { reads_outside (S.reads store.new) ≡ reads_outside (S.reads store.old) }
-    ensures later { S.faults store.old ≤ S.faults store.new }
+    ensures found { Between S.files S.reads S.faults store.old store.new
+        (ChecksFiles base.now result) }
 {
     let loaded = match Head::load(store, base) {
         Ok(loaded) => loaded,

@@ -2,20 +2,19 @@
 //!
 //! The text is read once for each range of terms. The range's lists are written anew, and Post and Skip are compared with
 //! them. What is to stand of all terms is held, and at last the lexicon is compared with it.
-ghost use Rattle.std.specs.Prelude.{◌≡◌, ◌<◌, ◌+◌, IfErr, IfOk, OnOk, length};
+ghost use Rattle.std.specs.Prelude.{◌≡◌, ◌<◌, ◌+◌, IfErr, IfOk, length};
 ghost use Rattle.mg_dev.specs.Bads.{IsNotBad};
 ghost use Rattle.mg_dev.specs.Moments.{Between};
-ghost use Rattle.mg_check_text.specs.Reads.{HasTerms, LooksAtSet, ReadsText};
-ghost use Rattle.mg_check_text.specs.Refusals.{Refutes};
-ghost use Rattle.mg_check.specs.Listing.{AllCompared, AreListsOf, CanCompareIn, CanIndex, ForEnds, ForIndex, IndexCompared, IsRange, IsStart, ListsStand, NextCompared};
+ghost use Rattle.mg_check_text.specs.Reads.{HasTerms, ReadsText};
+ghost use Rattle.mg_check.specs.IndexedText.{AllCompared, CanIndex, ForIndex, IndexCompared, NextCompared};
+ghost use Rattle.mg_check_index.specs.Listing.{AreListsOf, CanCompareIn, IsRange, IsStart};
 
-use crate::indexed::Indexed;
-use crate::lists::{Compared, Places, check_lists};
-use crate::postings::{RangeLists, read_postings};
-use crate::ranges::{are_sizes, range_end};
+use crate::postings::read_postings;
+use mg_check_index::{
+    Compared, Indexed, RangeLists, are_sizes, check_lists, expect_ends, range_end,
+};
 use mg_defs::DOCUMENTS;
-use mg_dev::{Bad, FileRef, Part, PartErr, Store};
-use mg_layout::expect_size;
+use mg_dev::{Bad, Part, PartErr, Store};
 use mg_mem::SureStore;
 use mg_text::TextReader;
 use std::alloc::{AllocError, Global};
@@ -73,10 +72,9 @@ fn check_range<S: Store>(
     requires index { CanIndex reader.old (S.files store.old) of.now }
     requires more { first < length of.now.table.now.terms }
     requires can { CanCompareIn ⟦<SureStore as Store>⟧.files of.now first compared.old }
-    ensures next { NextCompared ⟦<SureStore as Store>⟧.files reader.old (S.files store.old)
-        of.now first compared.old compared.new result }
-    ensures text { Between S.files S.reads S.faults store.old store.new
-        (ReadsText reader.old reader.new result) }
+    ensures next { Between S.files S.reads S.faults store.old store.new
+        (NextCompared ⟦<SureStore as Store>⟧.files reader.old reader.new of.now first
+        compared.old compared.new result) }
 {
     let lists = match read_range(alloc, store, reader, of, first) {
         Ok(lists) => lists,
@@ -98,10 +96,9 @@ fn check_ranges<S: Store>(
 ) -> Result<(), PartErr>
     requires index { CanIndex reader.old (S.files store.old) of.now }
     requires can { CanCompareIn ⟦<SureStore as Store>⟧.files of.now 0 compared.old }
-    ensures all { AllCompared ⟦<SureStore as Store>⟧.files reader.old (S.files store.old)
-        of.now compared.old compared.new result }
-    ensures text { Between S.files S.reads S.faults store.old store.new
-        (ReadsText reader.old reader.new result) }
+    ensures all { Between S.files S.reads S.faults store.old store.new
+        (AllCompared ⟦<SureStore as Store>⟧.files reader.old reader.new of.now compared.old
+        compared.new result) }
 {
     let terms = of.table.count();
     let mut first = 0;
@@ -114,30 +111,6 @@ fn check_ranges<S: Store>(
     Ok(())
 }
 
-// Sees that Post and Skip have no bytes behind two places.
-fn expect_ends<S: Store>(store: &mut S, base: &str, ends: Places) -> Result<(), PartErr>
-    ensures stand { ForEnds (S.files store.old) base.now ends
-        (λ collection. OnOk result (ListsStand (S.files store.old) base.now collection)) }
-    ensures other { ForEnds (S.files store.old) base.now ends
-        (λ collection.
-        IfErr result (Refutes (ListsStand (S.files store.old) base.now collection))) }
-    ensures looks { Between S.files S.reads S.faults store.old store.new (LooksAtSet result) }
-{
-    let lists = FileRef {
-        base,
-        part: Part::Post,
-    };
-    match expect_size(store, lists, ends.post) {
-        Ok(()) => {}
-        Err(refusal) => return Err(refusal),
-    }
-    let entries = FileRef {
-        base,
-        part: Part::Skip,
-    };
-    expect_size(store, entries, ends.skip)
-}
-
 // The same where the numbers of documents may be those of a collection, and nothing was compared.
 fn compare_index<S: Store>(
     alloc: Global,
@@ -148,9 +121,8 @@ fn compare_index<S: Store>(
 ) -> Result<(), PartErr>
     requires index { CanIndex reader.old (S.files store.old) of.now }
     requires start { IsStart ⟦<SureStore as Store>⟧.files compared.old }
-    ensures index { IndexCompared reader.old (S.files store.old) of.now result }
-    ensures text { Between S.files S.reads S.faults store.old store.new
-        (ReadsText reader.old reader.new result) }
+    ensures index { Between S.files S.reads S.faults store.old store.new
+        (IndexCompared reader.old reader.new of.now result) }
 {
     match check_ranges(alloc, store, reader, of, compared) {
         Ok(()) => {}
@@ -172,9 +144,8 @@ pub(crate) fn check_index<S: Store>(
     of: &Indexed<'_>,
 ) -> Result<(), PartErr>
     requires text { HasTerms reader.old (S.files store.old) of.now.table.now of.now.documents }
-    ensures index { IndexCompared reader.old (S.files store.old) of.now result }
-    ensures text { Between S.files S.reads S.faults store.old store.new
-        (ReadsText reader.old reader.new result) }
+    ensures index { Between S.files S.reads S.faults store.old store.new
+        (IndexCompared reader.old reader.new of.now result) }
 {
     if of.documents > DOCUMENTS || !are_sizes(of.docs, of.table.count(), of.documents) {
         return Err(PartErr::Bad(other_sizes(of.documents)));

@@ -30,19 +30,12 @@ use Rattle.mg_layout.specs.declared.head.Head.{Head}
 use Rattle.mg_text.specs.Places.{most_text}
 use Rattle.mg_check_text.specs.Checking.{IsLoaded, IsMeant}
 use Rattle.mg_check_text.proofs.TextLaws.{all-get, all-others, all-words}
-use Rattle.std.specs.Cmp.Lexicographic.{slice_cmp}
-use Rattle.std.specs.List.Sorted.{IsStrictlySortedBy}
-use Rattle.std.specs.Ordering.{nat_cmp}
-use Rattle.mg_check_text.proofs.CountedTerms as counted
 use Rattle.mg_check_text.proofs.NextLaws as next
 -- readers of the same text
-pub use Rattle.mg_check_text.proofs.LookLaws.{same_text, text_more, terms_here, terms_stay}
+pub use Rattle.mg_check_text.proofs.ReadLaws.{same_text, text_more, terms_here, terms_stay}
 pub use Rattle.mg_check_text.proofs.NextLaws.{reads_on}
 -- calls one behind another, and with another answer
-pub use Rattle.mg_check_text.proofs.LookLaws.{cause_behind, cause_own, looks_none, looks_own, looks_ok, looks_err, looks_bad, looks_pure, looks_then}
-pub use Rattle.mg_check_text.proofs.LookLaws.{text_none, text_own, text_ok, text_err, text_bad, text_pure, text_then, text_looks}
--- calls that read a part of a set
-pub use Rattle.mg_check_text.proofs.UnreadLaws.{looks_bytes, looks_size, head_read}
+pub use Rattle.mg_check_text.proofs.ReadLaws.{text_none, text_own, text_ok, text_err, text_bad, text_pure, text_then, text_looks}
 
 -- ---- a text that stands
 
@@ -132,12 +125,8 @@ meant-stands files base head r docs loaded meant =
           (subst (λ (n : ℕ). n ≤ most_text head.version) (sym size) (small-text head.version r.code (joined docs head.open_end) code meant.limits));
     }
 
--- ---- ranges, terms and reads
+-- ---- ranges
 
 -- the most of any version
 pub head-few : (head : Head) → defs.IsWithin (fields_of head) → (head.collection < 2 ^ 32) × (head.documents ≤ 2 ^ 24)
 head-few head within = next.head-few head within
-
--- terms rise by their numbers
-pub rising_of : (t : TermNumbers) (words : List (List ℕ)) → t ≡ terms_and_numbers words → IsStrictlySortedBy (slice_cmp nat_cmp) t.terms
-rising_of t words is = counted.rising_of t words is

@@ -1,12 +1,5 @@
-mod LookLaws
-mod UnreadLaws
-mod UseLaws
-mod CodeLaws
+mod ReadLaws
 mod LoadLaws
-mod TermNumbers
-mod Counts
-mod WeightSums
-mod CountedTerms
 mod TextLaws
 mod NextLaws
 pub mod CallerLemmas

@@ -15,7 +15,7 @@ use Rattle.mg_layout.specs.Stands.{parts_at}
 use Rattle.mg_layout.specs.declared.head.Head.{Head}
 use Rattle.mg_text.proofs.CallerLemmas.{set_is_text}
 use Rattle.mg_text.specs.Reading.{AnswersReader, IsText, IsTextReader, TextReading, stored_at}
-use Rattle.mg_check_text.specs.Refusals.{IfBad}
+use Rattle.mg_check_parts.specs.Refusals.{IfBad}
 use Rattle.mg_check_text.specs.Checking.{IsLoaded}
 
 -- where the head is the part's own, the text of a collection for which the parts stand can be read by it

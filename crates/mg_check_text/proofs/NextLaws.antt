@@ -24,7 +24,7 @@ use Rattle.mg_layout.specs.declared.head.Head.{Head}
 use Rattle.mg_text.specs.Reading.{SameText, TextFits, TextReading, TextStands}
 use Rattle.mg_check_text.specs.Reads.{ReadsBy}
 use Rattle.mg_check_text.specs.Checking.{FoundDocs, FoundNext, FoundText, HasAdded, HasRead, IsAtEnd, IsInRange, IsLoaded, IsNextDoc}
-use Rattle.mg_check_text.specs.Refusals.{IfBad, OnBad, Refutes}
+use Rattle.mg_check_parts.specs.Refusals.{IfBad, OnBad, Refutes}
 use Rattle.mg_check_text.specs.declared.progress.Progress.{Progress}
 use Rattle.mg_check_text.proofs.TextLaws.{all-get, end-means, end-of, next-of, read-more, reader-stands}
 

@@ -33,7 +33,7 @@ use Rattle.mg_text.specs.Places.{most_text, place_width}
 use Rattle.mg_text.specs.Reading.{TextReading, TextStands}
 use Rattle.mg_text_writer.specs.Writing.{starts}
 use Rattle.mg_check_text.specs.Checking.{HasAdded, HasRead, IsAtEnd, IsLoaded, IsMeant, IsNextDoc, docs_places, last_size}
-use Rattle.mg_check_text.specs.Decoding.{AreCounts, IsUsed}
+use Rattle.mg_check_parts.specs.Decoding.{AreCounts, IsUsed}
 use Rattle.mg_check_text.specs.declared.progress.Progress.{Progress}
 
 -- ---- lists

@@ -20,8 +20,8 @@ use Rattle.mg_layout.specs.declared.head.Head.{Head}
 use Rattle.mg_text.specs.Places.{place_width}
 use Rattle.mg_text.specs.Reading.{IsTextReader, TextReading, TextStands}
 use Rattle.mg_text_writer.specs.Writing.{starts}
-use Rattle.mg_check_text.specs.Decoding.{AreCounts, Counted, IsUsed}
-use Rattle.mg_check_text.specs.Documents.{doc_at}
+use Rattle.mg_check_parts.specs.Decoding.{AreCounts, Counted, IsUsed}
+use Rattle.mg_check_parts.specs.Documents.{doc_at}
 use Rattle.mg_check_text.specs.declared.progress.Progress.{Progress}
 
 -- ---- the head and the codes

@@ -1,44 +1,23 @@
--- Which parts are those of a set, how often others were read, and what a call does that only reads those of a set.
-use Rattle.std.specs.Prelude.{◌≡◌, ◌≤◌, ◌^◌, ℕ, List, [], ◌∷◌, Bool, true, false, length, Ok}
+-- What a call does that reads the text of a set, what it starts from, and the terms that it reads.
+use Rattle.std.specs.Prelude.{◌≡◌, ◌≤◌, ◌^◌, ℕ, List, length, Ok}
 use Rattle.std.specs.declared.option.Option.{Option}
 use Rattle.std.specs.declared.result.Result.{Result}
 use Rattle.mg_dev.specs.Files.{Files, Reads}
 use Rattle.mg_dev.specs.Moments.{StoreStep}
-use Rattle.mg_dev.specs.PartCauses.{HasPartCause}
 use Rattle.mg_dev.specs.declared.part_err.PartErr.{PartErr}
-use Rattle.mg_dev.specs.declared.part.Part.{Part}
-use Rattle.mg_dev.specs.declared.part.Part.TheVariants.{MergeA, MergeB, Plain}
 use Rattle.mg_defs.specs.Heads.{IsWithin}
 use Rattle.mg_defs.specs.Means.{IsModel}
+use Rattle.mg_defs.specs.Terms.{document}
 use Rattle.mg_layout.specs.HeadAnswers.{fields_of}
 use Rattle.mg_layout.specs.declared.head.Head.{Head}
 use Rattle.mg_model.specs.Terms.{TermNumbers, terms_and_numbers}
-use Rattle.mg_text.specs.Reading.{SameText, TextFits, TextReading}
+use Rattle.mg_text.specs.Reading.{SameText, TextFits, TextReading, TextStands}
+use Rattle.mg_check_parts.specs.Looks.{LooksAtSet}
+use Rattle.mg_check_parts.specs.TermsRead.{AreTermsOf, TermsRead}
 
--- whether a part is one of a set: none of the two that a merge of runs works with, and not the plain text
-abbrev pub is_of_set : Part → Bool
-is_of_set MergeA = false
-is_of_set MergeB = false
-is_of_set Plain = false
-is_of_set _ = true
+-- ---- calls that read the text
 
--- how often each part was read that is none of a set
-unfoldable pub reads_outside : Reads → List ℕ
-reads_outside reads = reads MergeA ∷ reads MergeB ∷ reads Plain ∷ []
-
--- ---- calls that only read parts of a set
-
--- such a call, told of the moments before it and after it
-pub record LooksAtSet {T : Type 0} (result : Result T PartErr) (files_before files_now : Option Files)
-    (reads_before reads_now : Reads) (faults_before faults_now : ℕ) : Type 0 where
-  -- no file has changed
-  pub files : files_now ≡ files_before
-  -- no part was read that is none of a set
-  pub unread : reads_outside reads_now ≡ reads_outside reads_before
-  -- why it stops; the faults never fall
-  pub cause : HasPartCause faults_before faults_now result
-
--- such a call that reads the text
+-- a call that reads parts of a set, the text among them
 pub record ReadsText {T : Type 0} (old new : TextReading) (result : Result T PartErr)
     (files_before files_now : Option Files)
     (reads_before reads_now : Reads) (faults_before faults_now : ℕ) : Type 0 where
@@ -48,10 +27,6 @@ pub record ReadsText {T : Type 0} (old new : TextReading) (result : Result T Par
   pub same : SameText old new
   -- nothing else was read, and nothing written
   pub looks : LooksAtSet result files_before files_now reads_before reads_now faults_before faults_now
-
--- calls that were done
-abbrev pub HasLooked : StoreStep
-HasLooked = LooksAtSet {T = Unit {0}} (Ok tt)
 
 -- calls that were done and read the text
 abbrev pub HasReadText : TextReading → TextReading → StoreStep
@@ -80,3 +55,12 @@ pub record HasTerms (r : TextReading) (files : Option Files) (table : TermNumber
   pub table_is : table ≡ terms_and_numbers r.code.words.pieces
   -- no table has more terms
   pub few : length table.terms ≤ 2 ^ 22
+
+-- ---- the terms of a document
+
+-- The terms that were read are those of a document. Where the reader's text is that of a collection, it is the one of this number, from 1.
+pub record HasReadTerms (r : TextReading) (files : Option Files) (words : List (List ℕ)) (number : ℕ) (t : TermsRead) :
+    Type 0 where
+  pub doc : List ℕ
+  pub terms : AreTermsOf words doc t
+  pub own : (collection : List ℕ) → TextStands r files collection → doc ≡ document collection number

@@ -7,8 +7,8 @@ ghost use Rattle.mg_layout.specs.HeadAnswers.{fields_of};
 ghost use Rattle.mg_layout.specs.Stands.{parts_at};
 ghost use Rattle.mg_text.specs.Reading.{IsTextReader, TextFits};
 ghost use Rattle.mg_check_text.specs.Checking.{HasHead, IsLoaded};
-ghost use Rattle.mg_check_text.specs.Refusals.{OnBad};
-ghost use Rattle.mg_check_text.specs.Reads.{LooksAtSet};
+ghost use Rattle.mg_check_parts.specs.Refusals.{OnBad};
+ghost use Rattle.mg_check_parts.specs.Looks.{LooksAtSet};
 
 use mg_dev::{PartErr, Store};
 use mg_layout::Head;

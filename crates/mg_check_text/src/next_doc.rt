@@ -3,18 +3,18 @@ ghost use Rattle.std.specs.Prelude.{◌≡◌, ◌≢◌, ◌+◌, ◌-◌, ◌*
 ghost use Rattle.mg_dev.specs.Bads.{IsNotBad};
 ghost use Rattle.mg_dev.specs.Moments.{Between};
 ghost use Rattle.mg_defs.specs.CodedText.{coded_size};
-ghost use Rattle.mg_defs.specs.Means.{IsModel, StandForNone};
+ghost use Rattle.mg_defs.specs.Means.{StandForNone};
 ghost use Rattle.mg_defs.specs.Split.{IsDocument};
 ghost use Rattle.mg_layout.specs.Stands.{parts_at};
 ghost use Rattle.mg_text.specs.Reading.{TextFits};
 ghost use Rattle.mg_check_text.specs.Checking.{HasAdded, IsInRange, IsNextDoc, ForNextDoc, PlaceStands, FoundMore, WhereRead};
-ghost use Rattle.mg_check_text.specs.Refusals.{OnBad, Refutes};
-ghost use Rattle.mg_check_text.specs.Decoding.{HasRoom};
-ghost use Rattle.mg_check_text.specs.Reads.{LooksAtSet, ReadsBy, ReadsText};
+ghost use Rattle.mg_check_parts.specs.Refusals.{OnBad, Refutes};
+ghost use Rattle.mg_check_parts.specs.Decoding.{CanCode};
+ghost use Rattle.mg_check_parts.specs.Looks.{LooksAtSet};
+ghost use Rattle.mg_check_text.specs.Reads.{ReadsBy, ReadsText};
 
-use crate::code_doc::code_doc;
-use crate::expected::expect_more;
 use crate::progress::Progress;
+use mg_check_parts::{code_doc, expect_more};
 use mg_dev::{Bad, FileRef, Part, PartErr, Store};
 use mg_fields::{eight_bytes, four_bytes};
 use mg_layout::Head;
@@ -134,10 +134,7 @@ fn add_doc<S: Store>(
     progress: &mut Progress,
 ) -> Result<(), PartErr>
     requires document { IsDocument doc.now }
-    requires model { IsModel model.now }
-    requires few { length doc.now < 2 ^ 32 }
-    requires words { HasRoom model.now.words progress.old.uses.words.items (length doc.now) }
-    requires others { HasRoom model.now.others progress.old.uses.others.items (length doc.now) }
+    requires can { CanCode model.now doc.now progress.old.uses }
     requires documents { progress.old.documents < 2 ^ 32 - 1 }
     requires bytes { progress.old.bytes < 2 ^ 32 }
     requires place { progress.old.place ≤ 2 ^ 60 }

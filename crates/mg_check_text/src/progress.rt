@@ -5,7 +5,7 @@ ghost use Rattle.mg_layout.specs.declared.head.Head.{Head};
 ghost use Rattle.mg_defs.specs.Means.{IsModel};
 ghost use Rattle.mg_check_text.specs.Checking.{HasRead, IsInRange};
 
-use crate::uses::Uses;
+use mg_check_parts::Uses;
 use mg_model::TextModel;
 use std::alloc::{AllocError, Global};
 

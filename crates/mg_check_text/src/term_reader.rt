@@ -3,10 +3,9 @@ ghost use Rattle.std.specs.Prelude.{◌≡◌, ◌<◌, ◌≤◌, ◌-◌, ◌^
 ghost use Rattle.mg_dev.specs.Bads.{IsNotBad};
 ghost use Rattle.mg_dev.specs.Moments.{Between};
 ghost use Rattle.mg_text.specs.Reading.{WhereTextStands};
-ghost use Rattle.mg_check_text.specs.Reads.{HasTerms, ReadsText};
-ghost use Rattle.mg_check_text.specs.TermsRead.{HasReadTerms};
+ghost use Rattle.mg_check_text.specs.Reads.{HasTerms, ReadsText, HasReadTerms};
 
-use crate::doc_terms::DocTerms;
+use mg_check_parts::DocTerms;
 use mg_defs::COLLECTION_BYTES;
 use mg_dev::{Bad, Part, PartErr, Store};
 use mg_model::TermTable;
@@ -23,7 +22,7 @@ pub struct TermReader {
 
 impl Model for TermReader {
     ghost use Rattle.std.specs.Prelude.{◌≡◌, ◌-◌, ◌^◌};
-    ghost use Rattle.mg_check_text.specs.TermsRead.{TermsRead};
+    ghost use Rattle.mg_check_parts.specs.TermsRead.{TermsRead};
 
     ghost Value = { TermsRead };
 
@@ -88,17 +87,10 @@ impl TermReader {
         Ok(())
     }
 
-    /// The numbers of the terms in reading order.
-    pub fn numbers(&self) -> &[u32]
-        ensures { result.now ≡ self.now.numbers }
+    /// The terms of the document that was read last.
+    pub fn terms(&self) -> &DocTerms
+        ensures { result.now ≡ self.now }
     {
-        self.terms.numbers()
-    }
-
-    /// The numbers of the distinct terms, rising, each with how often the term comes.
-    pub fn counted(&self) -> &[(u32, u32)]
-        ensures { result.now ≡ self.now.counted }
-    {
-        self.terms.counted()
+        &self.terms
     }
 }

@@ -9,12 +9,13 @@ ghost use Rattle.mg_defs.specs.Means.{StandForNone};
 ghost use Rattle.mg_layout.specs.HeadAnswers.{fields_of};
 ghost use Rattle.mg_layout.specs.Stands.{parts_at};
 ghost use Rattle.mg_check_text.specs.Checking.{EndNumbers, FoundDocs, IsAtEnd, IsInRange, IsLoaded, FoundSet};
-ghost use Rattle.mg_check_text.specs.Refusals.{OnBad};
-ghost use Rattle.mg_check_text.specs.Reads.{LooksAtSet, ReadsBy, ReadsText};
+ghost use Rattle.mg_check_parts.specs.Refusals.{OnBad};
+ghost use Rattle.mg_check_parts.specs.Looks.{LooksAtSet};
+ghost use Rattle.mg_check_text.specs.Reads.{ReadsBy, ReadsText};
 
 use crate::next_doc::{expect_place, next_doc};
 use crate::progress::Progress;
-use crate::uses::expect_used;
+use mg_check_parts::expect_used;
 use mg_dev::{Bad, Part, PartErr, Store};
 use mg_layout::Head;
 use mg_model::{Stream, TextModel};

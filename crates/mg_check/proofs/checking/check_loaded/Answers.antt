@@ -1,4 +1,5 @@
-use Rattle.mg_check_text.proofs.CallerLemmas.{looks_then, reads_on}
+use Rattle.mg_check_parts.proofs.CallerLemmas.{looks_then}
+use Rattle.mg_check_text.proofs.CallerLemmas.{reads_on}
 use Rattle.mg_check.proofs.RestLaws.{set-none, set-stands}
 use Rattle.mg_check.proofs.checking.check_loaded.Goals as goal
 

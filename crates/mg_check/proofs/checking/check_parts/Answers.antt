@@ -1,9 +1,10 @@
 use Rattle.std.proofs.Common.{◌≡◌, ◌∙◌, Option, sym, subst}
 use Rattle.mg_dev.specs.Files.{Files}
-use Rattle.mg_check.specs.Counting.{TermsStand}
-use Rattle.mg_check.specs.Listing.{IndexStands}
+use Rattle.mg_check_index.specs.Counting.{TermsStand}
+use Rattle.mg_check_index.specs.Listing.{IndexStands}
 use Rattle.mg_check.specs.Rest.{Compares, PartsStand}
-use Rattle.mg_check_text.proofs.CallerLemmas.{looks_bad, looks_err, looks_then, terms_stay}
+use Rattle.mg_check_parts.proofs.CallerLemmas.{looks_bad, looks_err, looks_then}
+use Rattle.mg_check_text.proofs.CallerLemmas.{terms_stay}
 use Rattle.mg_check.proofs.RestLaws.{compares-so, head-runs, index-of, refuted, terms-of-head, terms-of-size}
 use Rattle.mg_check.proofs.checking.check_parts.Goals as goal
 
@@ -31,7 +32,7 @@ pub check_index-requires : goal.check_index-requires
 check_index-requires g c = record { text = terms_stay c.in-Ok.ensures.text.fits c.in-Ok.ensures.text.same c.requires.text }
 
 pub returns-clause-looks : goal.returns-clause-looks
-returns-clause-looks g c = looks_then c.in-Ok.ensures.text.looks c.check_index.ensures.text.looks
+returns-clause-looks g c = looks_then c.in-Ok.ensures.text.looks c.check_index.ensures.index.text.looks
 
 pub returns-clause-parts : goal.returns-clause-parts
 returns-clause-parts g c = λ collection stand.

@@ -2,7 +2,7 @@ use Rattle.std.proofs.Common.{◌∙◌, ap}
 use Rattle.mg_dev.specs.declared.part_err.PartErr.TheVariants.{Memory}
 use Rattle.mg_defs.specs.CodedText.{TextCode}
 use Rattle.mg_model.specs.Terms.{terms_and_numbers}
-use Rattle.mg_check_text.proofs.CallerLemmas.{looks_own}
+use Rattle.mg_check_parts.proofs.CallerLemmas.{looks_own}
 use Rattle.mg_check.proofs.checking.check_rest.Goals as goal
 
 pub check_told-requires-clause-table : goal.check_told-requires-clause-table

@@ -1,4 +1,4 @@
-use Rattle.mg_check_text.proofs.CallerLemmas.{looks_err, looks_then}
+use Rattle.mg_check_parts.proofs.CallerLemmas.{looks_err, looks_then}
 use Rattle.mg_check.proofs.RestLaws.{none-here, stands-here}
 use Rattle.mg_check.proofs.checking.check_set.Goals as goal
 

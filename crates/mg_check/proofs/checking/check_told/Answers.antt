@@ -4,7 +4,8 @@ use Rattle.mg_text.specs.Reading.{TextFits}
 use Rattle.mg_defs.specs.Terms.{dictionary}
 use Rattle.mg_layout.specs.Stands.{parts_at}
 use Rattle.mg_check.specs.Rest.{Compares, IsTold, PartsStand, RestStands}
-use Rattle.mg_check_text.proofs.CallerLemmas.{looks_then, reads_on, same_text, stands_on, table_terms}
+use Rattle.mg_check_parts.proofs.CallerLemmas.{looks_then}
+use Rattle.mg_check_text.proofs.CallerLemmas.{reads_on, same_text, stands_on, table_terms}
 use Rattle.mg_check.proofs.RestLaws.{compares-so, refuted, rest-of, sizes-of}
 use Rattle.mg_check.proofs.checking.check_told.Goals as goal
 

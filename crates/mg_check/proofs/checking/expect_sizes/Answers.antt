@@ -1,4 +1,4 @@
-use Rattle.mg_check_text.proofs.CallerLemmas.{looks_size, looks_then}
+use Rattle.mg_check_parts.proofs.CallerLemmas.{looks_size, looks_then}
 use Rattle.mg_check.proofs.checking.expect_sizes.Goals as goal
 
 pub returns-in-Err-clause-looks : goal.returns-in-Err-clause-looks

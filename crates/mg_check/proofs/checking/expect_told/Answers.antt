@@ -1,7 +1,7 @@
 use Rattle.std.proofs.Common.{◌≡◌, ◌∙◌, sym}
 use Rattle.mg_layout.specs.Stands.{parts_at}
 use Rattle.mg_check.specs.Rest.{HaveSizes, IsTold}
-use Rattle.mg_check_text.proofs.CallerLemmas.{looks_own}
+use Rattle.mg_check_parts.proofs.CallerLemmas.{looks_own}
 use Rattle.mg_check.proofs.RestLaws.{compares-so, refuted}
 use Rattle.mg_check.proofs.checking.expect_told.Goals as goal
 

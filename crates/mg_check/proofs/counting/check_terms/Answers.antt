@@ -1,6 +1,6 @@
 use Rattle.std.proofs.Common.{Err, ◌∙◌, sym}
 use Rattle.mg_dev.specs.declared.part_err.PartErr.TheVariants.{Memory}
-use Rattle.mg_check.specs.Counting.{AreOwn, TermsStand}
+use Rattle.mg_check_index.specs.Counting.{AreOwn, TermsStand}
 use Rattle.mg_check_text.proofs.CallerLemmas.{text_err, text_ok, text_own}
 use Rattle.mg_check.proofs.TallyText.{own_stand, refuted, stand_own, text_none}
 use Rattle.mg_check.proofs.counting.check_terms.Goals as goal

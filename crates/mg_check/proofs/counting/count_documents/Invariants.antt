@@ -1,5 +1,6 @@
 use Rattle.mg_dev.specs.Moments.{Between}
-use Rattle.mg_check.specs.Counting.{SameParts, TalliedText}
+use Rattle.mg_check_index.specs.Counting.{SameParts}
+use Rattle.mg_check.specs.CountedText.{TalliedText}
 use Rattle.mg_check_text.specs.Reads.{HasReadText}
 use Rattle.mg_check.proofs.counting.count_documents.Given as goal
 

@@ -11,7 +11,7 @@ pub returns-in-Err-count_documents-clause-other : goal.returns-in-Err-count_docu
 returns-in-Err-count_documents-clause-other g c = c.in-Err-count_documents.ensures.tallied.other
 
 pub returns-in-Err-count_documents-clause-text : goal.returns-in-Err-count_documents-clause-text
-returns-in-Err-count_documents-clause-text g c = c.in-Err-count_documents.ensures.text
+returns-in-Err-count_documents-clause-text g c = c.in-Err-count_documents.ensures.tallied.text
 
 pub finish-requires : goal.finish-requires
 finish-requires g c =
@@ -20,7 +20,7 @@ finish-requires g c =
 
 pub returns-clause-tallied : goal.returns-clause-tallied
 returns-clause-tallied g c = λ text stand.
-    let files = c.in-Ok-count_documents.ensures.text.looks.files in
+    let files = c.in-Ok-count_documents.ensures.tallied.text.looks.files in
     tally_done c.finish.result c.args.tally.now c.count_documents.new.tally c.finish.new.self (g.S.Store.files c.args.store.now)
     (g.S.Store.files c.count_documents.new.store) c.args.table.now c.args.documents c.args.reader.now c.in-Ok-count_documents.ensures.tallied.taken text
     files c.in-Ok-count_documents.ensures.tallied.parts c.requires.text.all c.requires.text.table_is stand c.finish.ensures.docs c.finish.ensures.occurrences
@@ -28,11 +28,11 @@ returns-clause-tallied g c = λ text stand.
 
 pub returns-clause-other : goal.returns-clause-other
 returns-clause-other g c = λ text stand.
-    let files = c.in-Ok-count_documents.ensures.text.looks.files in
+    let files = c.in-Ok-count_documents.ensures.tallied.text.looks.files in
     tally_other c.finish.result c.args.tally.now c.count_documents.new.tally (g.S.Store.files c.args.store.now) (g.S.Store.files c.count_documents.new.store)
     c.args.table.now c.args.documents c.args.reader.now c.in-Ok-count_documents.ensures.tallied.taken text
     files c.in-Ok-count_documents.ensures.tallied.parts c.requires.text.all c.requires.text.table_is stand
     (c.finish.ensures.bad (subst (λ f. IsSome f) (sym files) stand.told))
 
 pub returns-clause-text : goal.returns-clause-text
-returns-clause-text g c = text_looks c.in-Ok-count_documents.ensures.text c.finish.ensures.looks
+returns-clause-text g c = text_looks c.in-Ok-count_documents.ensures.tallied.text c.finish.ensures.looks

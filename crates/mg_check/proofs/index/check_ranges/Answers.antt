@@ -1,8 +1,8 @@
 use Rattle.std.proofs.Common.{arith, ◌≡◌, length, refl, sym}
-use Rattle.mg_check.specs.Listing.{ListsStand}
+use Rattle.mg_check_index.specs.Listing.{ListsStand}
 use Rattle.mg_check_text.proofs.CallerLemmas.{text_err, text_none, text_ok, text_then}
-use Rattle.mg_check.proofs.IndexLaws.{can_on, compared_on, index_on, index_stays, lists_stand_on}
-use Rattle.mg_check.proofs.LexiconLaws.{refutes_wider}
+use Rattle.mg_check_index.proofs.CallerLemmas.{can_on, compared_on, lists_stand_on, refutes_wider}
+use Rattle.mg_check.proofs.IndexLaws.{index_on, index_stays}
 use Rattle.mg_check.proofs.index.check_ranges.Goals as goal
 
 pub loop-first-init : goal.loop-first-init
@@ -16,23 +16,23 @@ loop-first-init g c = record {
 pub check_range-requires-clause-index : goal.check_range-requires-clause-index
 check_range-requires-clause-index g c = let text = c.loop-first.invariant.text in index_on text.fits text.same c.requires.index
 
-pub returns-in-Err-clause-all : goal.returns-in-Err-clause-all
-returns-in-Err-clause-all g c =
+pub returns-in-Err : goal.returns-in-Err
+returns-in-Err g c =
     let inv = c.loop-first.invariant in
     let old = g.S.Store.files c.args.store.now in
     let files = inv.text.looks.files in
     record {
-      can = tt;
-      agree = λ collection is has. tt;
-      other = λ collection is has.
-          let there = index_stays c.args.reader.now c.loop-first.reader _ _ _ _ collection inv.text.same files is in
-          let so_far = compared_on old (g.S.Store.files c.loop-first.store) c.args.of.now.base.now collection _ _ _ _ _ files refl (inv.agree collection is has) in
-          refutes_wider _ (ListsStand old c.args.of.now.base.now collection) c.in-Err.refusal (lists_stand_on old (g.S.Store.files c.loop-first.store) c.args.of.now.base.now collection files)
-          (c.in-Err.ensures.next.other collection there so_far);
+      all = record {
+        can = tt;
+        agree = λ collection is has. tt;
+        other = λ collection is has.
+            let there = index_stays c.args.reader.now c.loop-first.reader _ _ _ _ collection inv.text.same files is in
+            let so_far = compared_on old (g.S.Store.files c.loop-first.store) c.args.of.now.base.now collection _ _ _ _ _ files refl (inv.agree collection is has) in
+            refutes_wider _ (ListsStand old c.args.of.now.base.now collection) c.in-Err.refusal (lists_stand_on old (g.S.Store.files c.loop-first.store) c.args.of.now.base.now collection files)
+            (c.in-Err.ensures.next.other collection there so_far);
+        text = text_err (text_then c.loop-first.invariant.text c.in-Err.ensures.next.text);
+      };
     }
-
-pub returns-in-Err-clause-text : goal.returns-in-Err-clause-text
-returns-in-Err-clause-text g c = text_err (text_then c.loop-first.invariant.text c.in-Err.ensures.text)
 
 pub loop-first-preserved : goal.loop-first-preserved
 loop-first-preserved g c =
@@ -41,7 +41,7 @@ loop-first-preserved g c =
     let files = inv.text.looks.files in
     record {
       within = omega (arith, c.in-Ok.ensures.next.behind.within, c.count-terms.ensures.count);
-      text = text_then inv.text (text_ok c.in-Ok.ensures.text);
+      text = text_then inv.text (text_ok c.in-Ok.ensures.next.text);
       can = c.in-Ok.ensures.next.can;
       agree = λ collection is has.
           let there = index_stays c.args.reader.now c.loop-first.reader _ _ _ _ collection inv.text.same files is in
@@ -49,19 +49,19 @@ loop-first-preserved g c =
           compared_on (g.S.Store.files c.loop-first.store) old c.args.of.now.base.now collection _ _ _ _ _ (sym files) refl (c.in-Ok.ensures.next.agree collection there so_far);
     }
 
-pub returns-clause-all : goal.returns-clause-all
-returns-clause-all g c =
+pub returns : goal.returns
+returns g c =
     let inv = c.loop-first.invariant in
     let all : length c.args.of.now.table.now.terms ≡ c.loop-first.first = omega (arith, c.loop-first-test.false, inv.within, c.count-terms.ensures.count) in
     let files = g.S.Store.files c.args.store.now in
     record {
-      can = can_on c.args.of.now.table.now.terms _ _ _ _ _ all inv.can;
-      agree = λ collection is has. compared_on files files c.args.of.now.base.now collection c.loop-first.first (length c.args.of.now.table.now.terms) _ _ _ refl all (inv.agree collection is has);
-      other = λ collection is has. tt;
+      all = record {
+        can = can_on c.args.of.now.table.now.terms _ _ _ _ _ all inv.can;
+        agree = λ collection is has. compared_on files files c.args.of.now.base.now collection c.loop-first.first (length c.args.of.now.table.now.terms) _ _ _ refl all (inv.agree collection is has);
+        other = λ collection is has. tt;
+        text = c.loop-first.invariant.text;
+      };
     }
-
-pub returns-clause-text : goal.returns-clause-text
-returns-clause-text g c = c.loop-first.invariant.text
 
 pub loop-first-smaller : goal.loop-first-smaller
 loop-first-smaller g c = omega (arith, c.in-Ok.ensures.next.behind.after, c.loop-first-test.true)

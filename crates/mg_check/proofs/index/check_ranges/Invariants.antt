@@ -1,7 +1,8 @@
 use Rattle.std.proofs.Common.{◌≤◌, ◌-◌, ℕ, List, Some}
 use Rattle.mg_dev.specs.Moments.{Between}
 use Rattle.mg_mem.specs.Shelf.{files_of}
-use Rattle.mg_check.specs.Listing.{CanCompare, HasCompared, IsIndexOf}
+use Rattle.mg_check_index.specs.Listing.{CanCompare, HasCompared}
+use Rattle.mg_check.specs.IndexedText.{IsIndexOf}
 use Rattle.mg_check_text.specs.Reads.{HasReadText}
 use Rattle.mg_check.proofs.index.check_ranges.Given as goal
 

@@ -1,7 +1,9 @@
 use Rattle.std.proofs.Common.{arith}
 use Rattle.mg_dev.specs.declared.part_err.PartErr.TheVariants.{Memory}
-use Rattle.mg_check_text.proofs.CallerLemmas.{rising_of, text_err, text_ok, text_own}
-use Rattle.mg_check.proofs.IndexLaws.{range_of_index, room_of_docs, rooms_of, rooms_stay}
+use Rattle.mg_check_parts.proofs.CallerLemmas.{rising_of}
+use Rattle.mg_check_text.proofs.CallerLemmas.{text_err, text_ok, text_own}
+use Rattle.mg_check.proofs.IndexLaws.{range_of_index, room_of_docs}
+use Rattle.mg_check_index.proofs.CallerLemmas.{rooms_of, rooms_stay}
 use Rattle.mg_check.proofs.index.read_range.Goals as goal
 
 pub returns-in-Err-clause-text : goal.returns-in-Err-clause-text

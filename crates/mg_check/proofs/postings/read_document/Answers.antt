@@ -1,7 +1,8 @@
-use Rattle.std.proofs.Common.{rules, arith, ◌<◌, ◌+◌, length, refl, sym, subst}
+use Rattle.std.proofs.Common.{rules, arith, ◌<◌, ◌+◌, ◌∙◌, length, refl, sym, ap, subst}
+use Rattle.mg_check_parts.specs.TermsRead.{TermsRead}
 use Rattle.mg_dev.specs.declared.part_err.PartErr.TheVariants.{Bad}
 use Rattle.mg_defs.specs.Split.{documents}
-use Rattle.mg_check.specs.Listing.{HasRoomFor, HoldsLists, lists_upto, with_document}
+use Rattle.mg_check_index.specs.Listing.{HasRoomFor, HoldsLists, lists_upto, with_document}
 use Rattle.mg_check.proofs.DocumentLaws.{counted_is, holds_upto, range_in, room_upto}
 use Rattle.mg_check_text.proofs.CallerLemmas.{doc_of_reader, text_bad, text_ok}
 use Rattle.mg_check.proofs.postings.read_document.Goals as goal
@@ -16,7 +17,8 @@ pub returns-then-not-add_document-clause-never_bad : goal.returns-then-not-add_d
 returns-then-not-add_document-clause-never_bad g c = λ collection stand holds room.
     let read = c.in-Ok.ensures.terms in
     let doc = doc_of_reader collection c.args.before read.doc read.doc (read.own collection stand) refl in
-    let counted = counted_is _ c.args.table.now _ collection c.args.before _ _ _ doc c.requires.text.table_is stand read.terms.counted c.counted.ensures in
+    let counted = counted_is _ c.args.table.now _ collection c.args.before _ _ _ doc c.requires.text.table_is stand read.terms.counted
+    (c.counted.ensures ∙ ap (λ (t : TermsRead). t.counted) c.terms.ensures) in
     let lt : c.args.before < length (documents collection) = omega (arith, c.requires.within, stand.documents) in
     let range = range_in c.args.lists.now c.args.table.now _ _ collection c.requires.text.table_is stand c.requires.fill.range in
     let there = subst (λ es. HasRoomFor c.args.lists.now (with_document (lists_upto c.args.before collection) (c.args.before + 1) es)) (sym counted)
@@ -31,7 +33,8 @@ pub returns-clause-held : goal.returns-clause-held
 returns-clause-held g c = λ collection stand holds room.
     let read = c.in-Ok.ensures.terms in
     let doc = doc_of_reader collection c.args.before read.doc read.doc (read.own collection stand) refl in
-    let counted = counted_is _ c.args.table.now _ collection c.args.before _ _ _ doc c.requires.text.table_is stand read.terms.counted c.counted.ensures in
+    let counted = counted_is _ c.args.table.now _ collection c.args.before _ _ _ doc c.requires.text.table_is stand read.terms.counted
+    (c.counted.ensures ∙ ap (λ (t : TermsRead). t.counted) c.terms.ensures) in
     let lt : c.args.before < length (documents collection) = omega (arith, c.requires.within, stand.documents) in
     let range = range_in c.args.lists.now c.args.table.now _ _ collection c.requires.text.table_is stand c.requires.fill.range in
     let more = c.add_document.ensures.held (lists_upto c.args.before collection) (search rules) holds in

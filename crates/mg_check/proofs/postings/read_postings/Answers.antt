@@ -1,6 +1,6 @@
 use Rattle.std.proofs.Common.{arith, ◌+◌, refl}
 use Rattle.mg_dev.specs.declared.part_err.PartErr.TheVariants.{Memory}
-use Rattle.mg_check.proofs.RangedLaws.{same_more}
+use Rattle.mg_check_index.proofs.CallerLemmas.{same_more}
 use Rattle.mg_check.proofs.DocumentLaws.{room_for_all, room_stays, upto_all, upto_none}
 use Rattle.mg_check_text.proofs.CallerLemmas.{stands_on, terms_here, text_none, text_own, text_then}
 use Rattle.mg_check.proofs.postings.read_postings.Goals as goal

@@ -1,7 +1,7 @@
 use Rattle.std.proofs.Common.{ℕ, List}
 use Rattle.mg_dev.specs.Moments.{Between}
 use Rattle.mg_text.specs.Reading.{TextStands}
-use Rattle.mg_check.specs.Listing.{HasRoomForAll, HoldsLists, IsLaidOut, SameRooms, lists_upto}
+use Rattle.mg_check_index.specs.Listing.{HasRoomForAll, HoldsLists, IsLaidOut, SameRooms, lists_upto}
 use Rattle.mg_check_text.specs.Reads.{HasReadText}
 use Rattle.mg_check.proofs.postings.read_postings.Given as goal
 

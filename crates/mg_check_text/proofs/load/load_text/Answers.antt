@@ -1,7 +1,7 @@
 use Rattle.std.proofs.Common.{refl}
 use Rattle.mg_dev.specs.declared.part.Part.TheVariants as part
 use Rattle.mg_check_text.proofs.LoadLaws.{refused-none}
-use Rattle.mg_check_text.proofs.UnreadLaws.{looks_two}
+use Rattle.mg_check_parts.proofs.CallerLemmas.{looks_two}
 use Rattle.mg_check_text.proofs.load.load_text.Goals as goal
 
 pub returns-in-Err-clause-none : goal.returns-in-Err-clause-none

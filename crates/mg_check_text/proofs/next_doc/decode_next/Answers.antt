@@ -1,7 +1,7 @@
 use Rattle.std.proofs.Common.{arith, refl}
 use Rattle.mg_check_text.proofs.CallerLemmas.{doc_of_reader}
-use Rattle.mg_check_text.proofs.LookLaws.{not_device, text_pure}
-use Rattle.mg_check_text.proofs.UnreadLaws.{text_read}
+use Rattle.mg_check_parts.proofs.CallerLemmas.{not_device}
+use Rattle.mg_check_text.proofs.ReadLaws.{text_pure, text_read}
 use Rattle.mg_check_text.proofs.NextLaws.{doc-fine, ok-so, room-for}
 use Rattle.mg_check_text.proofs.next_doc.decode_next.Goals as goal
 

@@ -1,9 +1,24 @@
-use Rattle.std.proofs.Common.{arith, ◌≡◌, ◌≤◌, ◌+◌, ◌∙◌, length, ap, sym}
+use Rattle.std.proofs.Common.{arith, ◌≡◌, ◌≤◌, ◌+◌, ◌∙◌, length, ap, subst, sym}
+use Rattle.mg_defs.specs.CodedText.{TextCode}
+use Rattle.mg_defs.specs.Means.{IsModel}
 use Rattle.mg_layout.specs.Stands.{parts_at}
 use Rattle.mg_check_text.specs.Checking.{IsNextDoc}
-use Rattle.mg_check_text.proofs.LookLaws.{text_looks}
-use Rattle.mg_check_text.proofs.NextLaws.{both-ok, code-range, next-there, on-bad, other-next, range-next, refused-next, told-there}
+use Rattle.mg_check_text.proofs.ReadLaws.{text_looks}
+use Rattle.mg_check_text.proofs.NextLaws.{both-ok, code-range, head-few, next-there, on-bad, other-next, range-next, refused-next, told-there}
 use Rattle.mg_check_text.proofs.next_doc.next_doc.Goals as goal
+
+pub add_doc-requires-clause-can : goal.add_doc-requires-clause-can
+add_doc-requires-clause-can g c =
+    let same : c.model.result.now ≡ c.args.reader.now.code = c.model.ensures ∙ c.decode_next.ensures.text.same.code in
+    let left : c.args.progress.now.bytes + length c.bytes.result.now ≤ c.args.head.now.collection = omega (arith, c.in-Ok.ensures.short, ap length c.bytes.ensures) in
+    let few = (head-few c.args.head.now c.requires.reads.within).0 in
+    let range = c.requires.range in
+    record {
+      short = omega (arith, left, few);
+      model = subst IsModel (sym same) c.requires.reads.model;
+      words = record { size = range.word_places ∙ ap (λ (code : TextCode). length code.words.pieces) (sym same); few = omega (arith, range.words, left, few) };
+      others = record { size = range.other_places ∙ ap (λ (code : TextCode). length code.others.pieces) (sym same); few = omega (arith, range.others, left, few) };
+    }
 
 pub returns-in-Err-clause-none : goal.returns-in-Err-clause-none
 returns-in-Err-clause-none g c = λ loaded docs so.

@@ -1,6 +1,6 @@
 use Rattle.std.proofs.Common.{◌+◌, ◌∙◌, ℕ, ap, sym, subst, IsSome}
 use Rattle.mg_layout.specs.Stands.{parts_at}
-use Rattle.mg_check_text.proofs.LookLaws.{text_err, text_none, text_ok, text_own, text_then}
+use Rattle.mg_check_text.proofs.ReadLaws.{text_err, text_none, text_ok, text_own, text_then}
 use Rattle.mg_check_text.proofs.NextLaws.{code-range, docs-more, docs-none, none-yet, reads_on}
 use Rattle.mg_dev.specs.declared.part_err.PartErr.TheVariants.{Memory}
 use Rattle.mg_check_text.proofs.whole_text.read_docs.Goals as goal

@@ -1,7 +1,7 @@
 use Rattle.std.proofs.Common.{◌≡◌, ◌∙◌, sym}
 use Rattle.mg_layout.specs.Stands.{parts_at}
 use Rattle.mg_check_text.specs.Checking.{IsAtEnd}
-use Rattle.mg_check_text.proofs.LookLaws.{text_err, text_looks}
+use Rattle.mg_check_text.proofs.ReadLaws.{text_err, text_looks}
 use Rattle.mg_check_text.proofs.NextLaws.{bad-less, end-here, text-found, text-none, told-there}
 use Rattle.mg_check_text.proofs.whole_text.read_text.Goals as goal
 

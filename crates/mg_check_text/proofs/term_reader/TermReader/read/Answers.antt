@@ -4,8 +4,7 @@ use Rattle.mg_defs.specs.CodedText.{TextCode}
 use Rattle.mg_defs.specs.Terms.{document}
 use Rattle.mg_model.specs.Terms.{terms_and_numbers}
 use Rattle.mg_check_text.proofs.CallerLemmas.{doc_short, known_is}
-use Rattle.mg_check_text.proofs.LookLaws.{text_bad, text_ok}
-use Rattle.mg_check_text.proofs.UnreadLaws.{text_read}
+use Rattle.mg_check_text.proofs.ReadLaws.{text_bad, text_ok, text_read}
 use Rattle.mg_check_text.proofs.term_reader.TermReader.read.Goals as goal
 
 pub returns-in-Err-clause-never_bad : goal.returns-in-Err-clause-never_bad

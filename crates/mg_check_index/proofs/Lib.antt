@@ -1,0 +1,14 @@
+mod Comparing
+mod LexiconLaws
+mod RangedLaws
+mod WrittenLaws
+mod ListedLaws
+mod ComparedLaws
+mod EndLaws
+mod DocumentSums
+mod RunSteps
+mod RunWritten
+mod RunPartLaws
+mod TallySteps
+mod TallyAdds
+pub mod CallerLemmas

@@ -1,0 +1,81 @@
+//! A part that is compared with the bytes that it is to have, as they come.
+ghost use Rattle.std.specs.Prelude.{◌≡◌, ◌+◌, ◌≤◌, ◌^◌, length, true, IsSome, OnOk};
+ghost use Rattle.mg_dev.specs.Names.{full_name};
+ghost use Rattle.mg_dev.specs.Moments.{Between};
+ghost use Rattle.mg_check_parts.specs.Refusals.{WhereBad};
+ghost use Rattle.mg_check_index.specs.Counting.{HasBegunMore, GoesOnOtherwise, EndsThere, EndsElsewhere};
+ghost use Rattle.mg_check_parts.specs.Looks.{LooksAtSet, is_of_set};
+
+use mg_dev::{FileRef, Part, PartErr, Store};
+use mg_layout::{expect_bytes, expect_size};
+use std::marker::Model;
+
+/// A part of a base, and how many of its bytes were compared.
+#[derive(Drop)]
+pub(crate) struct Comparison<'a> {
+    base: &'a str,
+    part: Part,
+    at: u64,
+}
+
+impl<'a> Model for Comparison<'a> {
+    ghost use Rattle.std.specs.Prelude.{◌≡◌, true};
+    ghost use Rattle.mg_dev.specs.Names.{full_name};
+    ghost use Rattle.mg_check_index.specs.Counting.{Comparing};
+    ghost use Rattle.mg_check_parts.specs.Looks.{is_of_set};
+
+    ghost Value = { Comparing };
+
+    ghost view = { λ c. record { name = full_name c.base.now c.part; at = c.at } };
+
+    ghost invariant = { λ c. is_of_set c.part ≡ true };
+}
+
+impl<'a> Comparison<'a> {
+    /// No byte of a part was compared.
+    pub(crate) fn new(base: &'a str, part: Part) -> Self
+        requires { is_of_set part ≡ true }
+        ensures name { result.name ≡ full_name base.entry.now part }
+        ensures at { result.at ≡ 0 }
+    {
+        Comparison { base, part, at: 0 }
+    }
+
+    /// Compares the next bytes of the part with these.
+    pub(crate) fn expect<S: Store>(&mut self, store: &mut S, wanted: &[u8]) -> Result<(), PartErr>
+        requires place { self.old.at + length wanted.now ≤ 2 ^ 63 }
+        ensures begun { OnOk result (HasBegunMore S.files store.old store.new self.old self.new
+            wanted.now) }
+        ensures bad { IsSome (S.files store.old) →
+            WhereBad (GoesOnOtherwise self.old (S.files store.old) wanted.now) result }
+        ensures at { OnOk result (self.new.at ≡ self.old.at + length wanted.now) }
+        ensures name { self.new.name ≡ self.old.name }
+        ensures looks { Between S.files S.reads S.faults store.old store.new (LooksAtSet result) }
+    {
+        let file = FileRef {
+            base: self.base,
+            part: self.part,
+        };
+        match expect_bytes(store, file, self.at, wanted) {
+            Ok(()) => {}
+            Err(refusal) => return Err(refusal),
+        }
+        self.at += wanted.len() as u64;
+        Ok(())
+    }
+
+    /// Refuses a part that has more bytes than were compared.
+    pub(crate) fn finish<S: Store>(&self, store: &mut S) -> Result<(), PartErr>
+        ensures done { IsSome (S.files store.old) →
+            OnOk result (EndsThere self.now (S.files store.old)) }
+        ensures bad { IsSome (S.files store.old) →
+            WhereBad (EndsElsewhere self.now (S.files store.old)) result }
+        ensures looks { Between S.files S.reads S.faults store.old store.new (LooksAtSet result) }
+    {
+        let file = FileRef {
+            base: self.base,
+            part: self.part,
+        };
+        expect_size(store, file, self.at)
+    }
+}

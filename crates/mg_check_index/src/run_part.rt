@@ -1,0 +1,247 @@
+//! The runs of occurrences, compared with the part that has them.
+//!
+//! The occurrences go into a pool of as many entries as a run of the set is made of. A full pool is written into a store
+//! in memory as a run, and its bytes are compared with those of the part behind the runs before.
+ghost use Rattle.std.specs.Prelude.{◌≡◌, ◌+◌, ◌-◌, ◌*◌, ◌<◌, ◌≤◌, ◌^◌, ℕ, List, [], length, IfOk, IsSome, Option, OnOk};
+ghost use Rattle.mg_dev.specs.Files.{Files};
+ghost use Rattle.mg_dev.specs.Names.{full_name};
+ghost use Rattle.mg_dev.specs.Moments.{Between};
+ghost use Rattle.mg_dev.specs.declared.part.Part.TheVariants as part;
+ghost use Rattle.mg_runs.specs.Bytes.{AreEntries};
+ghost use Rattle.mg_runs.specs.Fed.{cap_of};
+ghost use Rattle.mg_check_index.specs.Counting.{HasTaken, run_bytes, run_of_pool, HasBegunMore, GoesOnOtherwise, HasTakenOne, HasTakenAll, RunsOtherwise, RunsOtherwiseOn, HasBegunRuns, AreItsRuns, AreOtherRuns};
+ghost use Rattle.mg_check_parts.specs.Refusals.{WhereBad};
+ghost use Rattle.mg_check_parts.specs.Looks.{LooksAtSet};
+
+use crate::comparison::Comparison;
+use mg_bits::BitWriter;
+use mg_check_parts::wanted;
+use mg_defs::{LEAST_BUDGET, OCCURRENCE_BYTES, ranges_join};
+use mg_dev::{FileRef, Part, PartErr, PutErr, Store};
+use mg_mem::SureStore;
+use mg_runs::{Pool, spill};
+use std::alloc::{AllocError, Global};
+use std::marker::Model;
+
+// The base of the store that a run is written into, and the full name of its file.
+const BASE: &str = "";
+
+const RUN: &str = ".run";
+
+/// The comparison of the part of the runs, and the pool of the occurrences behind those that were compared.
+#[derive(Drop)]
+pub(crate) struct RunPart<'a> {
+    alloc: Global,
+    part: Comparison<'a>,
+    pool: Pool,
+}
+
+impl<'a> Model for RunPart<'a> {
+    ghost use Rattle.mg_check_index.specs.Counting.{RunReading};
+
+    ghost Value = { RunReading };
+
+    ghost view = { λ r. record { part = r.part; pool = r.pool } };
+}
+
+// Writes a pool's entries into an empty store as a run, and empties the pool.
+fn write_into<S: Store>(alloc: Global, store: &mut S, pool: &mut Pool) -> Result<(), PutErr>
+    requires some { 1 ≤ length pool.old.entries }
+    requires many { length pool.old.entries ≤ 2 ^ 32 }
+    requires entries { AreEntries pool.old.entries }
+    ensures bytes { IsSome (S.files store.old) →
+        OnOk result (run_bytes (S.files store.new) ≡ run_of_pool pool.old) }
+    ensures few { IsSome (S.files store.old) →
+        OnOk result (length (run_bytes (S.files store.new)) ≤ 16 + 32 * length pool.old.entries) }
+    ensures empty { OnOk result (pool.new.entries ≡ []) }
+    ensures slots { OnOk result (pool.old.slots ≡ [] → pool.new.slots ≡ []) }
+    ensures limit { pool.new.limit ≡ pool.old.limit }
+{
+    let file = FileRef {
+        base: BASE,
+        part: Part::Run,
+    };
+    let mut writer = match BitWriter::start(alloc, store, file) {
+        Ok(writer) => writer,
+        Err(refusal) => return Err(refusal),
+    };
+    match spill(pool, &mut writer, store) {
+        Ok(()) => {}
+        Err(refusal) => return Err(refusal),
+    }
+    match writer.finish(store) {
+        Ok(()) => Ok(()),
+        Err(refusal) => Err(refusal),
+    }
+}
+
+// The same into a store of its own.
+fn write_run(alloc: Global, pool: &mut Pool) -> Result<SureStore, AllocError>
+    requires some { 1 ≤ length pool.old.entries }
+    requires many { length pool.old.entries ≤ 2 ^ 32 }
+    requires entries { AreEntries pool.old.entries }
+    ensures bytes { IfOk result (λ store. run_bytes (⟦<SureStore as Store>⟧.files store)
+        ≡ run_of_pool pool.old) }
+    ensures few { IfOk result (λ store. length (run_bytes (⟦<SureStore as Store>⟧.files store))
+        ≤ 16 + 32 * length pool.old.entries) }
+    ensures empty { OnOk result (pool.new.entries ≡ []) }
+    ensures slots { OnOk result (pool.old.slots ≡ [] → pool.new.slots ≡ []) }
+    ensures limit { pool.new.limit ≡ pool.old.limit }
+{
+    let mut store = SureStore::new(alloc);
+    match write_into(alloc, &mut store, pool) {
+        Ok(()) => Ok(store),
+        // The store never fails: only memory may be wanting.
+        Err(_) => Err(AllocError),
+    }
+}
+
+// The bytes of a run that was written so.
+#[tactic(auto, unfolding(mg_dev::specs::Names::full_name))]
+fn run_in(store: &SureStore) -> &[u8]
+    ensures { result.now ≡ run_bytes (⟦<SureStore as Store>⟧.files store.now) }
+{
+    wanted(store, RUN)
+}
+
+impl<'a> RunPart<'a> {
+    /// No occurrence, to be taken in runs of so many; the pool takes no more.
+    pub(crate) fn new(alloc: Global, base: &'a str, cap: u32) -> Result<Self, AllocError>
+        requires least { 341 ≤ cap }
+        requires most { cap ≤ 89478485 }
+        ensures taken { IfOk result (λ runs. (files : Option Files) → HasTaken runs files []) }
+        ensures name { IfOk result (λ runs. runs.part.name ≡ full_name base.entry.now part.Run) }
+        ensures cap { IfOk result (λ runs. cap_of runs.pool ≡ cap) }
+    {
+        let budget = (OCCURRENCE_BYTES * u64::from(cap)).max(LEAST_BUDGET);
+        let pool = Pool::new(alloc, budget)?;
+        Ok(RunPart {
+            alloc,
+            part: Comparison::new(base, Part::Run),
+            pool,
+        })
+    }
+
+    // Writes the pool's entries as a run, compares it, and empties the pool.
+    fn compare<S: Store>(&mut self, store: &mut S) -> Result<(), PartErr>
+        requires some { 1 ≤ length self.old.pool.entries }
+        requires many { length self.old.pool.entries ≤ 2 ^ 32 }
+        requires entries { AreEntries self.old.pool.entries }
+        requires place { self.old.part.at ≤ 2 ^ 62 }
+        ensures begun { OnOk result (HasBegunMore S.files store.old store.new self.old.part
+            self.new.part (run_of_pool self.old.pool)) }
+        ensures bad { IsSome (S.files store.old) →
+            WhereBad (GoesOnOtherwise self.old.part (S.files store.old) (run_of_pool self.old.pool))
+            result }
+        ensures place { OnOk result (self.new.part.at ≤ self.old.part.at + 16 + 32
+            * length self.old.pool.entries) }
+        ensures empty { OnOk result (self.new.pool.entries ≡ []) }
+        ensures slots { OnOk result (self.old.pool.slots ≡ [] → self.new.pool.slots ≡ []) }
+        ensures limit { self.new.pool.limit ≡ self.old.pool.limit }
+        ensures name { self.new.part.name ≡ self.old.part.name }
+        ensures looks { Between S.files S.reads S.faults store.old store.new (LooksAtSet result) }
+    {
+        let written = match write_run(self.alloc, &mut self.pool) {
+            Ok(written) => written,
+            Err(_) => return Err(PartErr::Memory),
+        };
+        match self.part.expect(store, run_in(&written)) {
+            Ok(()) => Ok(()),
+            Err(refusal) => Err(refusal),
+        }
+    }
+
+    /// Takes the next occurrence: a term's number, and a document's, from 1. A full pool is first compared as a run.
+    pub(crate) fn push<S: Store>(
+        &mut self,
+        store: &mut S,
+        term: u32,
+        doc: u32,
+    ) -> Result<(), PartErr>
+        requires taken { (fed : List (ℕ × ℕ)) × (length fed < 2 ^ 32 - 1)
+            × HasTaken self.old (S.files store.old) fed }
+        requires doc { 1 ≤ doc }
+        ensures taken { OnOk result (HasTakenOne S.files store.old store.new self.old self.new
+            (term, doc)) }
+        ensures bad { IsSome (S.files store.old) →
+            WhereBad (RunsOtherwise self.old (S.files store.old)) result }
+        ensures limit { self.new.pool.limit ≡ self.old.pool.limit }
+        ensures name { self.new.part.name ≡ self.old.part.name }
+        ensures looks { Between S.files S.reads S.faults store.old store.new (LooksAtSet result) }
+    {
+        // By this law runs are bytes one after the other.
+        ranges_join();
+        if self.pool.is_full() {
+            match self.compare(store) {
+                Ok(()) => {}
+                Err(refusal) => return Err(refusal),
+            }
+        }
+        self.pool.push(term, doc);
+        Ok(())
+    }
+
+    /// Takes the occurrences of a document: the numbers of its terms in reading order.
+    pub(crate) fn push_all<S: Store>(
+        &mut self,
+        store: &mut S,
+        numbers: &[u32],
+        doc: u32,
+    ) -> Result<(), PartErr>
+        requires taken { (fed : List (ℕ × ℕ)) × (length fed + length numbers.now < 2 ^ 32)
+            × HasTaken self.old (S.files store.old) fed }
+        requires doc { 1 ≤ doc }
+        ensures taken { OnOk result (HasTakenAll S.files store.old store.new self.old self.new doc
+            numbers.now) }
+        ensures bad { IsSome (S.files store.old) →
+            WhereBad (RunsOtherwiseOn self.old (S.files store.old) doc numbers.now) result }
+        ensures limit { self.new.pool.limit ≡ self.old.pool.limit }
+        ensures name { self.new.part.name ≡ self.old.part.name }
+        ensures looks { Between S.files S.reads S.faults store.old store.new (LooksAtSet result) }
+    {
+        for number in numbers {
+            match self.push(store, *number, doc) {
+                Ok(()) => {}
+                Err(refusal) => return Err(refusal),
+            }
+        }
+        Ok(())
+    }
+
+    // Compares what is left in the pool as the last run.
+    fn compare_rest<S: Store>(&mut self, store: &mut S) -> Result<(), PartErr>
+        requires taken { (fed : List (ℕ × ℕ)) × HasTaken self.old (S.files store.old) fed }
+        ensures begun { OnOk result (HasBegunRuns S.files store.old store.new self.old
+            self.new.part) }
+        ensures bad { IsSome (S.files store.old) →
+            WhereBad (AreOtherRuns self.old (S.files store.old)) result }
+        ensures name { self.new.part.name ≡ self.old.part.name }
+        ensures looks { Between S.files S.reads S.faults store.old store.new (LooksAtSet result) }
+    {
+        // By this law runs are bytes one after the other.
+        ranges_join();
+        if self.pool.used() == 0 {
+            return Ok(());
+        }
+        match self.compare(store) {
+            Ok(()) => Ok(()),
+            Err(refusal) => Err(refusal),
+        }
+    }
+
+    /// Compares what is left as the last run, and refuses a part with more bytes.
+    pub(crate) fn finish<S: Store>(&mut self, store: &mut S) -> Result<(), PartErr>
+        requires taken { (fed : List (ℕ × ℕ)) × HasTaken self.old (S.files store.old) fed }
+        ensures done { IsSome (S.files store.old) →
+            OnOk result (AreItsRuns self.old (S.files store.old)) }
+        ensures bad { IsSome (S.files store.old) →
+            WhereBad (AreOtherRuns self.old (S.files store.old)) result }
+        ensures looks { Between S.files S.reads S.faults store.old store.new (LooksAtSet result) }
+    {
+        match self.compare_rest(store) {
+            Ok(()) => {}
+            Err(refusal) => return Err(refusal),
+        }
+        self.part.finish(store)
+    }
+}

@@ -1,0 +1,9 @@
+mod LookLaws
+mod UnreadLaws
+mod UseLaws
+mod CodeLaws
+mod TermNumbers
+mod Counts
+mod WeightSums
+mod CountedTerms
+pub mod CallerLemmas

@@ -1,0 +1,5 @@
+pub mod Refusals
+pub mod Looks
+pub mod Documents
+pub mod TermsRead
+pub mod Decoding
