@@ -9,6 +9,7 @@ pub mod WalkLaws
 pub mod RankedLaws
 pub mod ReplyLaws
 pub mod TermLaws
+pub mod CallLaws
 pub mod SetLaws
 pub mod StopLaws
 pub mod SessionLaws

@@ -1,24 +1,34 @@
 -- The text of a base: its reader, before and after it is loaded.
-use Rattle.std.proofs.Common.{arith, ◌≡◌, ◌+◌, ◌-◌, ◌≤◌, ℕ, zero, suc, List, [], ◌∷◌, length, get_or, Some, None, Err, ◌∙◌, ap, subst, is_some}
+use Rattle.std.proofs.Common.{arith, ◌≡◌, ◌+◌, ◌-◌, ◌≤◌, ℕ, zero, suc, List, [], ◌∷◌, length, get_or, Some, None, Ok, Err, refl, sym, ◌∙◌, ap, subst, is_some}
 use Rattle.std.specs.Prelude.{IfSome}
 use Rattle.std.specs.List.{AllByRecursion}
 use Rattle.std.specs.declared.option.Option.{Option}
+use Rattle.std.specs.declared.result.Result.{Result}
 use Rattle.mg_dev.specs.Files.{Files, file_at}
+use Rattle.mg_dev.specs.Moments.{SinkAt, StoreAt}
+use Rattle.mg_dev.specs.declared.part.Part.TheVariants as part
 use Rattle.mg_dev.specs.declared.part_err.PartErr.{PartErr}
 use Rattle.mg_dev.specs.declared.part_err.PartErr.TheVariants.{Device, Memory, Bad}
+use Rattle.mg_dev.specs.declared.show_err.ShowErr.{ShowErr}
 use Rattle.mg_dev.specs.declared.show_err.ShowErr.TheVariants as show
 use Rattle.mg_defs.specs.CodedText.{TextCode, doc_range}
 use Rattle.mg_defs.specs.PagesOf.{pages}
 use Rattle.mg_defs.specs.Split.{documents}
 use Rattle.mg_defs.specs.TextBounds.{doc_pages}
 use Rattle.mg_defs.proofs.ListLaws.{documents_short}
-use Rattle.mg_front.specs.Reading.{IsNotBad}
+use Rattle.mg_defs.specs.declared.session.Mode.TheVariants as mode
+use Rattle.mg_front.specs.Reading.{IsNotBad, LookedAt}
 use Rattle.mg_layout.specs.declared.head.Head.{Head}
+use Rattle.mg_text.specs.Decoding.{IsShowCaused}
 use Rattle.mg_text.specs.Held.{HasShortDocument}
 use Rattle.mg_text.specs.Reading.{IsText, IsTextReader, SameText, ShowIsNotBad, TextFits, TextReading, TextStands}
 use Rattle.mg_text.proofs.CallerLemmas.{text_stays}
 use Rattle.mg_reply.specs.Printed.{at_score}
-use Rattle.mg_session.specs.Texts.{IsLoaded, Texting, TextsFit}
+use Rattle.mg_session.specs.Answering.{HasShowCause, HasShowLack}
+use Rattle.mg_session.specs.Calls.{TextShown}
+use Rattle.mg_session.specs.Parts.{ShownIn}
+use Rattle.mg_session.specs.Texts.{IsLoaded, Texting, TextsFit, TextsStand}
+use Rattle.mg_session.proofs.StepLaws.{cause_after, looked_shown, shown_then}
 
 -- the same reader, over the same files
 pub loaded_later : (base : List ℕ) (head : Head) (files now : Option Files) (r s : TextReading) → SameText r s → TextFits s now → now ≡ files → IsLoaded base head files r → IsLoaded base head now s
@@ -83,3 +93,49 @@ short_document r files number most collection stands short = record {
   stands = stands;
   short = omega (arith, short_at (length collection) (documents collection) (number - 1) (documents_short collection), short);
 }
+
+-- ---- a document is shown
+
+pub read_cause : (result : Result (Unit {0}) ShowErr) (s t f g l m : ℕ) → s ≤ t → f ≤ g → IsShowCaused result s t f g l m → HasShowCause result s t f g
+read_cause (Ok done) s t f g l m store output is = record { store = store; output = output; caused = tt }
+read_cause (Err (show.Part Device)) s t f g l m store output is = record { store = store; output = output; caused = is }
+read_cause (Err (show.Part Memory)) s t f g l m store output is = record { store = store; output = output; caused = tt }
+read_cause (Err (show.Part (Bad bad))) s t f g l m store output is = record { store = store; output = output; caused = tt }
+read_cause (Err show.Write) s t f g l m store output is = record { store = store; output = output; caused = is }
+read_cause (Err show.Memory) s t f g l m store output is = record { store = store; output = output; caused = tt }
+
+pub read_lack : (result : Result (Unit {0}) ShowErr) (s t f g l m : ℕ) → l ≤ m → IsShowCaused result s t f g l m → HasShowLack l m result
+read_lack (Ok done) s t f g l m later is = record { later = later; lacked = tt }
+read_lack (Err (show.Part refusal)) s t f g l m later is = record { later = later; lacked = tt }
+read_lack (Err show.Write) s t f g l m later is = record { later = later; lacked = tt }
+read_lack (Err show.Memory) s t f g l m later is = record { later = later; lacked = is }
+
+module _ {base : List ℕ} {head : Head} {reader : Option TextReading} {texts : Texting} {at next : StoreAt} (own : record { base = base; head = head; reader = reader } ≡ texts)
+    (fits : TextsFit at.files texts) (before : ShownIn mode.Text at.files next.files at.reads next.reads at.faults next.faults) where
+  own_fits : TextsFit at.files (record { base = base; head = head; reader = reader })
+  own_fits = subst (λ (t : Texting). TextsFit at.files t) (sym own) fits
+
+  -- a reader that is loaded shows it
+  pub read_shown : {reader_now : Option TextReading} {r r_now : TextReading} {now : StoreAt} {out out_now : SinkAt} {result : Result (Unit {0}) ShowErr} {IsPrinted : List ℕ → Type 0}
+      {most : TextCode → List ℕ → ℕ} → reader_now ≡ Some r_now → IsLoaded base head next.files r → SameText r r_now → TextFits r_now now.files →
+      LookedAt part.Text part.Places next.files now.files next.reads now.reads next.faults now.faults →
+      out.faults ≤ out_now.faults → out.lacks ≤ out_now.lacks →
+      IsShowCaused result next.faults now.faults out.faults out_now.faults out.lacks out_now.lacks →
+      ((code : TextCode) (collection : List ℕ) → TextsStand texts at.files code collection → IsPrinted collection) →
+      ((code : TextCode) (collection : List ℕ) → TextsStand texts at.files code collection → now.reads part.Text ≤ at.reads part.Text + most code collection) →
+      ((code : TextCode) (collection : List ℕ) → TextsStand texts at.files code collection → ShowIsNotBad result) →
+      TextShown texts (record { base = base; head = head; reader = reader_now }) at now out out_now result mode.Text IsPrinted most
+  read_shown {r = r} {r_now = r_now} {now = now} {result = result} is loaded same fits_now looked later lacks cause content pages sound = record {
+    fits = record {
+      words = own_fits.words;
+      others = own_fits.others;
+      reader = subst (λ (o : Option TextReading). IfSome o (IsLoaded base head now.files)) (sym is) (loaded_later base head _ _ r r_now same fits_now looked.files loaded);
+    };
+    same = record { base = ap (λ (t : Texting). t.base) own; head = ap (λ (t : Texting). t.head) own };
+    content = content;
+    pages = pages;
+    sound = sound;
+    looked = shown_then _ _ _ _ _ _ _ _ _ _ before (looked_shown part.Text part.Places _ _ _ _ _ _ (omega arith) (omega arith) (omega arith) (omega arith) looked);
+    cause = cause_after _ _ _ _ _ _ _ before.faults (omega arith) (read_cause result _ _ _ _ _ _ looked.faults later cause);
+    lack = read_lack result _ _ _ _ _ _ lacks cause;
+  }

@@ -4,6 +4,8 @@ use Rattle.std.specs.Prelude.{◌||◌}
 use Rattle.std.specs.List.{list_any}
 use Rattle.std.proofs.lemmas.Bool.{cases_eq, cases_lt, eq-eqb, ne_eqb, or_right}
 use Rattle.std.proofs.lemmas.List.Folds.{list_any-append}
+use Rattle.mg_dev.specs.Files.{Reads}
+use Rattle.mg_dev.specs.PartCauses.{HasPartCause}
 use Rattle.mg_dev.specs.declared.part_err.PartErr.{PartErr}
 use Rattle.mg_dev.specs.declared.part_err.PartErr.TheVariants.{Device, Memory, Bad}
 use Rattle.mg_defs.specs.declared.Posting.{Posting}
@@ -16,7 +18,7 @@ use Rattle.mg_post.specs.Cursor.{head_of}
 use Rattle.mg_post.proofs.CallerLemmas.{has_at}
 use Rattle.mg_rank.specs.Ranked.{AnswersOr}
 use Rattle.mg_session.specs.DocumentSets.{DocumentMarks, has_doc}
-use Rattle.mg_session.specs.WildMarks.{AddsLists}
+use Rattle.mg_session.specs.WildMarks.{AddsLists, ReadsPost}
 
 -- ---- while a list is gone through
 
@@ -95,3 +97,20 @@ pub or_or : {A B : Type 0} (e : PartErr) (f : A → Type 0) (h : B → Type 0) �
 or_or Device f h got = tt
 or_or Memory f h got = tt
 or_or (Bad bad) f h got = absurd got
+
+-- ---- the reads and the refusals of one list after another
+
+pub post_same : (reads : Reads) → ReadsPost reads reads
+post_same reads = record { later = λ p. omega arith; others = λ p other. refl }
+
+pub post_then : {before between now : Reads} → ReadsPost before between → ReadsPost between now → ReadsPost before now
+post_then one two = record {
+  later = λ p. omega (arith, one.later p, two.later p);
+  others = λ p other. two.others p other ∙ one.others p other;
+}
+
+-- a refusal that has its cause behind other calls
+pub caused_then : {T V : Type 0} {s t u : ℕ} (refusal : PartErr) → s ≤ t → HasPartCause {T = V} t u (Err refusal) → HasPartCause {T = T} s u (Err refusal)
+caused_then Device later cause = record { later = omega (arith, later, cause.later); device = omega (arith, later, cause.device) }
+caused_then Memory later cause = record { later = omega (arith, later, cause.later); device = tt }
+caused_then (Bad bad) later cause = record { later = omega (arith, later, cause.later); device = tt }

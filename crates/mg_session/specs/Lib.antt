@@ -3,6 +3,7 @@ pub mod Texts
 pub mod Searching
 pub mod Answering
 pub mod Sessions
+pub mod Calls
 pub mod Showing
 pub mod Serves
 pub mod Opening

@@ -24,10 +24,14 @@ abbrev pub PassesShown : {Y : Type 0} → (Y → Option (List ℕ)) → Y → Y 
 PassesShown written out out_now waited waiting result mode number score collection =
     Passes written out out_now waited waiting result (shown collection mode (at_score number score))
 
--- and no pages of the text are read but those on which it lies, where this mode shows its text
+-- the pages of Text on which it lies, where this mode shows its text
+abbrev pub shown_pages : Mode → ℕ → Option ℕ → TextCode → List ℕ → ℕ
+shown_pages mode number score code collection = mode_pages code collection mode (at_score number score)
+
+-- and no pages of the text are read but these
 abbrev pub ReadsShown : {X : Type 0} → (X → Reads) → X → X → Mode → ℕ → Option ℕ → TextCode → List ℕ → Type 0
 ReadsShown reads store store_now mode number score code collection = reads store_now part.Text
-    ≤ reads store part.Text + mode_pages code collection mode (at_score number score)
+    ≤ reads store part.Text + shown_pages mode number score code collection
 
 -- ---- a document of a Boolean answer, after so many of them
 
@@ -37,9 +41,9 @@ PassesHit written out out_now waited waiting result now total number collection 
     Passes written out out_now waited waiting result
     (hit_by now (document collection number) total (at_score number None))
 
-abbrev pub ReadsHit : {X : Type 0} → (X → Reads) → X → X → Settings → ℕ → ℕ → TextCode → List ℕ → Type 0
-ReadsHit reads store store_now now total number code collection = reads store_now part.Text
-    ≤ reads store part.Text + hit_pages code collection now total (at_score number None)
+-- the pages of Text on which it lies, where it is shown with its text
+abbrev pub found_pages : Settings → ℕ → ℕ → TextCode → List ℕ → ℕ
+found_pages now total number code collection = hit_pages code collection now total (at_score number None)
 
 -- ---- rows of a ranked answer
 
@@ -48,9 +52,9 @@ abbrev pub PassesRows : {Y : Type 0} → (Y → Option (List ℕ)) → Y → Y �
 PassesRows written out out_now waited waiting result mode rows collection =
     Passes written out out_now waited waiting result (rows_text collection mode rows)
 
-abbrev pub ReadsRows : {X : Type 0} → (X → Reads) → X → X → Mode → List Hit → TextCode → List ℕ → Type 0
-ReadsRows reads store store_now mode rows code collection = reads store_now part.Text
-    ≤ reads store part.Text + rows_pages code collection mode rows
+-- the pages of Text on which they lie, where this mode shows their texts
+abbrev pub ranked_pages : Mode → List Hit → TextCode → List ℕ → ℕ
+ranked_pages mode rows code collection = rows_pages code collection mode rows
 
 -- and behind them how many documents there are
 abbrev pub PutsRanking : {Y : Type 0} → (Y → Option (List ℕ)) → Y → Y → Result (Unit {0}) ShowErr → Mode → Ranking →

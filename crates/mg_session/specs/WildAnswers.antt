@@ -3,10 +3,13 @@ use Rattle.std.specs.Prelude.{◌≡◌, ℕ, ◌+◌, ◌≤◌, List, length, 
 use Rattle.std.specs.declared.option.Option.{Option}
 use Rattle.std.specs.declared.result.Result.{Result}
 use Rattle.mg_dev.specs.Files.{Files, Reads}
+use Rattle.mg_dev.specs.Moments.{SinkAt, StoreAt}
 use Rattle.mg_dev.specs.Streams.{AfterPut}
 use Rattle.mg_dev.specs.declared.part.Part.{Part}
 use Rattle.mg_dev.specs.declared.part.Part.TheVariants as part
 use Rattle.mg_dev.specs.declared.show_err.ShowErr.{ShowErr}
+use Rattle.mg_dev.specs.declared.sink.Sink as sinks
+use Rattle.mg_dev.specs.declared.store.Store as stores
 use Rattle.mg_defs.specs.CodedText.{TextCode}
 use Rattle.mg_defs.specs.Lines.{lines}
 use Rattle.mg_defs.specs.PageBounds.{ranked_bound}
@@ -18,6 +21,8 @@ use Rattle.mg_post.specs.TermLists.{ListsStand}
 use Rattle.mg_text.specs.Reading.{ShowIsNotBad}
 use Rattle.mg_wild.specs.Loading.{HasTermsOf, TellsOf}
 use Rattle.mg_wild.specs.Terms.{LexTerms}
+use Rattle.mg_session.specs.Answering.{HasShowCause, HasShowLack}
+use Rattle.mg_session.specs.Calls.{at_sink, at_store}
 
 -- a session of patterns reads the head, the lexicon and the lists alone, and no skip entry
 abbrev pub NeverReadByPatterns : Part → Type 0
@@ -48,6 +53,20 @@ pub record ReadsNoOther (files_before files_now : Option Files) (reads_before re
   pub files : files_now ≡ files_before
   pub faults : faults_before ≤ faults_now
   pub unread : (p : Part) → NeverReadByPatterns p → reads_now p ≡ reads_before p
+
+-- A pattern was answered.
+pub record PatternStep (before now : StoreAt) (out out_now : SinkAt) (result : Result (Unit {0}) ShowErr) : Type 0 where
+  -- no file changes, and no part is read that a session of patterns never reads
+  pub step : ReadsNoOther before.files now.files before.reads now.reads before.faults now.faults
+  -- a failure has its cause, and so has the output's want of memory
+  pub cause : HasShowCause result before.faults now.faults out.faults out_now.faults
+  pub lack : HasShowLack out.lacks out_now.lacks result
+
+-- by what the types of the store and the output tell
+abbrev pub StepsPattern : {X Y : Type 0} → stores.Ghosts X → sinks.Ghosts Y → X → X → Y → Y →
+    Result (Unit {0}) ShowErr → Type 0
+StepsPattern of_store of_out store store_now out out_now result = PatternStep (at_store of_store store)
+    (at_store of_store store_now) (at_sink of_out out) (at_sink of_out out_now) result
 
 -- the lists are those of this collection, which has so many documents, and the terms are its terms with what stands of each
 pub record WildSources (base : List ℕ) (files : Option Files) (terms : LexTerms) (all : ℕ) (collection : List ℕ) : Type

@@ -1,13 +1,12 @@
 //! The answer to a Boolean query.
 ghost use Rattle.std.specs.Prelude.{◌≡◌, ℕ, List, length};
-ghost use Rattle.mg_dev.specs.Moments.{Between};
 ghost use Rattle.mg_defs.specs.QueryTerms.{query_terms};
 ghost use Rattle.mg_bool.specs.Matches.{MatchesFit};
 ghost use Rattle.mg_query.specs.QueryOf.{query_of};
-ghost use Rattle.mg_session.specs.Answering.{HasShowCause, HasShowLack};
+ghost use Rattle.mg_session.specs.Calls.{StepsText};
 ghost use Rattle.mg_session.specs.Parts.{Stepped};
 ghost use Rattle.mg_session.specs.Replying.{AnswersMatches, AnswersQuery};
-ghost use Rattle.mg_session.specs.Texts.{SameTexts, TextsFit};
+ghost use Rattle.mg_session.specs.Texts.{TextsFit};
 
 use crate::documents::Documents;
 use crate::hit::show_hit;
@@ -32,14 +31,10 @@ fn show_matches<S: Store, D: Documents<S>, O: Sink>(
     requires on { (base : List ℕ) × MatchesFit base (S.files store.old) matches.old }
     requires first { matches.old.decided ≡ 0 }
     requires all { (D.texts texts.old).head.documents ≡ matches.old.all }
-    ensures fits { TextsFit (S.files store.new) (D.texts texts.new) }
-    ensures same { SameTexts (D.texts texts.old) (D.texts texts.new) }
     ensures answer { AnswersMatches S.Store O.Sink store.old store.new out.old out.new result
         (D.texts texts.old) matches.old now.now }
-    ensures step { Between S.files S.reads S.faults store.old store.new (Stepped now.now.mode) }
-    ensures cause { HasShowCause result (S.faults store.old) (S.faults store.new) (O.faults out.old)
-        (O.faults out.new) }
-    ensures lack { HasShowLack (O.lacks out.old) (O.lacks out.new) result }
+    ensures stepped { StepsText S.Store O.Sink store.old store.new out.old out.new result
+        (D.texts texts.old) (D.texts texts.new) (Stepped now.now.mode) }
 {
     let mut pending = Pending::new();
     let mut total = 0u32;
@@ -70,15 +65,11 @@ pub(crate) fn answer_query<S: Store, D: Documents<S>, O: Sink>(
         ≡ length (query_terms (query_of sought.now.query.now)) }
     requires fits { TextsFit (S.files store.old) (D.texts texts.old) }
     requires all { (D.texts texts.old).head.documents ≡ lists.now.all }
-    ensures fits { TextsFit (S.files store.new) (D.texts texts.new) }
-    ensures same { SameTexts (D.texts texts.old) (D.texts texts.new) }
     ensures answer { AnswersQuery S.Store O.Sink store.old store.new out.old out.new result
         lists.now.base.now (D.texts texts.old) lists.now.all (query_of sought.now.query.now)
         sought.now.infos.now now.now }
-    ensures step { Between S.files S.reads S.faults store.old store.new (Stepped now.now.mode) }
-    ensures cause { HasShowCause result (S.faults store.old) (S.faults store.new) (O.faults out.old)
-        (O.faults out.new) }
-    ensures lack { HasShowLack (O.lacks out.old) (O.lacks out.new) result }
+    ensures stepped { StepsText S.Store O.Sink store.old store.new out.old out.new result
+        (D.texts texts.old) (D.texts texts.new) (Stepped now.now.mode) }
 {
     let mut matches = match Matches::start(
         lists.alloc,

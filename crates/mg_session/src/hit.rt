@@ -1,13 +1,7 @@
 //! A document of an answer, as it is shown from the coded text.
-ghost use Rattle.std.specs.Prelude.{◌≤◌};
-ghost use Rattle.mg_dev.specs.Moments.{Between};
 ghost use Rattle.mg_defs.specs.declared.session.Mode.TheVariants as mode;
-ghost use Rattle.mg_text.specs.Reading.{ShowIsNotBad};
-ghost use Rattle.mg_session.specs.Answering.{HasShowCause, HasShowLack};
-ghost use Rattle.mg_session.specs.Parts.{ShownIn};
-ghost use Rattle.mg_session.specs.Sessions.{ForText};
-ghost use Rattle.mg_session.specs.Showing.{PassesHit, PassesShown, ReadsHit, ReadsShown};
-ghost use Rattle.mg_session.specs.Texts.{SameTexts, TextsFit};
+ghost use Rattle.mg_session.specs.Calls.{IsShowable, ShowsText};
+ghost use Rattle.mg_session.specs.Showing.{PassesHit, PassesShown, found_pages, shown_pages};
 
 use crate::documents::Documents;
 use mg_defs::{Mode, Settings};
@@ -24,22 +18,11 @@ fn show_text<S: Store, D: Documents<S>, O: Sink>(
     number: u32,
     score: Option<u64>,
 ) -> Result<(), ShowErr>
-    requires fits { TextsFit (S.files store.old) (D.texts texts.old) }
-    requires some { 1 ≤ number }
-    requires within { number ≤ (D.texts texts.old).head.documents }
-    ensures fits { TextsFit (S.files store.new) (D.texts texts.new) }
-    ensures same { SameTexts (D.texts texts.old) (D.texts texts.new) }
-    ensures content { ForText (D.texts texts.old) (S.files store.old)
-        (λ code. PassesShown O.written out.old out.new pending.old pending.new result mode.Text
-        number score) }
-    ensures pages { ForText (D.texts texts.old) (S.files store.old)
-        (ReadsShown S.reads store.old store.new mode.Text number score) }
-    ensures sound { ForText (D.texts texts.old) (S.files store.old)
-        (λ code collection. ShowIsNotBad result) }
-    ensures looked { Between S.files S.reads S.faults store.old store.new (ShownIn mode.Text) }
-    ensures cause { HasShowCause result (S.faults store.old) (S.faults store.new) (O.faults out.old)
-        (O.faults out.new) }
-    ensures lack { HasShowLack (O.lacks out.old) (O.lacks out.new) result }
+    requires { IsShowable (S.files store.old) (D.texts texts.old) number }
+    ensures { ShowsText S.Store O.Sink store.old store.new out.old out.new result
+        (D.texts texts.old) (D.texts texts.new) mode.Text
+        (PassesShown O.written out.old out.new pending.old pending.new result mode.Text number score)
+        (shown_pages mode.Text number score) }
 {
     match pending.header(out, number, score) {
         Ok(()) => {}
@@ -69,22 +52,11 @@ pub(crate) fn show_doc<S: Store, D: Documents<S>, O: Sink>(
     number: u32,
     score: Option<u64>,
 ) -> Result<(), ShowErr>
-    requires fits { TextsFit (S.files store.old) (D.texts texts.old) }
-    requires some { 1 ≤ number }
-    requires within { number ≤ (D.texts texts.old).head.documents }
-    ensures fits { TextsFit (S.files store.new) (D.texts texts.new) }
-    ensures same { SameTexts (D.texts texts.old) (D.texts texts.new) }
-    ensures content { ForText (D.texts texts.old) (S.files store.old)
-        (λ code. PassesShown O.written out.old out.new pending.old pending.new result mode number
-        score) }
-    ensures pages { ForText (D.texts texts.old) (S.files store.old)
-        (ReadsShown S.reads store.old store.new mode number score) }
-    ensures sound { ForText (D.texts texts.old) (S.files store.old)
-        (λ code collection. ShowIsNotBad result) }
-    ensures looked { Between S.files S.reads S.faults store.old store.new (ShownIn mode) }
-    ensures cause { HasShowCause result (S.faults store.old) (S.faults store.new) (O.faults out.old)
-        (O.faults out.new) }
-    ensures lack { HasShowLack (O.lacks out.old) (O.lacks out.new) result }
+    requires { IsShowable (S.files store.old) (D.texts texts.old) number }
+    ensures { ShowsText S.Store O.Sink store.old store.new out.old out.new result
+        (D.texts texts.old) (D.texts texts.new) mode
+        (PassesShown O.written out.old out.new pending.old pending.new result mode number score)
+        (shown_pages mode number score) }
 {
     match mode {
         Mode::Docnums => match pending.row(out, number, score) {
@@ -107,22 +79,11 @@ pub(crate) fn show_hit<S: Store, D: Documents<S>, O: Sink>(
     total: u32,
     number: u32,
 ) -> Result<(), ShowErr>
-    requires fits { TextsFit (S.files store.old) (D.texts texts.old) }
-    requires some { 1 ≤ number }
-    requires within { number ≤ (D.texts texts.old).head.documents }
-    ensures fits { TextsFit (S.files store.new) (D.texts texts.new) }
-    ensures same { SameTexts (D.texts texts.old) (D.texts texts.new) }
-    ensures content { ForText (D.texts texts.old) (S.files store.old)
-        (λ code. PassesHit O.written out.old out.new pending.old pending.new result now.now total
-        number) }
-    ensures pages { ForText (D.texts texts.old) (S.files store.old)
-        (ReadsHit S.reads store.old store.new now.now total number) }
-    ensures sound { ForText (D.texts texts.old) (S.files store.old)
-        (λ code collection. ShowIsNotBad result) }
-    ensures looked { Between S.files S.reads S.faults store.old store.new (ShownIn now.now.mode) }
-    ensures cause { HasShowCause result (S.faults store.old) (S.faults store.new) (O.faults out.old)
-        (O.faults out.new) }
-    ensures lack { HasShowLack (O.lacks out.old) (O.lacks out.new) result }
+    requires { IsShowable (S.files store.old) (D.texts texts.old) number }
+    ensures { ShowsText S.Store O.Sink store.old store.new out.old out.new result
+        (D.texts texts.old) (D.texts texts.new) now.now.mode
+        (PassesHit O.written out.old out.new pending.old pending.new result now.now total number)
+        (found_pages now.now total number) }
 {
     if !shows(now.most, total) {
         return Ok(());

@@ -1,15 +1,14 @@
 //! The documents that have a phrase, sought among those that have all its words.
 ghost use Rattle.std.specs.Prelude.{◌≡◌, ◌≤◌, ◌<◌, ℕ, List, OnOk, Some, length};
-ghost use Rattle.mg_dev.specs.Moments.{Between};
 ghost use Rattle.mg_bool.specs.Matches.{MatchesFit};
 ghost use Rattle.mg_defs.specs.QueryTerms.{query_terms};
 ghost use Rattle.mg_defs.specs.declared.session.Mode.TheVariants as mode;
 ghost use Rattle.mg_query.specs.AllOf.{IsAllOf};
 ghost use Rattle.mg_query.specs.QueryOf.{query_of};
-ghost use Rattle.mg_session.specs.Answering.{HasShowCause, HasShowLack};
+ghost use Rattle.mg_session.specs.Calls.{IsShowable, StepsText};
 ghost use Rattle.mg_session.specs.Parts.{ShownIn, Stepped};
 ghost use Rattle.mg_session.specs.Replying.{AnswersCandidates, AnswersPhrase, SearchesDocument};
-ghost use Rattle.mg_session.specs.Texts.{SameTexts, TextsFit};
+ghost use Rattle.mg_session.specs.Texts.{TextsFit};
 
 use crate::lists::Lists;
 use crate::lookup::Sought;
@@ -30,19 +29,13 @@ fn search_document<S: Store, T: Searched<S>, O: Sink>(
     out: &mut O,
 ) -> Result<(), ShowErr>
     requires few { length phrase.now ≤ 64 }
-    requires fits { TextsFit (S.files store.old) (T.texts texts.old) }
-    requires some { 1 ≤ number }
-    requires within { number ≤ (T.texts texts.old).head.documents }
+    requires showable { IsShowable (S.files store.old) (T.texts texts.old) number }
     requires room { rows.old.total < number }
-    ensures fits { TextsFit (S.files store.new) (T.texts texts.new) }
-    ensures same { SameTexts (T.texts texts.old) (T.texts texts.new) }
     ensures most { OnOk result (rows.new.total ≤ number) }
     ensures searched { SearchesDocument S.Store O.Sink store.old store.new out.old out.new result
         (T.texts texts.old) rows.old rows.new phrase.now number }
-    ensures looked { Between S.files S.reads S.faults store.old store.new (ShownIn mode.Text) }
-    ensures cause { HasShowCause result (S.faults store.old) (S.faults store.new) (O.faults out.old)
-        (O.faults out.new) }
-    ensures lack { HasShowLack (O.lacks out.old) (O.lacks out.new) result }
+    ensures stepped { StepsText S.Store O.Sink store.old store.new out.old out.new result
+        (T.texts texts.old) (T.texts texts.new) (ShownIn mode.Text) }
 {
     let places = match texts.places(store, phrase, number) {
         Ok(places) => places,
@@ -69,14 +62,10 @@ fn search_matches<S: Store, T: Searched<S>, O: Sink>(
     requires on { (base : List ℕ) × MatchesFit base (S.files store.old) matches.old }
     requires first { matches.old.decided ≡ 0 }
     requires all { (T.texts texts.old).head.documents ≡ matches.old.all }
-    ensures fits { TextsFit (S.files store.new) (T.texts texts.new) }
-    ensures same { SameTexts (T.texts texts.old) (T.texts texts.new) }
     ensures answer { AnswersCandidates S.Store O.Sink store.old store.new out.old out.new result
         (T.texts texts.old) matches.old phrase.now }
-    ensures step { Between S.files S.reads S.faults store.old store.new (Stepped mode.Text) }
-    ensures cause { HasShowCause result (S.faults store.old) (S.faults store.new) (O.faults out.old)
-        (O.faults out.new) }
-    ensures lack { HasShowLack (O.lacks out.old) (O.lacks out.new) result }
+    ensures stepped { StepsText S.Store O.Sink store.old store.new out.old out.new result
+        (T.texts texts.old) (T.texts texts.new) (Stepped mode.Text) }
 {
     let mut rows = PhraseRows::new();
     'matches: loop {
@@ -108,15 +97,11 @@ pub(crate) fn answer_phrase<S: Store, T: Searched<S>, O: Sink>(
     requires joined { IsAllOf phrase.now (Some sought.now.query.now) }
     requires fits { TextsFit (S.files store.old) (T.texts texts.old) }
     requires all { (T.texts texts.old).head.documents ≡ lists.now.all }
-    ensures fits { TextsFit (S.files store.new) (T.texts texts.new) }
-    ensures same { SameTexts (T.texts texts.old) (T.texts texts.new) }
     ensures answer { AnswersPhrase S.Store O.Sink store.old store.new out.old out.new result
         lists.now.base.now (T.texts texts.old) lists.now.all
         (query_of sought.now.query.now) sought.now.infos.now phrase.now }
-    ensures step { Between S.files S.reads S.faults store.old store.new (Stepped mode.Text) }
-    ensures cause { HasShowCause result (S.faults store.old) (S.faults store.new) (O.faults out.old)
-        (O.faults out.new) }
-    ensures lack { HasShowLack (O.lacks out.old) (O.lacks out.new) result }
+    ensures stepped { StepsText S.Store O.Sink store.old store.new out.old out.new result
+        (T.texts texts.old) (T.texts texts.new) (Stepped mode.Text) }
 {
     let mut matches = match Matches::start(
         lists.alloc,

@@ -1,7 +1,7 @@
 //! The rows of the documents that have a phrase.
 ghost use Rattle.std.specs.Prelude.{◌≡◌, ◌+◌, ◌≤◌, ◌<◌, [], OnOk, length};
-ghost use Rattle.mg_dev.specs.Causes.{HasPutCause, HasLack};
 ghost use Rattle.mg_reply.specs.Printed.{Passes};
+ghost use Rattle.mg_session.specs.Calls.{StepsPut};
 ghost use Rattle.mg_session.specs.PhraseAnswers.{found_at, rows_of};
 
 use mg_dev::{PutErr, Sink};
@@ -40,8 +40,7 @@ impl PhraseRows {
         ensures counted { OnOk result
             (self.new.total ≡ self.old.total + length (found_at number places)) }
         ensures most { OnOk result (self.new.total ≤ number) }
-        ensures cause { HasPutCause (O.faults out.old) (O.faults out.new) result }
-        ensures lack { HasLack (O.lacks out.old) (O.lacks out.new) result }
+        ensures stepped { StepsPut O.Sink out.old out.new result }
     {
         if places == 0 {
             return Ok(());

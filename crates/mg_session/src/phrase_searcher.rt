@@ -1,18 +1,16 @@
 //! An answerer of phrases over the open parts of a set.
-ghost use Rattle.std.specs.Prelude.{◌≡◌, ◌≤◌, ◌^◌, ℕ, Some, length, IfOk};
+ghost use Rattle.std.specs.Prelude.{◌≡◌, ◌≤◌, ◌^◌, Some, length, IfOk};
 ghost use Rattle.mg_defs.specs.Texts.{count as count_text};
 ghost use Rattle.mg_defs.specs.declared.session.Mode.TheVariants as mode;
-ghost use Rattle.mg_dev.specs.Moments.{Between, store_at};
+ghost use Rattle.mg_dev.specs.Moments.{store_at};
 ghost use Rattle.mg_dev.specs.Streams.{AfterPut};
 ghost use Rattle.mg_query.specs.AllOf.{IsAllOf};
-ghost use Rattle.mg_text.specs.Reading.{ShowIsNotBad};
-ghost use Rattle.mg_session.specs.Answering.{HasShowCause, HasShowLack};
+ghost use Rattle.mg_session.specs.Calls.{StepsOpened, WritesAlone};
 ghost use Rattle.mg_session.specs.Opening.{KeptByQueries, SetOpened};
-ghost use Rattle.mg_session.specs.Parts.{Stepped};
 ghost use Rattle.mg_session.specs.PhraseSearching.{PhrasesAsked, PhrasesBy};
 ghost use Rattle.mg_session.specs.PhraseSearchLaws.{phrases_later, phrases_more, phrases_none, phrases_stop};
 ghost use Rattle.mg_session.specs.Replying.{AnswersWords, RepliesToPhrase};
-ghost use Rattle.mg_session.specs.Searching.{Fits, MayStop, OpenedOver, SameOpened, SearchFits, Searching, opened_at, state_of};
+ghost use Rattle.mg_session.specs.Searching.{Fits, MayStop, OpenedOver, SearchFits, Searching, opened_at, state_of};
 
 use crate::held_text::HeldText;
 use crate::lists::Lists;
@@ -98,15 +96,10 @@ impl<'a, S: Store> PhraseSearcher<'a, S> {
     ) -> Result<(), ShowErr>
         requires short { length line.now ≤ 1024 }
         requires fits { SearchFits (S.files store.old) self.old }
-        ensures fits { SearchFits (S.files store.new) self.new }
-        ensures same { SameOpened self.old self.new }
         ensures replied { RepliesToPhrase S.Store O.Sink store.old store.new out.old out.new result
             self.old line.now }
-        ensures step { Between S.files S.reads S.faults store.old store.new
-            (Stepped mode.Text) }
-        ensures cause { HasShowCause result (S.faults store.old) (S.faults store.new)
-            (O.faults out.old) (O.faults out.new) }
-        ensures lack { HasShowLack (O.lacks out.old) (O.lacks out.new) result }
+        ensures stepped { StepsOpened S.Store O.Sink store.old store.new out.old out.new result
+            self.old self.new mode.Text }
     {
         match parse_phrase(self.lists.alloc, line) {
             Ok(phrase) => self.answer_parsed(store, &phrase, out),
@@ -123,15 +116,10 @@ impl<'a, S: Store> PhraseSearcher<'a, S> {
     ) -> Result<(), ShowErr>
         requires few { length phrase.now ≤ 64 }
         requires fits { SearchFits (S.files store.old) self.old }
-        ensures fits { SearchFits (S.files store.new) self.new }
-        ensures same { SameOpened self.old self.new }
         ensures answer { AnswersWords S.Store O.Sink store.old store.new out.old out.new result
             self.old phrase.now }
-        ensures step { Between S.files S.reads S.faults store.old store.new
-            (Stepped mode.Text) }
-        ensures cause { HasShowCause result (S.faults store.old) (S.faults store.new)
-            (O.faults out.old) (O.faults out.new) }
-        ensures lack { HasShowLack (O.lacks out.old) (O.lacks out.new) result }
+        ensures stepped { StepsOpened S.Store O.Sink store.old store.new out.old out.new result
+            self.old self.new mode.Text }
     {
         match Query::all_of(self.lists.alloc, phrase) {
             Ok(joined) => self.answer_joined(store, phrase, joined, out),
@@ -150,15 +138,10 @@ impl<'a, S: Store> PhraseSearcher<'a, S> {
         requires few { length phrase.now ≤ 64 }
         requires joined { IsAllOf phrase.now joined }
         requires fits { SearchFits (S.files store.old) self.old }
-        ensures fits { SearchFits (S.files store.new) self.new }
-        ensures same { SameOpened self.old self.new }
         ensures answer { AnswersWords S.Store O.Sink store.old store.new out.old out.new result
             self.old phrase.now }
-        ensures step { Between S.files S.reads S.faults store.old store.new
-            (Stepped mode.Text) }
-        ensures cause { HasShowCause result (S.faults store.old) (S.faults store.new)
-            (O.faults out.old) (O.faults out.new) }
-        ensures lack { HasShowLack (O.lacks out.old) (O.lacks out.new) result }
+        ensures stepped { StepsOpened S.Store O.Sink store.old store.new out.old out.new result
+            self.old self.new mode.Text }
     {
         match joined {
             Some(query) => self.answer_words(store, phrase, &query, out),
@@ -178,15 +161,10 @@ impl<'a, S: Store> PhraseSearcher<'a, S> {
         requires few { length phrase.now ≤ 64 }
         requires joined { IsAllOf phrase.now (Some query.now) }
         requires fits { SearchFits (S.files store.old) self.old }
-        ensures fits { SearchFits (S.files store.new) self.new }
-        ensures same { SameOpened self.old self.new }
         ensures answer { AnswersWords S.Store O.Sink store.old store.new out.old out.new result
             self.old phrase.now }
-        ensures step { Between S.files S.reads S.faults store.old store.new
-            (Stepped mode.Text) }
-        ensures cause { HasShowCause result (S.faults store.old) (S.faults store.new)
-            (O.faults out.old) (O.faults out.new) }
-        ensures lack { HasShowLack (O.lacks out.old) (O.lacks out.new) result }
+        ensures stepped { StepsOpened S.Store O.Sink store.old store.new out.old out.new result
+            self.old self.new mode.Text }
     {
         let infos = match find_terms(self.lists.alloc, store, &mut self.lex, phrase.as_slice()) {
             Ok(infos) => infos,
@@ -203,9 +181,7 @@ impl<'a, S: Store> PhraseSearcher<'a, S> {
 /// Writes that no document was found.
 fn answer_none<O: Sink>(out: &mut O) -> Result<(), ShowErr>
     ensures content { AfterPut (O.written out.old) (O.written out.new) (count_text 0) result }
-    ensures sound { ShowIsNotBad result }
-    ensures cause { (s : ℕ) → HasShowCause result s s (O.faults out.old) (O.faults out.new) }
-    ensures lack { HasShowLack (O.lacks out.old) (O.lacks out.new) result }
+    ensures alone { WritesAlone O.Sink out.old out.new result }
 {
     match put_count(out, 0) {
         Ok(()) => Ok(()),

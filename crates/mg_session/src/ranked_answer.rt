@@ -1,14 +1,12 @@
 //! The answer to ranked terms.
 ghost use Rattle.std.specs.Prelude.{◌≡◌, ◌≤◌, All, length};
-ghost use Rattle.mg_dev.specs.Moments.{Between};
 ghost use Rattle.mg_rank.specs.Ranked.{IsNumbered};
-ghost use Rattle.mg_text.specs.Reading.{ShowIsNotBad};
-ghost use Rattle.mg_session.specs.Answering.{HasShowCause, HasShowLack, rows_asked};
-ghost use Rattle.mg_session.specs.Parts.{ShownIn, Stepped};
+ghost use Rattle.mg_session.specs.Answering.{rows_asked};
+ghost use Rattle.mg_session.specs.Calls.{ShowsText, StepsText};
+ghost use Rattle.mg_session.specs.Parts.{Stepped};
 ghost use Rattle.mg_session.specs.Replying.{AnswersTerms};
-ghost use Rattle.mg_session.specs.Sessions.{ForText};
-ghost use Rattle.mg_session.specs.Showing.{PassesRows, PutsRanking, ReadsRows};
-ghost use Rattle.mg_session.specs.Texts.{SameTexts, TextsFit};
+ghost use Rattle.mg_session.specs.Showing.{PassesRows, PutsRanking, ranked_pages};
+ghost use Rattle.mg_session.specs.Texts.{TextsFit};
 
 use crate::documents::Documents;
 use crate::hit::show_doc;
@@ -32,19 +30,10 @@ fn show_rows<S: Store, D: Documents<S>, O: Sink>(
 ) -> Result<(), ShowErr>
     requires fits { TextsFit (S.files store.old) (D.texts texts.old) }
     requires range { All (IsNumbered (D.texts texts.old).head.documents) rows.now }
-    ensures fits { TextsFit (S.files store.new) (D.texts texts.new) }
-    ensures same { SameTexts (D.texts texts.old) (D.texts texts.new) }
-    ensures content { ForText (D.texts texts.old) (S.files store.old)
-        (λ code. PassesRows O.written out.old out.new pending.old pending.new result mode
-        rows.now) }
-    ensures pages { ForText (D.texts texts.old) (S.files store.old)
-        (ReadsRows S.reads store.old store.new mode rows.now) }
-    ensures sound { ForText (D.texts texts.old) (S.files store.old)
-        (λ code collection. ShowIsNotBad result) }
-    ensures looked { Between S.files S.reads S.faults store.old store.new (ShownIn mode) }
-    ensures cause { HasShowCause result (S.faults store.old) (S.faults store.new) (O.faults out.old)
-        (O.faults out.new) }
-    ensures lack { HasShowLack (O.lacks out.old) (O.lacks out.new) result }
+    ensures { ShowsText S.Store O.Sink store.old store.new out.old out.new result
+        (D.texts texts.old) (D.texts texts.new) mode
+        (PassesRows O.written out.old out.new pending.old pending.new result mode rows.now)
+        (ranked_pages mode rows.now) }
 {
     for place in 0..rows.len() {
         let row = rows.row(place);
@@ -74,18 +63,10 @@ fn show_ranked<S: Store, D: Documents<S>, O: Sink>(
 ) -> Result<(), ShowErr>
     requires fits { TextsFit (S.files store.old) (D.texts texts.old) }
     requires range { All (IsNumbered (D.texts texts.old).head.documents) ranked.now.rows }
-    ensures fits { TextsFit (S.files store.new) (D.texts texts.new) }
-    ensures same { SameTexts (D.texts texts.old) (D.texts texts.new) }
-    ensures content { ForText (D.texts texts.old) (S.files store.old)
-        (λ code. PutsRanking O.written out.old out.new result mode ranked.now) }
-    ensures pages { ForText (D.texts texts.old) (S.files store.old)
-        (ReadsRows S.reads store.old store.new mode ranked.now.rows) }
-    ensures sound { ForText (D.texts texts.old) (S.files store.old)
-        (λ code collection. ShowIsNotBad result) }
-    ensures looked { Between S.files S.reads S.faults store.old store.new (ShownIn mode) }
-    ensures cause { HasShowCause result (S.faults store.old) (S.faults store.new) (O.faults out.old)
-        (O.faults out.new) }
-    ensures lack { HasShowLack (O.lacks out.old) (O.lacks out.new) result }
+    ensures { ShowsText S.Store O.Sink store.old store.new out.old out.new result
+        (D.texts texts.old) (D.texts texts.new) mode
+        (PutsRanking O.written out.old out.new result mode ranked.now)
+        (ranked_pages mode ranked.now.rows) }
 {
     let mut pending = Pending::new();
     match show_rows(texts, store, &mut pending, out, mode, ranked.rows()) {
@@ -117,14 +98,10 @@ pub(crate) fn answer_terms<S: Store, D: Documents<S>, O: Sink>(
     requires few { length infos.now ≤ 64 }
     requires fits { TextsFit (S.files store.old) (D.texts texts.old) }
     requires all { (D.texts texts.old).head.documents ≡ lists.now.all }
-    ensures fits { TextsFit (S.files store.new) (D.texts texts.new) }
-    ensures same { SameTexts (D.texts texts.old) (D.texts texts.new) }
     ensures answer { AnswersTerms S.Store O.Sink store.old store.new out.old out.new result
         lists.now.base.now (D.texts texts.old) lists.now.all infos.now now.now }
-    ensures step { Between S.files S.reads S.faults store.old store.new (Stepped now.now.mode) }
-    ensures cause { HasShowCause result (S.faults store.old) (S.faults store.new) (O.faults out.old)
-        (O.faults out.new) }
-    ensures lack { HasShowLack (O.lacks out.old) (O.lacks out.new) result }
+    ensures stepped { StepsText S.Store O.Sink store.old store.new out.old out.new result
+        (D.texts texts.old) (D.texts texts.new) (Stepped now.now.mode) }
 {
     let known = match known_of(lists.alloc, infos) {
         Ok(known) => known,

@@ -8,6 +8,7 @@ ghost use Rattle.mg_dev.specs.PartCauses.{HasPartCause};
 ghost use Rattle.mg_defs.specs.Phrases.{phrase_places};
 ghost use Rattle.mg_defs.specs.Terms.{document};
 ghost use Rattle.mg_defs.specs.declared.session.Mode.TheVariants as mode;
+ghost use Rattle.mg_session.specs.Calls.{IsShowable};
 ghost use Rattle.mg_session.specs.Parts.{ShownIn};
 ghost use Rattle.mg_session.specs.Sessions.{ForText};
 ghost use Rattle.mg_session.specs.Showing.{ReadsShown};
@@ -25,9 +26,7 @@ pub(crate) trait Searched<S: Store> {
     /// One of more bytes than the head tells of the collection is refused as damaged.
     fn places(&mut self, store: &mut S, phrase: &Terms, number: u32) -> Result<u64, PartErr>
         requires few { length phrase.now ≤ 64 }
-        requires fits { TextsFit (S.files store.old) (texts self.old) }
-        requires some { 1 ≤ number }
-        requires within { number ≤ (texts self.old).head.documents }
+        requires showable { IsShowable (S.files store.old) (texts self.old) number }
         ensures fits { TextsFit (S.files store.new) (texts self.new) }
         ensures same { SameTexts (texts self.old) (texts self.new) }
         ensures content { ForText (texts self.old) (S.files store.old)

@@ -5,13 +5,12 @@ ghost use Rattle.std.specs.Str.{bytes_eq};
 ghost use Rattle.mg_defs.specs.PageBounds.{boolean_bound, ranked_bound};
 ghost use Rattle.mg_defs.specs.QueryTerms.{query_terms};
 ghost use Rattle.mg_defs.specs.ShownAnswers.{ranking, satisfying};
-ghost use Rattle.mg_dev.specs.Moments.{Between, store_at};
+ghost use Rattle.mg_dev.specs.Moments.{store_at};
 ghost use Rattle.mg_query.specs.QueryOf.{query_of};
-ghost use Rattle.mg_session.specs.Answering.{HasShowCause, HasShowLack};
+ghost use Rattle.mg_session.specs.Calls.{StepsOpened};
 ghost use Rattle.mg_session.specs.Opening.{KeptByQueries, SetOpened};
-ghost use Rattle.mg_session.specs.Parts.{Stepped};
 ghost use Rattle.mg_session.specs.Replying.{AnswersOpened, RepliesTo};
-ghost use Rattle.mg_session.specs.Searching.{AnswersBy, Asked, Fits, MayStop, OpenedOver, SameOpened, SearchFits, Searching, opened_at, state_of};
+ghost use Rattle.mg_session.specs.Searching.{AnswersBy, Asked, Fits, MayStop, OpenedOver, SearchFits, Searching, opened_at, state_of};
 ghost use Rattle.mg_session.specs.SearchLaws.{answers_later, asked_more, asked_none, stops_later};
 
 use crate::boolean_answer::answer_query;
@@ -94,14 +93,10 @@ impl<'a, S: Store> Searcher<'a, S> {
     ) -> Result<(), ShowErr>
         requires short { length line.now ≤ 1024 }
         requires fits { SearchFits (S.files store.old) self.old }
-        ensures fits { SearchFits (S.files store.new) self.new }
-        ensures same { SameOpened self.old self.new }
         ensures replied { RepliesTo S.Store O.Sink store.old store.new out.old out.new result
             self.old false now.now line.now }
-        ensures step { Between S.files S.reads S.faults store.old store.new (Stepped now.now.mode) }
-        ensures cause { HasShowCause result (S.faults store.old) (S.faults store.new)
-            (O.faults out.old) (O.faults out.new) }
-        ensures lack { HasShowLack (O.lacks out.old) (O.lacks out.new) result }
+        ensures stepped { StepsOpened S.Store O.Sink store.old store.new out.old out.new result
+            self.old self.new now.now.mode }
     {
         match parse_boolean(self.lists.alloc, line) {
             Ok(query) => self.answer_parsed(store, &query, now, out),
@@ -118,16 +113,12 @@ impl<'a, S: Store> Searcher<'a, S> {
         out: &mut O,
     ) -> Result<(), ShowErr>
         requires fits { SearchFits (S.files store.old) self.old }
-        ensures fits { SearchFits (S.files store.new) self.new }
-        ensures same { SameOpened self.old self.new }
         ensures answer { AnswersOpened S.Store O.Sink store.old store.new out.old out.new result
             self.old now.now
             (λ collection. satisfying collection (query_of query.now))
             (λ collection. boolean_bound collection (query_of query.now)) }
-        ensures step { Between S.files S.reads S.faults store.old store.new (Stepped now.now.mode) }
-        ensures cause { HasShowCause result (S.faults store.old) (S.faults store.new)
-            (O.faults out.old) (O.faults out.new) }
-        ensures lack { HasShowLack (O.lacks out.old) (O.lacks out.new) result }
+        ensures stepped { StepsOpened S.Store O.Sink store.old store.new out.old out.new result
+            self.old self.new now.now.mode }
     {
         match query.terms(self.lists.alloc) {
             Ok(terms) => self.answer_known(store, query, &terms, now, out),
@@ -146,16 +137,12 @@ impl<'a, S: Store> Searcher<'a, S> {
     ) -> Result<(), ShowErr>
         requires terms { terms.now ≡ query_terms (query_of query.now) }
         requires fits { SearchFits (S.files store.old) self.old }
-        ensures fits { SearchFits (S.files store.new) self.new }
-        ensures same { SameOpened self.old self.new }
         ensures answer { AnswersOpened S.Store O.Sink store.old store.new out.old out.new result
             self.old now.now
             (λ collection. satisfying collection (query_of query.now))
             (λ collection. boolean_bound collection (query_of query.now)) }
-        ensures step { Between S.files S.reads S.faults store.old store.new (Stepped now.now.mode) }
-        ensures cause { HasShowCause result (S.faults store.old) (S.faults store.new)
-            (O.faults out.old) (O.faults out.new) }
-        ensures lack { HasShowLack (O.lacks out.old) (O.lacks out.new) result }
+        ensures stepped { StepsOpened S.Store O.Sink store.old store.new out.old out.new result
+            self.old self.new now.now.mode }
     {
         let infos = match find_terms(self.lists.alloc, store, &mut self.lex, terms.as_slice()) {
             Ok(infos) => infos,
@@ -178,14 +165,10 @@ impl<'a, S: Store> Searcher<'a, S> {
     ) -> Result<(), ShowErr>
         requires short { length line.now ≤ 1024 }
         requires fits { SearchFits (S.files store.old) self.old }
-        ensures fits { SearchFits (S.files store.new) self.new }
-        ensures same { SameOpened self.old self.new }
         ensures replied { RepliesTo S.Store O.Sink store.old store.new out.old out.new result
             self.old true now.now line.now }
-        ensures step { Between S.files S.reads S.faults store.old store.new (Stepped now.now.mode) }
-        ensures cause { HasShowCause result (S.faults store.old) (S.faults store.new)
-            (O.faults out.old) (O.faults out.new) }
-        ensures lack { HasShowLack (O.lacks out.old) (O.lacks out.new) result }
+        ensures stepped { StepsOpened S.Store O.Sink store.old store.new out.old out.new result
+            self.old self.new now.now.mode }
     {
         match parse_ranked(self.lists.alloc, line) {
             Ok(terms) => self.answer_distinct(store, &terms, now, out),
@@ -204,16 +187,12 @@ impl<'a, S: Store> Searcher<'a, S> {
         requires few { length terms.now ≤ 64 }
         requires apart { IsDistinct bytes_eq terms.now }
         requires fits { SearchFits (S.files store.old) self.old }
-        ensures fits { SearchFits (S.files store.new) self.new }
-        ensures same { SameOpened self.old self.new }
         ensures answer { AnswersOpened S.Store O.Sink store.old store.new out.old out.new result
             self.old now.now
             (λ collection. ranking collection terms.now)
             (λ collection. ranked_bound collection terms.now) }
-        ensures step { Between S.files S.reads S.faults store.old store.new (Stepped now.now.mode) }
-        ensures cause { HasShowCause result (S.faults store.old) (S.faults store.new)
-            (O.faults out.old) (O.faults out.new) }
-        ensures lack { HasShowLack (O.lacks out.old) (O.lacks out.new) result }
+        ensures stepped { StepsOpened S.Store O.Sink store.old store.new out.old out.new result
+            self.old self.new now.now.mode }
     {
         let infos = match find_terms(self.lists.alloc, store, &mut self.lex, terms.as_slice()) {
             Ok(infos) => infos,
@@ -232,14 +211,10 @@ impl<'a, S: Store> Searcher<'a, S> {
     ) -> Result<(), ShowErr>
         requires short { length line.now ≤ 1024 }
         requires fits { SearchFits (S.files store.old) self.old }
-        ensures fits { SearchFits (S.files store.new) self.new }
-        ensures same { SameOpened self.old self.new }
         ensures replied { RepliesTo S.Store O.Sink store.old store.new out.old out.new result
             self.old now.now.ranked now.now line.now }
-        ensures step { Between S.files S.reads S.faults store.old store.new (Stepped now.now.mode) }
-        ensures cause { HasShowCause result (S.faults store.old) (S.faults store.new)
-            (O.faults out.old) (O.faults out.new) }
-        ensures lack { HasShowLack (O.lacks out.old) (O.lacks out.new) result }
+        ensures stepped { StepsOpened S.Store O.Sink store.old store.new out.old out.new result
+            self.old self.new now.now.mode }
     {
         if now.ranked {
             self.answer_ranked(store, line, now, out)

@@ -3,18 +3,13 @@
 //! A reader of the text keeps both models whole, and loading them takes longer than a line that
 //! names documents is worth. So a session that decodes no text, to show it or to seek a phrase in it,
 //! never loads them; one that does loads them once.
-ghost use Rattle.std.specs.Prelude.{◌≡◌, ◌≤◌, None, Some};
+ghost use Rattle.std.specs.Prelude.{◌≡◌, None, Some};
 ghost use Rattle.mg_defs.specs.Terms.{document};
 ghost use Rattle.mg_defs.specs.declared.session.Mode.TheVariants as mode;
-ghost use Rattle.mg_dev.specs.Moments.{Between};
 ghost use Rattle.mg_reply.specs.Printed.{Puts};
 ghost use Rattle.mg_text.specs.Decoding.{AddsOf};
-ghost use Rattle.mg_text.specs.Reading.{ShowIsNotBad};
-ghost use Rattle.mg_session.specs.Answering.{HasShowCause, HasShowLack};
-ghost use Rattle.mg_session.specs.Parts.{ShownIn};
-ghost use Rattle.mg_session.specs.Sessions.{ForText};
-ghost use Rattle.mg_session.specs.Showing.{ReadsShown};
-ghost use Rattle.mg_session.specs.Texts.{SameTexts, TextsFit};
+ghost use Rattle.mg_session.specs.Calls.{IsShowable, ShowsText};
+ghost use Rattle.mg_session.specs.Showing.{shown_pages};
 
 use crate::documents::Documents;
 use mg_dev::{ShowErr, Sink, Store};
@@ -62,22 +57,11 @@ impl<'a, S: Store> Texts<'a, S> {
 
     // Loads what shows the documents, shows one by it, and keeps it for the next.
     fn load_doc<O: Sink>(&mut self, store: &mut S, number: u32, out: &mut O) -> Result<(), ShowErr>
-        requires fits { TextsFit (S.files store.old) self.old }
-        requires some { 1 ≤ number }
-        requires within { number ≤ self.old.head.documents }
-        ensures fits { TextsFit (S.files store.new) self.new }
-        ensures same { SameTexts self.old self.new }
-        ensures content { ForText self.old (S.files store.old)
-            (λ code collection. Puts O.written out.old out.new result
-            (document collection number)) }
-        ensures pages { ForText self.old (S.files store.old)
-            (ReadsShown S.reads store.old store.new mode.Text number None) }
-        ensures sound { ForText self.old (S.files store.old)
-            (λ code collection. ShowIsNotBad result) }
-        ensures looked { Between S.files S.reads S.faults store.old store.new (ShownIn mode.Text) }
-        ensures cause { HasShowCause result (S.faults store.old) (S.faults store.new)
-            (O.faults out.old) (O.faults out.new) }
-        ensures lack { HasShowLack (O.lacks out.old) (O.lacks out.new) result }
+        requires { IsShowable (S.files store.old) self.old number }
+        ensures shown { ShowsText S.Store O.Sink store.old store.new out.old out.new result
+            self.old self.new mode.Text
+            (λ collection. Puts O.written out.old out.new result (document collection number))
+            (shown_pages mode.Text number None) }
         ensures added { AddsOf O.written O.faults O.lacks out.old out.new self.old.head.collection 0 }
     {
         let mut reader = match TextReader::load(self.alloc, store, self.base, &self.head) {

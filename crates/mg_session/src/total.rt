@@ -1,9 +1,8 @@
 //! The end of an answer.
-ghost use Rattle.std.specs.Prelude.{◌++◌, ℕ};
+ghost use Rattle.std.specs.Prelude.{◌++◌};
 ghost use Rattle.mg_defs.specs.Texts.{count as count_text};
 ghost use Rattle.mg_reply.specs.Printed.{Puts};
-ghost use Rattle.mg_text.specs.Reading.{ShowIsNotBad};
-ghost use Rattle.mg_session.specs.Answering.{HasShowCause, HasShowLack};
+ghost use Rattle.mg_session.specs.Calls.{WritesAlone};
 
 use mg_dev::{ShowErr, Sink};
 use mg_reply::Pending;
@@ -15,9 +14,7 @@ pub(crate) fn put_total<O: Sink>(
     total: u32,
 ) -> Result<(), ShowErr>
     ensures content { Puts O.written out.old out.new result (pending.old ++ count_text total) }
-    ensures sound { ShowIsNotBad result }
-    ensures cause { (s : ℕ) → HasShowCause result s s (O.faults out.old) (O.faults out.new) }
-    ensures lack { HasShowLack (O.lacks out.old) (O.lacks out.new) result }
+    ensures alone { WritesAlone O.Sink out.old out.new result }
 {
     match pending.count(out, total) {
         Ok(()) => {}

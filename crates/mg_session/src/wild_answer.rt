@@ -1,22 +1,18 @@
 //! The answer to a pattern: the terms that match it, and the documents that have one of them.
-ghost use Rattle.std.specs.Prelude.{◌≡◌, ◌<◌, ◌++◌, ℕ, [], ◌∷◌, All, length};
-ghost use Rattle.mg_dev.specs.Causes.{HasPutCause, HasLack};
+ghost use Rattle.std.specs.Prelude.{◌≡◌, ◌++◌, ℕ, [], ◌∷◌};
 ghost use Rattle.mg_dev.specs.Each.{ForEach};
-ghost use Rattle.mg_dev.specs.Moments.{Between};
-ghost use Rattle.mg_dev.specs.PartCauses.{HasPartCause};
-ghost use Rattle.mg_defs.specs.PageBounds.{list_pages, ranked_bound};
+ghost use Rattle.mg_defs.specs.PageBounds.{list_pages};
 ghost use Rattle.mg_defs.specs.WildSession.{numbers_text, term_row};
 ghost use Rattle.mg_bits.specs.Pages.{Fits};
 ghost use Rattle.mg_post.specs.ListReading.{ForReader, SameSource, current_doc};
 ghost use Rattle.mg_rank.specs.Ranked.{ForTerm, PostWithin};
 ghost use Rattle.mg_reply.specs.Printed.{Passes, Puts};
-ghost use Rattle.mg_text.specs.Reading.{ShowIsNotBad};
 ghost use Rattle.mg_wild.specs.Patterns.{sides_of};
-ghost use Rattle.mg_session.specs.Answering.{HasShowCause, HasShowLack};
+ghost use Rattle.mg_session.specs.Calls.{StepsPut, WritesAlone};
 ghost use Rattle.mg_session.specs.DocumentSets.{marked_to};
 ghost use Rattle.mg_session.specs.Replying.{AnswersPattern};
-ghost use Rattle.mg_session.specs.WildAnswers.{ForLexTerms, ReadsNoOther, WildSources, pattern_pages};
-ghost use Rattle.mg_session.specs.WildMarks.{MarksLists, MarksTerms, ReadsBase, ReadsPost, rows_at, terms_at};
+ghost use Rattle.mg_session.specs.WildAnswers.{ForLexTerms, StepsPattern, WildSources, pattern_pages};
+ghost use Rattle.mg_session.specs.WildMarks.{AreNumbersOf, MarksLists, MarksNumbers, ReadsBase, StepsMarks, rows_at};
 
 use crate::document_set::DocumentSet;
 use crate::lists::Lists;
@@ -39,14 +35,11 @@ fn mark_postings<S: Store>(
     requires fits { Fits reader.old.post (S.files store.old) }
     ensures fits { Fits reader.new.post (S.files store.new) }
     ensures same { SameSource reader.old reader.new }
-    ensures room { marked.new.all ≡ all }
     ensures answer { ForReader (S.files store.old) 0 reader.old
         (λ base collection t. MarksLists (t ∷ []) marked.old marked.new result collection) }
     ensures pages { ForReader (S.files store.old) 0 reader.old
         (λ base collection t. PostWithin S.reads store.old store.new (list_pages collection t)) }
-    ensures reads { ReadsPost (S.reads store.old) (S.reads store.new) }
-    ensures files { S.files store.new ≡ S.files store.old }
-    ensures cause { HasPartCause (S.faults store.old) (S.faults store.new) result }
+    ensures stepped { StepsMarks S.Store store.old store.new result all marked.new }
 {
     let mut last = 0;
     while last < all {
@@ -74,14 +67,11 @@ fn mark_list<S: Store>(
     requires fits { Fits reader.old.post (S.files store.old) }
     ensures over { ReadsBase lists.now.base.now lists.now.all reader.new }
     ensures fits { Fits reader.new.post (S.files store.new) }
-    ensures room { marked.new.all ≡ lists.now.all }
     ensures answer { ForTerm lists.now.base.now (S.files store.old) info.now lists.now.all
         (λ collection t. MarksLists (t ∷ []) marked.old marked.new result collection) }
     ensures pages { ForTerm lists.now.base.now (S.files store.old) info.now lists.now.all
         (λ collection t. PostWithin S.reads store.old store.new (list_pages collection t)) }
-    ensures reads { ReadsPost (S.reads store.old) (S.reads store.new) }
-    ensures files { S.files store.new ≡ S.files store.old }
-    ensures cause { HasPartCause (S.faults store.old) (S.faults store.new) result }
+    ensures stepped { StepsMarks S.Store store.old store.new result lists.now.all marked.new }
 {
     reader.open(info);
     mark_postings(reader, store, lists.all, marked)
@@ -99,20 +89,10 @@ fn mark_lists<S: Store>(
 ) -> Result<(), PartErr>
     requires over { ReadsBase lists.now.base.now lists.now.all reader.old }
     requires fits { Fits reader.old.post (S.files store.old) }
-    requires each { length terms.now.infos ≡ length terms.now.terms }
-    requires terms { All (λ n. n < length terms.now.terms) numbers.now }
+    requires numbers { AreNumbersOf terms.now numbers.now }
     requires room { marked.old.all ≡ lists.now.all }
-    ensures room { marked.new.all ≡ lists.now.all }
-    ensures answer { ForEach
-        (WildSources lists.now.base.now (S.files store.old) terms.now lists.now.all)
-        (MarksTerms numbers.now marked.old marked.new result) }
-    ensures pages { ForEach
-        (WildSources lists.now.base.now (S.files store.old) terms.now lists.now.all)
-        (λ collection. PostWithin S.reads store.old store.new
-        (ranked_bound collection (terms_at collection numbers.now))) }
-    ensures reads { ReadsPost (S.reads store.old) (S.reads store.new) }
-    ensures files { S.files store.new ≡ S.files store.old }
-    ensures cause { HasPartCause (S.faults store.old) (S.faults store.new) result }
+    ensures { MarksNumbers S.Store store.old store.new result lists.now.base.now terms.now
+        lists.now.all numbers.now marked.old marked.new }
 {
     for number in numbers {
         let info = terms.info(*number);
@@ -124,7 +104,7 @@ fn mark_lists<S: Store>(
     Ok(())
 }
 
-/// The same with a reader of its own.
+/// Starts a reader of the lists, and marks the documents that have one of the terms with these numbers.
 fn mark_all<S: Store>(
     lists: &Lists<'_>,
     store: &mut S,
@@ -132,20 +112,10 @@ fn mark_all<S: Store>(
     numbers: &[u32],
     marked: &mut DocumentSet,
 ) -> Result<(), PartErr>
-    requires each { length terms.now.infos ≡ length terms.now.terms }
-    requires terms { All (λ n. n < length terms.now.terms) numbers.now }
+    requires numbers { AreNumbersOf terms.now numbers.now }
     requires room { marked.old.all ≡ lists.now.all }
-    ensures room { marked.new.all ≡ lists.now.all }
-    ensures answer { ForEach
-        (WildSources lists.now.base.now (S.files store.old) terms.now lists.now.all)
-        (MarksTerms numbers.now marked.old marked.new result) }
-    ensures pages { ForEach
-        (WildSources lists.now.base.now (S.files store.old) terms.now lists.now.all)
-        (λ collection. PostWithin S.reads store.old store.new
-        (ranked_bound collection (terms_at collection numbers.now))) }
-    ensures reads { ReadsPost (S.reads store.old) (S.reads store.new) }
-    ensures files { S.files store.new ≡ S.files store.old }
-    ensures cause { HasPartCause (S.faults store.old) (S.faults store.new) result }
+    ensures { MarksNumbers S.Store store.old store.new result lists.now.base.now terms.now
+        lists.now.all numbers.now marked.old marked.new }
 {
     match ListReader::start(lists.alloc, lists.base, lists.all) {
         Ok(mut reader) => mark_lists(lists, &mut reader, store, terms, numbers, marked),
@@ -162,8 +132,7 @@ fn pass_term<O: Sink>(
 ) -> Result<(), PutErr>
     ensures content { Passes O.written out.old out.new pending.old pending.new result
         (term_row term.now docs) }
-    ensures cause { HasPutCause (O.faults out.old) (O.faults out.new) result }
-    ensures lack { HasLack (O.lacks out.old) (O.lacks out.new) result }
+    ensures stepped { StepsPut O.Sink out.old out.new result }
 {
     match pending.put(out, b"+ ") {
         Ok(()) => {}
@@ -186,13 +155,11 @@ fn pass_terms<O: Sink>(
     terms: &Rotated,
     numbers: &[u32],
 ) -> Result<(), PutErr>
-    requires each { length terms.now.infos ≡ length terms.now.terms }
-    requires terms { All (λ n. n < length terms.now.terms) numbers.now }
+    requires numbers { AreNumbersOf terms.now numbers.now }
     ensures content { ForLexTerms terms.now
         (λ collection. Passes O.written out.old out.new pending.old pending.new result
         (rows_at numbers.now collection)) }
-    ensures cause { HasPutCause (O.faults out.old) (O.faults out.new) result }
-    ensures lack { HasLack (O.lacks out.old) (O.lacks out.new) result }
+    ensures stepped { StepsPut O.Sink out.old out.new result }
 {
     for number in numbers {
         let info = terms.info(*number);
@@ -212,8 +179,7 @@ fn pass_marked<O: Sink>(
 ) -> Result<(), PutErr>
     ensures content { Passes O.written out.old out.new pending.old pending.new result
         (numbers_text (marked_to marked.now marked.now.all)) }
-    ensures cause { HasPutCause (O.faults out.old) (O.faults out.new) result }
-    ensures lack { HasLack (O.lacks out.old) (O.lacks out.new) result }
+    ensures stepped { StepsPut O.Sink out.old out.new result }
 {
     let mut last = 0;
     let mut total = 0u32;
@@ -236,14 +202,11 @@ fn show_matching<O: Sink>(
     marked: &DocumentSet,
     out: &mut O,
 ) -> Result<(), ShowErr>
-    requires each { length terms.now.infos ≡ length terms.now.terms }
-    requires terms { All (λ n. n < length terms.now.terms) numbers.now }
+    requires numbers { AreNumbersOf terms.now numbers.now }
     ensures content { ForLexTerms terms.now
         (λ collection. Puts O.written out.old out.new result
         (rows_at numbers.now collection ++ numbers_text (marked_to marked.now marked.now.all))) }
-    ensures sound { ShowIsNotBad result }
-    ensures cause { (s : ℕ) → HasShowCause result s s (O.faults out.old) (O.faults out.new) }
-    ensures lack { HasShowLack (O.lacks out.old) (O.lacks out.new) result }
+    ensures alone { WritesAlone O.Sink out.old out.new result }
 {
     let mut pending = Pending::new();
     match pass_terms(&mut pending, out, terms, numbers) {
@@ -281,10 +244,7 @@ pub(crate) fn answer_pattern<S: Store, O: Sink>(
         (WildSources lists.now.base.now (S.files store.old) terms.now lists.now.all)
         (λ collection. PostWithin S.reads store.old store.new
         (pattern_pages collection (sides_of pattern.now))) }
-    ensures step { Between S.files S.reads S.faults store.old store.new ReadsNoOther }
-    ensures cause { HasShowCause result (S.faults store.old) (S.faults store.new) (O.faults out.old)
-        (O.faults out.new) }
-    ensures lack { HasShowLack (O.lacks out.old) (O.lacks out.new) result }
+    ensures stepped { StepsPattern S.Store O.Sink store.old store.new out.old out.new result }
 {
     // For the proof: something is told of each term.
     let _ = terms.len();

@@ -2,17 +2,16 @@
 ghost use Rattle.std.specs.Prelude.{◌≡◌, ◌≤◌, ℕ, List, IfOk, IfSome, IsSome, length};
 ghost use Rattle.mg_defs.specs.Patterns.{pattern_of};
 ghost use Rattle.mg_defs.specs.WildSession.{bad_pattern};
-ghost use Rattle.mg_dev.specs.Causes.{HasPutCause, HasLack};
 ghost use Rattle.mg_dev.specs.Each.{ForEach};
-ghost use Rattle.mg_dev.specs.Moments.{Between, store_at};
+ghost use Rattle.mg_dev.specs.Moments.{store_at};
 ghost use Rattle.mg_dev.specs.Runs.{RefusedFor};
 ghost use Rattle.mg_dev.specs.declared.fault.Fault.TheVariants.{TooManyRotations};
 ghost use Rattle.mg_rank.specs.Ranked.{PostWithin};
 ghost use Rattle.mg_reply.specs.Printed.{Puts};
 ghost use Rattle.mg_wild.specs.Patterns.{bad_of};
-ghost use Rattle.mg_session.specs.Answering.{HasShowCause, HasShowLack};
+ghost use Rattle.mg_session.specs.Calls.{StepsPut, WritesAlone};
 ghost use Rattle.mg_session.specs.Opening.{KeptByPatterns, SetOpened};
-ghost use Rattle.mg_session.specs.WildAnswers.{ReadsNoOther, wild_pages};
+ghost use Rattle.mg_session.specs.WildAnswers.{StepsPattern, wild_pages};
 ghost use Rattle.mg_session.specs.Replying.{RepliesToPattern};
 ghost use Rattle.mg_session.specs.WildSearching.{HasRoom, PartsAreBy, PartsAreOf, WildAsked, WildBy, WildFits, WildMayStop, WildState, wild_state};
 ghost use Rattle.mg_session.specs.WildServes.{CountedBy, TooManyBy, fault_of_rotated as fault_of_rotated_spec};
@@ -62,8 +61,7 @@ fn fault_of_rotated(error: RotErr) -> Fault
 /// Writes that a line is no pattern, and from which place on.
 fn put_bad_pattern<O: Sink>(out: &mut O, at: u32) -> Result<(), PutErr>
     ensures content { Puts O.written out.old out.new result (bad_pattern at) }
-    ensures cause { HasPutCause (O.faults out.old) (O.faults out.new) result }
-    ensures lack { HasLack (O.lacks out.old) (O.lacks out.new) result }
+    ensures stepped { StepsPut O.Sink out.old out.new result }
 {
     let mut pending = Pending::new();
     match pending.put(out, b"? bad pattern at ") {
@@ -82,8 +80,7 @@ fn refuse_pattern<O: Sink>(out: &mut O, why: PatternErr) -> Result<(), ShowErr>
     ensures replied { (line : List ℕ) → IfSome (bad_of why) (λ bad. pattern_of line ≡ bad) →
         (collection : List ℕ) →
         RepliesToPattern O.written out.old out.new result line collection }
-    ensures cause { (s : ℕ) → HasShowCause result s s (O.faults out.old) (O.faults out.new) }
-    ensures lack { HasShowLack (O.lacks out.old) (O.lacks out.new) result }
+    ensures alone { WritesAlone O.Sink out.old out.new result }
 {
     match why {
         PatternErr::Bad { at } => match put_bad_pattern(out, at) {
@@ -162,10 +159,7 @@ impl<'a, S: Store> WildSearcher<'a, S> {
         ensures pages { ForEach (PartsAreOf (S.files store.old) self.old)
             (λ collection. PostWithin S.reads store.old store.new
             (wild_pages collection line.now)) }
-        ensures step { Between S.files S.reads S.faults store.old store.new ReadsNoOther }
-        ensures cause { HasShowCause result (S.faults store.old) (S.faults store.new)
-            (O.faults out.old) (O.faults out.new) }
-        ensures lack { HasShowLack (O.lacks out.old) (O.lacks out.new) result }
+        ensures stepped { StepsPattern S.Store O.Sink store.old store.new out.old out.new result }
     {
         let pattern = match read_pattern(self.lists.alloc, line) {
             Ok(pattern) => pattern,

@@ -4,6 +4,7 @@ use Rattle.mg_defs.specs.ShownAnswers.{satisfying}
 use Rattle.mg_query.specs.QueryOf.{query_of}
 use Rattle.mg_query.specs.declared.query.Query.{Query}
 use Rattle.mg_session.specs.Answering.{Answered}
+use Rattle.mg_session.proofs.CallLaws.{text_lacked}
 use Rattle.mg_session.proofs.ReplyLaws.{none_answered}
 use Rattle.mg_session.proofs.boolean_answer.answer_query.Goals as goal
 
@@ -21,3 +22,9 @@ returns-clause-answer g c = λ code collection stands told.
 
 pub show_matches-requires-clause-on : goal.show_matches-requires-clause-on
 show_matches-requires-clause-on g c = (c.args.lists.now.base.now, c.in-Ok.ensures.fits _)
+
+pub returns-in-Err-clause-stepped : goal.returns-in-Err-clause-stepped
+returns-in-Err-clause-stepped g c = text_lacked c.requires.fits
+
+pub returns-clause-stepped : goal.returns-clause-stepped
+returns-clause-stepped g c = c.show_matches.ensures.stepped

@@ -1,5 +1,18 @@
+use Rattle.std.proofs.Common.{arith}
 use Rattle.mg_reply.proofs.CallerLemmas.{pass_nothing}
+use Rattle.mg_session.proofs.CallLaws.{put_done, put_refused, shown_unread}
 use Rattle.mg_session.proofs.hit.show_doc.Goals as goal
 
-pub returns-in-Count-clause-content : goal.returns-in-Count-clause-content
-returns-in-Count-clause-content g c = λ code collection is. rw c.in-Count.is (pass_nothing _ _)
+pub returns-in-Ok : goal.returns-in-Ok
+returns-in-Ok g c = rw c.in-Docnums.is (shown_unread c.requires.fits (put_done c.in-Ok.ensures.cause.later c.in-Ok.ensures.lack.later) (λ code collection is. c.in-Ok.ensures.content))
+
+pub returns-in-Err : goal.returns-in-Err
+returns-in-Err g c =
+    let e = c.in-Err.ensures in
+    rw c.in-Docnums.is (shown_unread c.requires.fits (put_refused c.in-Err.refusal c.from.ensures e.cause e.lack (omega arith) (omega arith)) (λ code collection is. e.content))
+
+pub returns-in-Text : goal.returns-in-Text
+returns-in-Text g c = rw c.in-Text.is c.show_text.ensures
+
+pub returns-in-Count : goal.returns-in-Count
+returns-in-Count g c = rw c.in-Count.is (shown_unread c.requires.fits (put_done (omega arith) (omega arith)) (λ code collection is. pass_nothing _ _))

@@ -1,27 +1,44 @@
+use Rattle.std.proofs.Common.{arith}
 use Rattle.mg_defs.specs.Terms.{document}
 use Rattle.mg_defs.specs.Texts.{close, header}
+use Rattle.mg_session.proofs.CallLaws.{put_done, put_refused, shown_around, shown_behind, shown_unread}
 use Rattle.mg_session.proofs.ShowLaws.{close_cut, doc_closed, doc_cut, flush_cut, header_cut, pass_flushed}
 use Rattle.mg_session.proofs.hit.show_text.Goals as goal
 
-pub returns-in-Err-clause-content : goal.returns-in-Err-clause-content
-returns-in-Err-clause-content g c = λ code collection is. header_cut _ _ c.args.pending.now (header c.args.number c.args.score) (document collection c.args.number) close c.in-Err.ensures.content
+pub returns-in-Err : goal.returns-in-Err
+returns-in-Err g c =
+    let e = c.in-Err.ensures in
+    shown_unread c.requires.fits (put_refused c.in-Err.refusal c.from.ensures e.cause e.lack (omega arith) (omega arith))
+    (λ code collection is. header_cut _ _ c.args.pending.now (header c.args.number c.args.score) (document collection c.args.number) close e.content)
 
-pub returns-in-Err-flush-clause-content : goal.returns-in-Err-flush-clause-content
-returns-in-Err-flush-clause-content g c = λ code collection is.
-    header_cut _ _ c.args.pending.now (header c.args.number c.args.score) (document collection c.args.number) close
-    (flush_cut _ _ _ _ _ _ c.in-Ok.ensures.content c.in-Err-flush.ensures.content)
+pub returns-in-Err-flush : goal.returns-in-Err-flush
+returns-in-Err-flush g c =
+    let h = c.in-Ok.ensures in
+    let e = c.in-Err-flush.ensures in
+    shown_unread c.requires.fits (put_refused c.in-Err-flush.refusal c.from-in-Err-flush.ensures e.cause e.lack h.cause.later h.lack.later)
+    (λ code collection is. header_cut _ _ c.args.pending.now (header c.args.number c.args.score) (document collection c.args.number) close
+    (flush_cut _ _ _ _ _ _ h.content e.content))
 
-pub returns-in-Err-doc-clause-content : goal.returns-in-Err-doc-clause-content
-returns-in-Err-doc-clause-content g c = λ code collection is.
-    doc_cut _ _ _ _ _ _ _ _ (pass_flushed _ _ _ _ _ _ _ c.in-Ok.ensures.content c.in-Ok-flush.ensures.content c.in-Ok-flush.ensures.empty)
-    c.in-Ok-flush.ensures.empty (c.in-Err-doc.ensures.content code collection is)
+pub returns-in-Err-doc : goal.returns-in-Err-doc
+returns-in-Err-doc g c =
+    let h = c.in-Ok.ensures in
+    let f = c.in-Ok-flush.ensures in
+    shown_behind c.in-Err-doc.ensures.shown (omega (arith, h.cause.later, f.cause.later)) (omega (arith, h.lack.later, f.lack.later))
+    (λ code collection is put. doc_cut _ _ _ _ _ _ _ _ (pass_flushed _ _ _ _ _ _ _ h.content f.content f.empty) f.empty put)
 
-pub returns-in-Ok-close-clause-content : goal.returns-in-Ok-close-clause-content
-returns-in-Ok-close-clause-content g c = λ code collection is.
-    doc_closed _ _ _ _ _ _ _ _ _ _ (pass_flushed _ _ _ _ _ _ _ c.in-Ok.ensures.content c.in-Ok-flush.ensures.content c.in-Ok-flush.ensures.empty)
-    c.in-Ok-flush.ensures.empty (c.in-Ok-doc.ensures.content code collection is) c.in-Ok-close.ensures.content
+pub returns-in-Ok-close : goal.returns-in-Ok-close
+returns-in-Ok-close g c =
+    let h = c.in-Ok.ensures in
+    let f = c.in-Ok-flush.ensures in
+    let e = c.in-Ok-close.ensures in
+    shown_around c.in-Ok-doc.ensures.shown (put_done e.cause.later e.lack.later) (omega (arith, h.cause.later, f.cause.later)) (omega (arith, h.lack.later, f.lack.later))
+    (λ code collection is put. doc_closed _ _ _ _ _ _ _ _ _ _ (pass_flushed _ _ _ _ _ _ _ h.content f.content f.empty) f.empty put e.content)
 
-pub returns-in-Err-close-clause-content : goal.returns-in-Err-close-clause-content
-returns-in-Err-close-clause-content g c = λ code collection is.
-    close_cut _ _ _ _ _ _ _ _ _ (pass_flushed _ _ _ _ _ _ _ c.in-Ok.ensures.content c.in-Ok-flush.ensures.content c.in-Ok-flush.ensures.empty)
-    c.in-Ok-flush.ensures.empty (c.in-Ok-doc.ensures.content code collection is) c.in-Err-close.ensures.content
+pub returns-in-Err-close : goal.returns-in-Err-close
+returns-in-Err-close g c =
+    let h = c.in-Ok.ensures in
+    let f = c.in-Ok-flush.ensures in
+    let e = c.in-Err-close.ensures in
+    shown_around c.in-Ok-doc.ensures.shown (put_refused c.in-Err-close.refusal c.from-in-Err-close.ensures e.cause e.lack (omega arith) (omega arith))
+    (omega (arith, h.cause.later, f.cause.later)) (omega (arith, h.lack.later, f.lack.later))
+    (λ code collection is put. close_cut _ _ _ _ _ _ _ _ _ (pass_flushed _ _ _ _ _ _ _ h.content f.content f.empty) f.empty put e.content)

@@ -5,8 +5,9 @@ use Rattle.mg_bool.specs.Places.{IsToldOf}
 use Rattle.mg_layout.specs.declared.term_info.TermInfo.{TermInfo}
 use Rattle.mg_session.specs.Answering.{FirstInfos}
 use Rattle.mg_session.specs.SearchLaws.{lex_later, parts_then}
-use Rattle.mg_session.proofs.FindLaws.{infos_all, infos_more, told_of}
+use Rattle.mg_session.proofs.FindLaws.{infos_all, infos_more, told_of, told_or}
 use Rattle.mg_session.proofs.StepLaws.{looked_then}
+use Rattle.mg_session.proofs.WildListLaws.{caused_then}
 use Rattle.mg_session.proofs.lookup.find_terms.Goals as goal
 
 pub loop-term-preserved : goal.loop-term-preserved
@@ -28,3 +29,53 @@ pub returns-clause-answer : goal.returns-clause-answer
 returns-clause-answer g c = λ version collection limits stands.
     infos_all collection c.args.terms.now c.loop-term.term-index c.loop-term.infos.items (c.loop-term.invariant.told version collection limits stands)
     c.loop-term.invariant.size (omega (arith, c.loop-term-test.false, c.loop-term.auto.term-index-end))
+
+-- ---- the lexicon is refused
+
+pub returns-in-Err-clause-fits : goal.returns-in-Err-clause-fits
+returns-in-Err-clause-fits g c = c.in-Err.ensures.fits
+
+pub returns-in-Err-clause-same : goal.returns-in-Err-clause-same
+returns-in-Err-clause-same g c = parts_then _ _ _ c.loop-term.invariant.same c.in-Err.ensures.same
+
+pub returns-in-Err-clause-answer : goal.returns-in-Err-clause-answer
+returns-in-Err-clause-answer g c = λ version collection limits stands.
+    told_or collection _ c.in-Err.refusal _ (c.in-Err.ensures.info version collection limits
+    (lex_later _ _ _ _ collection c.loop-term.invariant.same c.loop-term.invariant.looked.files stands))
+
+pub returns-in-Err-clause-looked : goal.returns-in-Err-clause-looked
+returns-in-Err-clause-looked g c = looked_then _ _ _ _ _ _ _ _ _ _ _ c.loop-term.invariant.looked c.in-Err.ensures.looked
+
+pub returns-in-Err-clause-cause : goal.returns-in-Err-clause-cause
+returns-in-Err-clause-cause g c = caused_then c.in-Err.refusal c.loop-term.invariant.looked.faults c.in-Err.ensures.cause
+
+-- ---- memory is wanting
+
+pub returns-in-Err-push-clause-fits : goal.returns-in-Err-push-clause-fits
+returns-in-Err-push-clause-fits g c = c.in-Ok.ensures.fits
+
+pub returns-in-Err-push-clause-same : goal.returns-in-Err-push-clause-same
+returns-in-Err-push-clause-same g c = parts_then _ _ _ c.loop-term.invariant.same c.in-Ok.ensures.same
+
+pub returns-in-Err-push-clause-answer : goal.returns-in-Err-push-clause-answer
+returns-in-Err-push-clause-answer g c = λ version collection limits stands. tt
+
+pub returns-in-Err-push-clause-looked : goal.returns-in-Err-push-clause-looked
+returns-in-Err-push-clause-looked g c = looked_then _ _ _ _ _ _ _ _ _ _ _ c.loop-term.invariant.looked c.in-Ok.ensures.looked
+
+pub returns-in-Err-push-clause-cause : goal.returns-in-Err-push-clause-cause
+returns-in-Err-push-clause-cause g c = record { later = omega (arith, c.loop-term.invariant.looked.faults, c.in-Ok.ensures.cause.later); device = tt }
+
+-- ---- all terms are looked up
+
+pub returns-clause-fits : goal.returns-clause-fits
+returns-clause-fits g c = c.loop-term.invariant.fits
+
+pub returns-clause-same : goal.returns-clause-same
+returns-clause-same g c = c.loop-term.invariant.same
+
+pub returns-clause-looked : goal.returns-clause-looked
+returns-clause-looked g c = c.loop-term.invariant.looked
+
+pub returns-clause-cause : goal.returns-clause-cause
+returns-clause-cause g c = record { later = c.loop-term.invariant.looked.faults; device = tt }

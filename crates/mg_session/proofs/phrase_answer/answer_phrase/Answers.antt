@@ -1,6 +1,7 @@
 use Rattle.std.proofs.Common.{◌∙◌, Some, subst, sym}
 use Rattle.mg_query.specs.AllOf.{IsAllOf}
 use Rattle.mg_query.specs.declared.query.Query.{Query}
+use Rattle.mg_session.proofs.CallLaws.{text_lacked}
 use Rattle.mg_session.proofs.PhraseReplyLaws.{none_answered}
 use Rattle.mg_session.proofs.phrase_answer.answer_phrase.Goals as goal
 
@@ -18,3 +19,9 @@ returns-clause-answer g c = λ code collection stands told.
 
 pub search_matches-requires-clause-on : goal.search_matches-requires-clause-on
 search_matches-requires-clause-on g c = (c.args.lists.now.base.now, c.in-Ok.ensures.fits _)
+
+pub returns-in-Err-clause-stepped : goal.returns-in-Err-clause-stepped
+returns-in-Err-clause-stepped g c = text_lacked c.requires.fits
+
+pub returns-clause-stepped : goal.returns-clause-stepped
+returns-clause-stepped g c = c.search_matches.ensures.stepped

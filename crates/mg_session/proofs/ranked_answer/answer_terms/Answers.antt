@@ -3,10 +3,11 @@ use Rattle.mg_layout.specs.declared.term_info.TermInfo.{TermInfo}
 use Rattle.mg_rank.specs.Ranked.{AreTold}
 use Rattle.mg_session.specs.Answering.{known_terms}
 use Rattle.mg_session.specs.SearchLaws.{same_texts, texts_later}
+use Rattle.mg_session.proofs.CallLaws.{shown_text, text_lacked, text_refused, text_shown, text_start}
 use Rattle.mg_session.proofs.KnownLaws.{known_bound, known_hits, known_told}
 use Rattle.mg_session.proofs.RankedLaws.{are_rows, rows_end, terms_stop}
 use Rattle.mg_session.proofs.ReplyLaws.{none_answered, top_sound}
-use Rattle.mg_session.proofs.StepLaws.{ranked_text, shown_post}
+use Rattle.mg_session.proofs.StepLaws.{ranked_step, ranked_text, shown_post}
 use Rattle.mg_session.proofs.ranked_answer.answer_terms.Goals as goal
 
 pub returns-in-Err-clause-answer : goal.returns-in-Err-clause-answer
@@ -35,3 +36,16 @@ returns-clause-answer g c = λ code collection stands terms told apart.
     (c.in-Ok-rank.ensures.pages collection kept stands.weights.lists is_told stands.all_is) (ranked_text _ _ c.in-Ok-rank.ensures.reads)
     (c.show_ranked.ensures.content code collection text) (shown_post _ _ _ _ _ _ _ c.show_ranked.ensures.looked)
     (c.show_ranked.ensures.pages code collection text) (c.show_ranked.ensures.sound code collection text)
+
+pub returns-in-Err-clause-stepped : goal.returns-in-Err-clause-stepped
+returns-in-Err-clause-stepped g c = text_lacked c.requires.fits
+
+pub returns-in-Err-rank-clause-stepped : goal.returns-in-Err-rank-clause-stepped
+returns-in-Err-rank-clause-stepped g c =
+    let e = c.in-Err-rank.ensures in
+    text_refused (text_start c.requires.fits) (ranked_step _ _ _ _ _ _ _ e.files e.cause.later e.reads) c.in-Err-rank.refusal c.from.ensures e.cause
+
+pub returns-clause-stepped : goal.returns-clause-stepped
+returns-clause-stepped g c =
+    let e = c.in-Ok-rank.ensures in
+    text_shown (text_start c.requires.fits) (ranked_step _ _ _ _ _ _ _ e.files e.cause.later e.reads) (shown_text c.show_ranked.ensures)

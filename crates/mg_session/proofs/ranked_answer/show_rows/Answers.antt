@@ -2,7 +2,8 @@ use Rattle.std.proofs.Common.{arith, ◌≡◌, ap, length, subst}
 use Rattle.mg_layout.specs.declared.head.Head.{Head}
 use Rattle.mg_session.specs.Answering.{RowsShown}
 use Rattle.mg_session.specs.SearchLaws.{same_texts, texts_later, texts_then}
-use Rattle.mg_session.proofs.StepLaws.{shown_none, shown_then}
+use Rattle.mg_session.proofs.StepLaws.{cause_after, shown_none, shown_then}
+use Rattle.mg_session.proofs.TotalLaws.{lack_after}
 use Rattle.mg_session.proofs.RankedLaws.{numbered, pages_cut, rows_cut, rows_more, rows_passed, rows_read, rows_start}
 use Rattle.mg_session.proofs.ranked_answer.show_rows.Goals as goal
 
@@ -16,18 +17,14 @@ loop-place-init g c = record {
   shown = λ code collection is. rows_start _ _ _ _ _ _ _;
 }
 
-pub show_doc-requires-clause-some : goal.show_doc-requires-clause-some
-show_doc-requires-clause-some g c = (numbered (g.D.Documents.texts c.args.texts.now).head.documents c.args.rows.now c.loop-place.place c.row-row.result.number
-    c.requires.range (omega arith) c.row-row.ensures.number).0
-
-pub show_doc-requires-clause-within : goal.show_doc-requires-clause-within
-show_doc-requires-clause-within g c =
-    omega (
-      arith,
-      (numbered (g.D.Documents.texts c.args.texts.now).head.documents c.args.rows.now c.loop-place.place c.row-row.result.number c.requires.range
-          (omega arith) c.row-row.ensures.number).1,
-      ap (λ (h : Head). h.documents) c.loop-place.invariant.same.head,
-    )
+pub show_doc-requires : goal.show_doc-requires
+show_doc-requires g c =
+    let numbered_row = numbered (g.D.Documents.texts c.args.texts.now).head.documents c.args.rows.now c.loop-place.place c.row-row.result.number c.requires.range (omega arith) c.row-row.ensures.number in
+    record {
+      fits = c.loop-place.invariant.fits;
+      some = numbered_row.0;
+      within = omega (arith, numbered_row.1, ap (λ (h : Head). h.documents) c.loop-place.invariant.same.head);
+    }
 
 pub loop-place-preserved : goal.loop-place-preserved
 loop-place-preserved g c =
@@ -46,40 +43,54 @@ loop-place-preserved g c =
           (c.in-Ok.ensures.pages code collection text);
     }
 
-pub returns-in-Err-clause-content : goal.returns-in-Err-clause-content
-returns-in-Err-clause-content g c = λ code collection is.
-    let inv = c.loop-place.invariant in
-    let text = texts_later _ _ _ _ code collection inv.same inv.looked.files is in
-    rows_cut code collection c.args.mode c.args.rows.now c.loop-place.place c.row-row.result.number c.row-row.result.score _ _ _ _ _ _
-    (g.S.Store.reads c.loop-place.store) (omega arith) c.row-row.ensures.number c.row-row.ensures.score (inv.shown code collection is)
-    (c.in-Err.ensures.content code collection text)
+pub returns-in-Err : goal.returns-in-Err
+returns-in-Err g c =
+    let so_far = c.loop-place.invariant in
+    let e = c.in-Err.ensures in
+    record {
+      fits = e.fits;
+      same = texts_then _ _ _ so_far.same e.same;
+      content = λ code collection is.
+          let inv = c.loop-place.invariant in
+          let text = texts_later _ _ _ _ code collection inv.same inv.looked.files is in
+          rows_cut code collection c.args.mode c.args.rows.now c.loop-place.place c.row-row.result.number c.row-row.result.score _ _ _ _ _ _
+          (g.S.Store.reads c.loop-place.store) (omega arith) c.row-row.ensures.number c.row-row.ensures.score (inv.shown code collection is)
+          (c.in-Err.ensures.content code collection text);
+      pages = λ code collection is.
+          let inv = c.loop-place.invariant in
+          let text = texts_later _ _ _ _ code collection inv.same inv.looked.files is in
+          pages_cut code collection c.args.mode c.args.rows.now c.loop-place.place c.row-row.result.number c.row-row.result.score _ _ _ _ _
+          (g.S.Store.reads c.loop-place.store) (g.S.Store.reads c.show_doc.new.store) (omega arith) c.row-row.ensures.number c.row-row.ensures.score
+          (inv.shown code collection is)
+          (c.in-Err.ensures.pages code collection text);
+      sound = λ code collection is.
+          let inv = c.loop-place.invariant in
+          c.in-Err.ensures.sound code collection (texts_later _ _ _ _ code collection inv.same inv.looked.files is);
+      looked = shown_then _ _ _ _ _ _ _ _ _ _ so_far.looked e.looked;
+      cause = cause_after _ _ _ _ _ _ _ so_far.looked.faults so_far.output e.cause;
+      lack = lack_after _ _ _ _ so_far.lacks e.lack;
+    }
 
-pub returns-in-Err-clause-pages : goal.returns-in-Err-clause-pages
-returns-in-Err-clause-pages g c = λ code collection is.
-    let inv = c.loop-place.invariant in
-    let text = texts_later _ _ _ _ code collection inv.same inv.looked.files is in
-    pages_cut code collection c.args.mode c.args.rows.now c.loop-place.place c.row-row.result.number c.row-row.result.score _ _ _ _ _
-    (g.S.Store.reads c.loop-place.store) (g.S.Store.reads c.show_doc.new.store) (omega arith) c.row-row.ensures.number c.row-row.ensures.score
-    (inv.shown code collection is)
-    (c.in-Err.ensures.pages code collection text)
-
-pub returns-in-Err-clause-sound : goal.returns-in-Err-clause-sound
-returns-in-Err-clause-sound g c = λ code collection is.
-    let inv = c.loop-place.invariant in
-    c.in-Err.ensures.sound code collection (texts_later _ _ _ _ code collection inv.same inv.looked.files is)
-
-pub returns-clause-content : goal.returns-clause-content
-returns-clause-content g c = λ code collection is.
-    let all : c.loop-place.place ≡ length c.args.rows.now = omega arith in
-    rows_passed code collection c.args.mode c.args.rows.now _ _ _ _ (g.S.Store.reads c.args.store.now) (g.S.Store.reads c.loop-place.store)
-    (subst (λ k. RowsShown code collection c.args.mode c.args.rows.now k (g.O.Sink.written c.args.out.now) (g.O.Sink.written c.loop-place.out)
-    c.args.pending.now c.loop-place.pending (g.S.Store.reads c.args.store.now) (g.S.Store.reads c.loop-place.store)) all
-    (c.loop-place.invariant.shown code collection is))
-
-pub returns-clause-pages : goal.returns-clause-pages
-returns-clause-pages g c = λ code collection is.
-    let all : c.loop-place.place ≡ length c.args.rows.now = omega arith in
-    rows_read code collection c.args.mode c.args.rows.now (g.O.Sink.written c.args.out.now) (g.O.Sink.written c.loop-place.out) c.args.pending.now
-    c.loop-place.pending _ _ (subst (λ k. RowsShown code collection c.args.mode c.args.rows.now k (g.O.Sink.written c.args.out.now)
-    (g.O.Sink.written c.loop-place.out) c.args.pending.now c.loop-place.pending (g.S.Store.reads c.args.store.now) (g.S.Store.reads c.loop-place.store)) all
-    (c.loop-place.invariant.shown code collection is))
+pub returns : goal.returns
+returns g c =
+    let so_far = c.loop-place.invariant in
+    record {
+      fits = so_far.fits;
+      same = so_far.same;
+      content = λ code collection is.
+          let all : c.loop-place.place ≡ length c.args.rows.now = omega arith in
+          rows_passed code collection c.args.mode c.args.rows.now _ _ _ _ (g.S.Store.reads c.args.store.now) (g.S.Store.reads c.loop-place.store)
+          (subst (λ k. RowsShown code collection c.args.mode c.args.rows.now k (g.O.Sink.written c.args.out.now) (g.O.Sink.written c.loop-place.out)
+          c.args.pending.now c.loop-place.pending (g.S.Store.reads c.args.store.now) (g.S.Store.reads c.loop-place.store)) all
+          (c.loop-place.invariant.shown code collection is));
+      pages = λ code collection is.
+          let all : c.loop-place.place ≡ length c.args.rows.now = omega arith in
+          rows_read code collection c.args.mode c.args.rows.now (g.O.Sink.written c.args.out.now) (g.O.Sink.written c.loop-place.out) c.args.pending.now
+          c.loop-place.pending _ _ (subst (λ k. RowsShown code collection c.args.mode c.args.rows.now k (g.O.Sink.written c.args.out.now)
+          (g.O.Sink.written c.loop-place.out) c.args.pending.now c.loop-place.pending (g.S.Store.reads c.args.store.now) (g.S.Store.reads c.loop-place.store)) all
+          (c.loop-place.invariant.shown code collection is));
+      sound = λ code collection is. tt;
+      looked = so_far.looked;
+      cause = record { store = so_far.looked.faults; output = so_far.output; caused = tt };
+      lack = record { later = so_far.lacks; lacked = tt };
+    }

@@ -1,4 +1,5 @@
 use Rattle.std.proofs.Common.{arith, refl}
+use Rattle.mg_session.proofs.WildListLaws.{post_same}
 use Rattle.mg_session.proofs.wild_answer.mark_all.Goals as goal
 
 pub mark_lists-requires-clause-over : goal.mark_lists-requires-clause-over
@@ -7,11 +8,12 @@ mark_lists-requires-clause-over g c = record { post = c.in-Ok.ensures.post; docu
 pub mark_lists-requires-clause-fits : goal.mark_lists-requires-clause-fits
 mark_lists-requires-clause-fits g c = c.in-Ok.ensures.fits _
 
-pub returns-in-Err-clause-answer : goal.returns-in-Err-clause-answer
-returns-in-Err-clause-answer g c = λ collection sources. tt
+pub returns-in-Err : goal.returns-in-Err
+returns-in-Err g c = record {
+  answer = λ collection sources. tt;
+  pages = λ collection sources. omega arith;
+  step = record { room = c.requires.room; files = refl; reads = post_same _; cause = record { later = omega arith; device = tt } };
+}
 
-pub returns-in-Err-clause-pages : goal.returns-in-Err-clause-pages
-returns-in-Err-clause-pages g c = λ collection sources. omega arith
-
-pub returns-in-Err-clause-reads : goal.returns-in-Err-clause-reads
-returns-in-Err-clause-reads g c = record { later = λ p. omega arith; others = λ p a. refl }
+pub returns-in-Ok : goal.returns-in-Ok
+returns-in-Ok g c = c.mark_lists.ensures

@@ -26,3 +26,6 @@ pub returns-clause-pages : goal.returns-clause-pages
 returns-clause-pages g c = λ collection t stand told all_is.
     c.mark_postings.ensures.pages c.args.lists.now.base.now collection t stand
     (c.open.ensures.list c.args.lists.now.base.now collection t _ stand told (c.requires.over.documents ∙ all_is) c.requires.over.post)
+
+pub returns-clause-stepped : goal.returns-clause-stepped
+returns-clause-stepped g c = c.mark_postings.ensures.stepped

@@ -1,7 +1,7 @@
-use Rattle.std.proofs.Common.{arith, ◌≤◌, ◌<◌, ◌+◌, sym, ◌∙◌, subst, refl}
+use Rattle.std.proofs.Common.{arith, ◌≤◌, ◌<◌, sym, ◌∙◌, subst, refl}
 use Rattle.mg_post.specs.TermLists.{ListsStand}
 use Rattle.mg_post.proofs.CallerLemmas.{none_at, pages_read}
-use Rattle.mg_session.proofs.WildListLaws.{marking_end, marking_next, marking_start, or_list}
+use Rattle.mg_session.proofs.WildListLaws.{caused_then, marking_end, marking_next, marking_start, or_list, post_same, post_then}
 use Rattle.mg_session.proofs.wild_answer.mark_postings.Goals as goal
 
 pub loop-last-init : goal.loop-last-init
@@ -13,7 +13,7 @@ loop-last-init g c = record {
   same = record { post = refl; all = refl };
   current = c.requires.first;
   files = refl;
-  reads = record { later = λ p. omega arith; others = λ p a. refl };
+  reads = post_same _;
   faults = omega arith;
   walk = λ base collection t stand list. marking_start collection t c.args.marked.now;
   list = λ base collection t stand list. list;
@@ -47,10 +47,7 @@ loop-last-preserved g c =
       same = record { post = c.next.ensures.same.post ∙ inv.same.post; all = c.next.ensures.same.all ∙ inv.same.all };
       current = (rw c.in-Ok-Some.field-0-is at c.in-Ok-Some.ensures.current);
       files = c.next.ensures.files ∙ inv.files;
-      reads = record {
-        later = λ p. omega (arith, inv.reads.later p, c.next.ensures.later p);
-        others = λ p a. c.next.ensures.others p a ∙ inv.reads.others p a;
-      };
+      reads = post_then inv.reads (record { later = c.next.ensures.later; others = c.next.ensures.others });
       faults = omega (arith, inv.faults, c.next.ensures.cause.later);
       walk = λ base collection t stand list.
           let stand2 = subst (λ fs. ListsStand base fs collection) (sym inv.files) stand in
@@ -110,12 +107,31 @@ returns-in-Err-clause-same g c =
     let step = c.next.ensures.same in
     record { post = step.post ∙ before.post; all = step.all ∙ before.all }
 
-pub returns-in-Ok-None-clause-reads : goal.returns-in-Ok-None-clause-reads
-returns-in-Ok-None-clause-reads g c =
-    let before = c.loop-last.invariant.reads in
-    record { later = λ p. omega (arith, before.later p, c.next.ensures.later p); others = λ p a. c.next.ensures.others p a ∙ before.others p a }
+-- ---- what is left of the marks and the store
 
-pub returns-in-Err-clause-reads : goal.returns-in-Err-clause-reads
-returns-in-Err-clause-reads g c =
-    let before = c.loop-last.invariant.reads in
-    record { later = λ p. omega (arith, before.later p, c.next.ensures.later p); others = λ p a. c.next.ensures.others p a ∙ before.others p a }
+pub returns-in-Ok-None-clause-stepped : goal.returns-in-Ok-None-clause-stepped
+returns-in-Ok-None-clause-stepped g c =
+    let before = c.loop-last.invariant in
+    let e = c.next.ensures in
+    record {
+      room = before.room;
+      files = e.files ∙ before.files;
+      reads = post_then before.reads (record { later = e.later; others = e.others });
+      cause = record { later = omega (arith, before.faults, e.cause.later); device = tt };
+    }
+
+pub returns-in-Err-clause-stepped : goal.returns-in-Err-clause-stepped
+returns-in-Err-clause-stepped g c =
+    let before = c.loop-last.invariant in
+    let e = c.next.ensures in
+    record {
+      room = before.room;
+      files = e.files ∙ before.files;
+      reads = post_then before.reads (record { later = e.later; others = e.others });
+      cause = caused_then c.in-Err.refusal before.faults c.in-Err.ensures.cause;
+    }
+
+pub returns-clause-stepped : goal.returns-clause-stepped
+returns-clause-stepped g c =
+    let before = c.loop-last.invariant in
+    record { room = before.room; files = before.files; reads = before.reads; cause = record { later = before.faults; device = tt } }

@@ -1,8 +1,7 @@
-use Rattle.std.proofs.Common.{◌-◌, ◌≡◌, ◌+◌, ◌≤◌, ℕ, List}
-use Rattle.mg_dev.specs.declared.part.Part.TheVariants as part
+use Rattle.std.proofs.Common.{◌-◌, ◌≡◌, ◌≤◌}
 use Rattle.mg_bits.specs.Pages.{Fits}
-use Rattle.mg_post.specs.ListReading.{ReaderFor, SameSource, current_doc, read_pages}
-use Rattle.mg_post.specs.TermLists.{ListsStand}
+use Rattle.mg_post.specs.ListReading.{ForReader, ReaderFor, SameSource, current_doc, read_pages}
+use Rattle.mg_rank.specs.Ranked.{PostWithin}
 use Rattle.mg_session.specs.WildMarks.{ReadsPost}
 use Rattle.mg_session.proofs.WildListLaws.{Marking}
 use Rattle.mg_session.proofs.wild_answer.mark_postings.Given as goal
@@ -18,9 +17,9 @@ invariant-loop-last g l = record {
   files : g.S.Store.files l.store ≡ g.S.Store.files l.fn.store;
   reads : ReadsPost (g.S.Store.reads l.fn.store) (g.S.Store.reads l.store);
   faults : g.S.Store.faults l.fn.store ≤ g.S.Store.faults l.store;
-  walk : (base collection t : List ℕ) → ListsStand base (g.S.Store.files l.fn.store) collection → ReaderFor base collection t 0 l.fn.reader → Marking collection t l.last l.fn.marked l.marked;
-  list : (base collection t : List ℕ) → ListsStand base (g.S.Store.files l.fn.store) collection → ReaderFor base collection t 0 l.fn.reader → ReaderFor base collection t l.last l.reader;
-  post : (base collection t : List ℕ) → ListsStand base (g.S.Store.files l.fn.store) collection → ReaderFor base collection t 0 l.fn.reader → g.S.Store.reads l.store part.Post ≤ g.S.Store.reads l.fn.store part.Post + read_pages collection t l.reader;
+  walk : ForReader (g.S.Store.files l.fn.store) 0 l.fn.reader (λ base collection t. Marking collection t l.last l.fn.marked l.marked);
+  list : ForReader (g.S.Store.files l.fn.store) 0 l.fn.reader (λ base collection t. ReaderFor base collection t l.last l.reader);
+  post : ForReader (g.S.Store.files l.fn.store) 0 l.fn.reader (λ base collection t. PostWithin g.S.Store.reads l.fn.store l.store (read_pages collection t l.reader));
 }
 
 abbrev pub decreases-loop-last : goal.decreases-loop-last

@@ -1,4 +1,5 @@
 use Rattle.std.proofs.Common.{arith, ◌+◌, ◌∙◌, ap}
+use Rattle.mg_session.proofs.CallLaws.{put_behind}
 use Rattle.mg_session.proofs.WildTextLaws.{rows_counted, rows_cut, rows_passed, rows_start, size_next, size_start}
 use Rattle.mg_session.proofs.wild_answer.pass_marked.Goals as goal
 
@@ -34,3 +35,9 @@ pub returns-clause-content : goal.returns-clause-content
 returns-clause-content g c =
     let none = (rw c.in_default.is at c.next_behind.ensures) in
     rows_counted c.args.marked.now c.rows.last c.rows.total _ _ _ _ _ _ c.count.result c.rows.invariant.most none c.rows.invariant.size c.rows.invariant.passed c.count.ensures.content
+
+pub returns-in-Err-clause-stepped : goal.returns-in-Err-clause-stepped
+returns-in-Err-clause-stepped g c = put_behind c.in-Err.ensures.cause c.in-Err.ensures.lack c.rows.invariant.output c.rows.invariant.lacks
+
+pub returns-clause-stepped : goal.returns-clause-stepped
+returns-clause-stepped g c = put_behind c.count.ensures.cause c.count.ensures.lack c.rows.invariant.output c.rows.invariant.lacks

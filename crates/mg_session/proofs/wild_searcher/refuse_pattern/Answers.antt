@@ -1,3 +1,5 @@
+use Rattle.std.proofs.Common.{arith}
+use Rattle.mg_session.proofs.CallLaws.{output_lacked, put_done, put_refused}
 use Rattle.mg_session.proofs.ReplyLaws.{put_sound}
 use Rattle.mg_session.proofs.WildReplyLaws.{line_bad, line_unread}
 use Rattle.mg_session.proofs.wild_searcher.refuse_pattern.Goals as goal
@@ -12,3 +14,12 @@ returns-in-Err-clause-replied g c = λ line said collection.
 
 pub returns-in-Memory-clause-replied : goal.returns-in-Memory-clause-replied
 returns-in-Memory-clause-replied g c = λ line said collection. line_unread collection line _ _ tt
+
+pub returns-in-Ok-clause-alone : goal.returns-in-Ok-clause-alone
+returns-in-Ok-clause-alone g c = put_done c.in-Ok.ensures.stepped.cause.later c.in-Ok.ensures.stepped.lack.later
+
+pub returns-in-Err-clause-alone : goal.returns-in-Err-clause-alone
+returns-in-Err-clause-alone g c = put_refused c.in-Err.refusal c.from.ensures c.in-Err.ensures.stepped.cause c.in-Err.ensures.stepped.lack (omega arith) (omega arith)
+
+pub returns-in-Memory-clause-alone : goal.returns-in-Memory-clause-alone
+returns-in-Memory-clause-alone g c = output_lacked

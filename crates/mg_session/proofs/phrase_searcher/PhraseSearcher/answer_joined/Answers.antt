@@ -1,5 +1,6 @@
 use Rattle.std.proofs.Common.{subst}
 use Rattle.mg_query.specs.AllOf.{IsAllOf}
+use Rattle.mg_session.proofs.CallLaws.{opened_unread}
 use Rattle.mg_session.proofs.PhraseReplyLaws.{none_counted}
 use Rattle.mg_session.proofs.phrase_searcher.PhraseSearcher.answer_joined.Goals as goal
 
@@ -9,7 +10,10 @@ answer_words-requires-clause-joined g c = subst (IsAllOf c.args.phrase.now) c.in
 pub returns-in-None-clause-answer : goal.returns-in-None-clause-answer
 returns-in-None-clause-answer g c = λ code collection over.
     none_counted code collection c.args.phrase.now _ _ _ _ (subst (IsAllOf c.args.phrase.now) c.in-None.is c.requires.joined)
-    c.answer_none.ensures.content c.answer_none.ensures.sound
+    c.answer_none.ensures.content c.answer_none.ensures.alone.sound
 
-pub returns-in-None-clause-cause : goal.returns-in-None-clause-cause
-returns-in-None-clause-cause g c = c.answer_none.ensures.cause _
+pub returns-in-None-clause-stepped : goal.returns-in-None-clause-stepped
+returns-in-None-clause-stepped g c = opened_unread c.requires.fits c.answer_none.ensures.alone
+
+pub returns-in-Some-clause-stepped : goal.returns-in-Some-clause-stepped
+returns-in-Some-clause-stepped g c = c.answer_words.ensures.stepped

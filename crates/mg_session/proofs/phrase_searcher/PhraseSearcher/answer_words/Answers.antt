@@ -6,6 +6,7 @@ use Rattle.mg_layout.specs.declared.term_info.TermInfo.{TermInfo}
 use Rattle.mg_lex.specs.Reading.{LexStands}
 use Rattle.mg_query.specs.QueryOf.{query_of}
 use Rattle.mg_session.specs.Searching.{Opened, OpenedOver}
+use Rattle.mg_session.proofs.CallLaws.{opened_answered, opened_refused}
 use Rattle.mg_session.proofs.PhraseReplyLaws.{answered_behind, nothing_answered}
 use Rattle.mg_session.proofs.PhraseWalkLaws.{terms_joined}
 use Rattle.mg_session.proofs.ReplyLaws.{answers_for, part_sound}
@@ -37,3 +38,13 @@ returns-clause-answer g c = λ code collection over.
     answered_behind code collection c.args.phrase.now _ _ _ (g.S.Store.reads c.find_terms.new.store) _ _
     (c.answer_phrase.ensures.answer code collection stands same)
     (lex_post _ _ _ _ _ _ c.in-Ok.ensures.looked) (lex_text _ _ _ _ _ _ c.in-Ok.ensures.looked)
+
+pub returns-in-Err-clause-stepped : goal.returns-in-Err-clause-stepped
+returns-in-Err-clause-stepped g c =
+    let e = c.in-Err.ensures in
+    opened_refused c.self.view_is c.requires.fits e.fits e.same e.looked c.in-Err.refusal c.from.ensures e.cause
+
+pub returns-clause-stepped : goal.returns-clause-stepped
+returns-clause-stepped g c =
+    let e = c.in-Ok.ensures in
+    opened_answered c.self.view_is c.requires.fits e.fits e.same e.looked c.answer_phrase.ensures.stepped

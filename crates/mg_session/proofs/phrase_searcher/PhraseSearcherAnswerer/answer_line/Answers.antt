@@ -3,7 +3,7 @@ use Rattle.mg_defs.specs.declared.session.Settings.{Settings}
 use Rattle.mg_dev.specs.Streams.{AfterPut}
 use Rattle.mg_session.specs.Searching.{state_of}
 use Rattle.mg_session.proofs.PhraseReplyLaws.{phrases_asked}
-use Rattle.mg_session.proofs.ReplyLaws.{line_part}
+use Rattle.mg_session.proofs.ReplyLaws.{line_part, line_written}
 use Rattle.mg_session.proofs.phrase_searcher.PhraseSearcherAnswerer.answer_line.Goals as goal
 
 pub returns-clause-content : goal.returns-clause-content
@@ -16,10 +16,19 @@ pub returns-clause-after : goal.returns-clause-after
 returns-clause-after g c = phrases_asked
     (state_of (g.S.Store.files c.args.dev.now) (g.S.Store.reads c.args.dev.now) (g.S.Store.faults c.args.dev.now) c.args.self.now)
     (state_of (g.S.Store.files c.answer_question.new.store) (g.S.Store.reads c.answer_question.new.store) (g.S.Store.faults c.answer_question.new.store) c.answer_question.new.self)
-    _ _ _ _ _ c.answer_question.ensures.step c.answer_question.ensures.same c.answer_question.ensures.replied
+    _ _ _ _ _ c.answer_question.ensures.stepped.step c.answer_question.ensures.stepped.same c.answer_question.ensures.replied
 
 pub returns-clause-part : goal.returns-clause-part
 returns-clause-part g c = line_part
     (state_of (g.S.Store.files c.args.dev.now) (g.S.Store.reads c.args.dev.now) (g.S.Store.faults c.args.dev.now) c.args.self.now)
     (state_of (g.S.Store.files c.answer_question.new.store) (g.S.Store.reads c.answer_question.new.store) (g.S.Store.faults c.answer_question.new.store) c.answer_question.new.self)
-    _ _ _ c.answer_question.ensures.cause (λ code collection over. (c.answer_question.ensures.replied code collection over).sound)
+    _ _ _ c.answer_question.ensures.stepped.cause (λ code collection over. (c.answer_question.ensures.replied code collection over).sound)
+
+pub returns-clause-fits : goal.returns-clause-fits
+returns-clause-fits g c = c.answer_question.ensures.stepped.fits
+
+pub returns-clause-later : goal.returns-clause-later
+returns-clause-later g c = c.answer_question.ensures.stepped.cause.output
+
+pub returns-clause-write : goal.returns-clause-write
+returns-clause-write g c = line_written _ _ _ _ _ c.answer_question.ensures.stepped.cause

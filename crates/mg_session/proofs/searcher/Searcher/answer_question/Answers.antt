@@ -13,3 +13,9 @@ returns-else-now-clause-replied g c = λ code collection over.
     subst (λ (by : Bool). Replied code collection by c.args.now.now c.args.line.now (g.O.Sink.written c.args.out.now)
     (g.O.Sink.written c.answer_boolean.new.out) (g.S.Store.reads c.args.store.now) (g.S.Store.reads c.answer_boolean.new.store) c.answer_boolean.result)
     (sym c.if-now.false) (c.answer_boolean.ensures.replied code collection over)
+
+pub returns-then-now-clause-stepped : goal.returns-then-now-clause-stepped
+returns-then-now-clause-stepped g c = c.answer_ranked.ensures.stepped
+
+pub returns-else-now-clause-stepped : goal.returns-else-now-clause-stepped
+returns-else-now-clause-stepped g c = c.answer_boolean.ensures.stepped

@@ -1,17 +1,15 @@
 use Rattle.std.proofs.Common.{refl}
+use Rattle.mg_session.proofs.CallLaws.{line_told, opened_unread}
 use Rattle.mg_session.proofs.TermLaws.{line_terms}
-use Rattle.mg_session.proofs.ReplyLaws.{ranked_answered, ranked_refused, refused_cause, refused_lack}
+use Rattle.mg_session.proofs.ReplyLaws.{ranked_answered, ranked_refused}
 use Rattle.mg_session.proofs.searcher.Searcher.answer_ranked.Goals as goal
 
 pub returns-in-Err-clause-replied : goal.returns-in-Err-clause-replied
 returns-in-Err-clause-replied g c = λ code collection over.
     ranked_refused c.in-Err.why code collection _ _ _ _ _ _ _ _ c.in-Err.ensures.refused c.answer_refused.ensures.content c.answer_refused.ensures.cause
 
-pub returns-in-Err-clause-cause : goal.returns-in-Err-clause-cause
-returns-in-Err-clause-cause g c = refused_cause _ _ _ _ _ c.answer_refused.ensures.later c.answer_refused.ensures.cause
-
-pub returns-in-Err-clause-lack : goal.returns-in-Err-clause-lack
-returns-in-Err-clause-lack g c = refused_lack _ _ _ _ c.answer_refused.ensures.lacks c.answer_refused.ensures.cause
+pub returns-in-Err-clause-stepped : goal.returns-in-Err-clause-stepped
+returns-in-Err-clause-stepped g c = opened_unread c.requires.fits (line_told _ c.answer_refused.ensures.later c.answer_refused.ensures.lacks c.answer_refused.ensures.cause)
 
 pub answer_distinct-requires-clause-few : goal.answer_distinct-requires-clause-few
 answer_distinct-requires-clause-few g c = (line_terms c.args.line.now c.in-Ok.terms c.in-Ok.ensures.reads).few
@@ -22,3 +20,6 @@ answer_distinct-requires-clause-apart g c = (line_terms c.args.line.now c.in-Ok.
 pub returns-in-Ok-clause-replied : goal.returns-in-Ok-clause-replied
 returns-in-Ok-clause-replied g c = λ code collection over.
     ranked_answered code collection c.in-Ok.terms _ _ _ _ _ _ _ _ c.in-Ok.ensures.reads (c.answer_distinct.ensures.answer code collection over) refl refl
+
+pub returns-in-Ok-clause-stepped : goal.returns-in-Ok-clause-stepped
+returns-in-Ok-clause-stepped g c = c.answer_distinct.ensures.stepped

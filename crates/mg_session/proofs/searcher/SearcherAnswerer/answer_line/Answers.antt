@@ -2,7 +2,7 @@ use Rattle.std.proofs.Common.{List, ℕ, sym, subst}
 use Rattle.mg_defs.specs.declared.session.Settings.{Settings}
 use Rattle.mg_dev.specs.Streams.{AfterPut}
 use Rattle.mg_session.specs.Searching.{state_of}
-use Rattle.mg_session.proofs.ReplyLaws.{asked_one, line_part, line_put}
+use Rattle.mg_session.proofs.ReplyLaws.{asked_one, line_part, line_put, line_written}
 use Rattle.mg_session.proofs.searcher.SearcherAnswerer.answer_line.Goals as goal
 
 pub returns-clause-content : goal.returns-clause-content
@@ -15,10 +15,19 @@ pub returns-clause-after : goal.returns-clause-after
 returns-clause-after g c = asked_one
     (state_of (g.S.Store.files c.args.dev.now) (g.S.Store.reads c.args.dev.now) (g.S.Store.faults c.args.dev.now) c.args.self.now)
     (state_of (g.S.Store.files c.answer_question.new.store) (g.S.Store.reads c.answer_question.new.store) (g.S.Store.faults c.answer_question.new.store) c.answer_question.new.self)
-    _ _ _ _ _ c.answer_question.ensures.step c.answer_question.ensures.same c.answer_question.ensures.replied
+    _ _ _ _ _ c.answer_question.ensures.stepped.step c.answer_question.ensures.stepped.same c.answer_question.ensures.replied
 
 pub returns-clause-part : goal.returns-clause-part
 returns-clause-part g c = line_part
     (state_of (g.S.Store.files c.args.dev.now) (g.S.Store.reads c.args.dev.now) (g.S.Store.faults c.args.dev.now) c.args.self.now)
     (state_of (g.S.Store.files c.answer_question.new.store) (g.S.Store.reads c.answer_question.new.store) (g.S.Store.faults c.answer_question.new.store) c.answer_question.new.self)
-    _ _ _ c.answer_question.ensures.cause (λ code collection over. (c.answer_question.ensures.replied code collection over).sound)
+    _ _ _ c.answer_question.ensures.stepped.cause (λ code collection over. (c.answer_question.ensures.replied code collection over).sound)
+
+pub returns-clause-fits : goal.returns-clause-fits
+returns-clause-fits g c = c.answer_question.ensures.stepped.fits
+
+pub returns-clause-later : goal.returns-clause-later
+returns-clause-later g c = c.answer_question.ensures.stepped.cause.output
+
+pub returns-clause-write : goal.returns-clause-write
+returns-clause-write g c = line_written _ _ _ _ _ c.answer_question.ensures.stepped.cause

@@ -1,24 +1,25 @@
-use Rattle.std.proofs.Common.{arith, sym, subst, ◌∙◌, ap}
-use Rattle.mg_session.specs.Texts.{Texting, TextsStand}
-use Rattle.mg_session.proofs.TextsLaws.{same_pages, short_document, texts_reader}
+use Rattle.std.proofs.Common.{arith, refl, sym, subst}
+use Rattle.mg_defs.specs.Terms.{document}
+use Rattle.mg_dev.specs.Streams.{AfterPut}
+use Rattle.mg_session.specs.Texts.{Texting, TextsFit, TextsStand}
+use Rattle.mg_session.proofs.StepLaws.{shown_none}
+use Rattle.mg_session.proofs.TextsLaws.{read_shown, same_pages, short_document, texts_reader}
 use Rattle.mg_session.proofs.texts.TextsDocuments.doc.Goals as goal
 
-pub returns-in-Some-clause-content : goal.returns-in-Some-clause-content
-returns-in-Some-clause-content g c = λ code collection is.
+pub returns-in-Some-clause-shown : goal.returns-in-Some-clause-shown
+returns-in-Some-clause-shown g c =
+    let e = c.doc_within.ensures in
+    let before = shown_none _ (g.S.Store.files c.args.store.now) (g.S.Store.reads c.args.store.now) (g.S.Store.faults c.args.store.now) in
+    let loaded = texts_reader (g.S.Store.files c.args.store.now) _ c.in-Some.reader (subst (λ (t : Texting). TextsFit (g.S.Store.files c.args.store.now) t) (sym c.self.view_is) c.requires.fits) c.in-Some.is in
+    read_shown c.self.view_is c.requires.fits before
+    {IsPrinted = λ collection. AfterPut (g.O.Sink.written c.args.out.now) (g.O.Sink.written c.doc_within.new.out) (document collection c.args.number) c.doc_within.result} refl loaded e.same e.fits e.looked e.added.faults e.added.lacks e.cause
+    (λ code collection is.
     let own = subst (λ (t : Texting). TextsStand t (g.S.Store.files c.args.store.now) code collection) (sym c.self.view_is) is in
-    let loaded = texts_reader (g.S.Store.files c.args.store.now) c.args.self.now c.in-Some.reader c.requires.fits (ap (λ (t : Texting). t.reader) (sym c.self.view_is) ∙ c.in-Some.is) in
-    c.doc_within.ensures.content collection (short_document _ _ _ _ collection (loaded.stands code collection is.text) (omega (arith, own.size)))
-
-pub returns-in-Some-clause-sound : goal.returns-in-Some-clause-sound
-returns-in-Some-clause-sound g c = λ code collection is.
+    e.content collection (short_document _ _ _ _ collection (loaded.stands code collection own.text) (omega (arith, own.size))))
+    (λ code collection is.
     let own = subst (λ (t : Texting). TextsStand t (g.S.Store.files c.args.store.now) code collection) (sym c.self.view_is) is in
-    let loaded = texts_reader (g.S.Store.files c.args.store.now) c.args.self.now c.in-Some.reader c.requires.fits (ap (λ (t : Texting). t.reader) (sym c.self.view_is) ∙ c.in-Some.is) in
-    c.doc_within.ensures.never_bad collection (short_document _ _ _ _ collection (loaded.stands code collection is.text) (omega (arith, own.size)))
-
-pub returns-in-Some-clause-pages : goal.returns-in-Some-clause-pages
-returns-in-Some-clause-pages g c = λ code collection is.
+    same_pages c.in-Some.reader code collection c.args.number _ _ (loaded.code code collection own.text)
+    (e.pages collection (short_document _ _ _ _ collection (loaded.stands code collection own.text) (omega (arith, own.size)))))
+    (λ code collection is.
     let own = subst (λ (t : Texting). TextsStand t (g.S.Store.files c.args.store.now) code collection) (sym c.self.view_is) is in
-    let loaded = texts_reader (g.S.Store.files c.args.store.now) c.args.self.now c.in-Some.reader c.requires.fits (ap (λ (t : Texting). t.reader) (sym c.self.view_is) ∙ c.in-Some.is) in
-    same_pages c.in-Some.reader code collection c.args.number _ _ (loaded.code code collection is.text)
-    (c.doc_within.ensures.pages collection
-    (short_document _ _ _ _ collection (loaded.stands code collection is.text) (omega (arith, own.size))))
+    e.never_bad collection (short_document _ _ _ _ collection (loaded.stands code collection own.text) (omega (arith, own.size))))

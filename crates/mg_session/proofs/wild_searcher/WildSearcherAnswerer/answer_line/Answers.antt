@@ -2,6 +2,7 @@ use Rattle.std.proofs.Common.{arith, List, ℕ, sym, subst}
 use Rattle.mg_defs.specs.declared.session.Settings.{Settings}
 use Rattle.mg_dev.specs.Streams.{AfterPut}
 use Rattle.mg_session.specs.WildSearching.{wild_state}
+use Rattle.mg_session.proofs.ReplyLaws.{line_written}
 use Rattle.mg_session.proofs.WildReplyLaws.{line_part}
 use Rattle.mg_session.proofs.wild_searcher.WildSearcherAnswerer.answer_line.Goals as goal
 
@@ -13,7 +14,7 @@ returns-clause-content g c = λ by answers. subst (λ (r : Settings → List ℕ
 
 pub returns-clause-after : goal.returns-clause-after
 returns-clause-after g c = record {
-  step = c.answer_question.ensures.step;
+  step = c.answer_question.ensures.stepped.step;
   same = c.answer_question.ensures.same;
   post = λ collection over. omega (arith, c.answer_question.ensures.pages collection over);
 }
@@ -22,4 +23,10 @@ pub returns-clause-part : goal.returns-clause-part
 returns-clause-part g c = line_part
     (wild_state (g.S.Store.files c.args.dev.now) (g.S.Store.reads c.args.dev.now) (g.S.Store.faults c.args.dev.now) c.args.self.now)
     (wild_state (g.S.Store.files c.answer_question.new.store) (g.S.Store.reads c.answer_question.new.store) (g.S.Store.faults c.answer_question.new.store) c.answer_question.new.self)
-    _ _ _ c.answer_question.ensures.cause (λ collection over. (c.answer_question.ensures.replied collection over).sound)
+    _ _ _ c.answer_question.ensures.stepped.cause (λ collection over. (c.answer_question.ensures.replied collection over).sound)
+
+pub returns-clause-later : goal.returns-clause-later
+returns-clause-later g c = c.answer_question.ensures.stepped.cause.output
+
+pub returns-clause-write : goal.returns-clause-write
+returns-clause-write g c = line_written _ _ _ _ _ c.answer_question.ensures.stepped.cause
