@@ -177,12 +177,14 @@ text_lacked {texts} {at} {m = m} fits = record {
   lack = record { later = omega arith; lacked = tt };
 }
 
-module _ {texts between : Texting} {at next now : StoreAt} {out passed : SinkAt} {m : Mode} (so_far : TextStep texts between at next out passed (Ok tt) (Stepped m)) (step : Stepped m next.files now.files next.reads now.reads next.faults now.faults) where
+module _ {texts between : Texting} {at next now : StoreAt} {out passed : SinkAt} {m : Mode}
+    (so_far : TextStep texts between at next out passed (Ok tt) (Stepped m))
+    (step : Stepped m next.files now.files next.reads now.reads next.faults now.faults) where
   fits_now : TextsFit now.files between
   fits_now = subst (λ (f : Option Files). TextsFit f between) (sym step.files) so_far.fits
 
   stepped_now : Stepped m at.files now.files at.reads now.reads at.faults now.faults
-  stepped_now = stepped_then m _ _ _ _ _ _ _ _ _ so_far.step step
+  stepped_now = stepped_then so_far.step step
 
   -- then a part of the lists was refused
   pub text_refused : {T : Type 0} (refusal : PartErr) {error : ShowErr} → error ≡ show.Part refusal → HasPartCause {T = T} next.faults now.faults (Err refusal) →
@@ -211,7 +213,7 @@ module _ {texts between : Texting} {at next now : StoreAt} {out passed : SinkAt}
   text_shown shown = record {
     fits = shown.fits;
     same = texts_then _ _ _ so_far.same shown.same;
-    step = stepped_then m _ _ _ _ _ _ _ _ _ stepped_now (shown_step m _ _ _ _ _ _ shown.step);
+    step = stepped_then stepped_now (shown_step m _ _ _ _ _ _ shown.step);
     cause = cause_after _ _ _ _ _ _ _ stepped_now.faults so_far.cause.output shown.cause;
     lack = lack_after _ _ _ _ so_far.lack.later shown.lack;
   }
@@ -269,7 +271,7 @@ module _ {base : List ℕ} {lex lex_now : Fronted} {texts : Texting} {all : ℕ}
           all = ap (λ (h : Head). h.documents) step.same.head ∙ own_fits.all;
         };
         same = record { base = refl; lex = same; texts = step.same; all = refl };
-        step = stepped_then m _ _ _ _ _ _ _ _ _ (asked_step m) step.step;
+        step = stepped_then (asked_step m) step.step;
         cause = cause_after _ _ _ _ _ _ _ looked.faults (omega arith) step.cause;
         lack = step.lack;
       })

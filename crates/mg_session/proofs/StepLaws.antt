@@ -22,8 +22,8 @@ use Rattle.mg_session.specs.Parts.{NeverRead, ShownIn, Stepped, UnreadIn, is_of_
 pub stepped_none : (w : Mode) (f : Option Files) (r : Reads) (n : ℕ) → Stepped w f f r r n n
 stepped_none w f r n = record { files = refl; faults = omega arith; unread = λ p never. refl }
 
-pub stepped_then : (w : Mode) (f g h : Option Files) (r s t : Reads) (k m n : ℕ) → Stepped w f g r s k m → Stepped w g h s t m n → Stepped w f h r t k n
-stepped_then w f g h r s t k m n a b = record {
+pub stepped_then : {w : Mode} {f g h : Option Files} {r s t : Reads} {k m n : ℕ} → Stepped w f g r s k m → Stepped w g h s t m n → Stepped w f h r t k n
+stepped_then a b = record {
   files = b.files ∙ a.files;
   faults = omega (arith, a.faults, b.faults);
   unread = λ p never. b.unread p never ∙ a.unread p never;
@@ -169,8 +169,8 @@ shown_step w f g r s m n shown = record {
 pub shown_none : (w : Mode) (f : Option Files) (r : Reads) (n : ℕ) → ShownIn w f f r r n n
 shown_none w f r n = record { files = refl; faults = omega arith; others = λ p other. refl }
 
-pub shown_then : (w : Mode) (f g h : Option Files) (r s t : Reads) (k m n : ℕ) → ShownIn w f g r s k m → ShownIn w g h s t m n → ShownIn w f h r t k n
-shown_then w f g h r s t k m n a b = record {
+pub shown_then : {w : Mode} {f g h : Option Files} {r s t : Reads} {k m n : ℕ} → ShownIn w f g r s k m → ShownIn w g h s t m n → ShownIn w f h r t k n
+shown_then a b = record {
   files = b.files ∙ a.files;
   faults = omega (arith, a.faults, b.faults);
   others = λ p other. b.others p other ∙ a.others p other;
@@ -207,8 +207,8 @@ lists_text r s reads = reads.others part.Text (λ e. omega (arith, ap number e))
 pub ranked_text : (r s : Reads) → ReadsRanked r s → s part.Text ≡ r part.Text
 ranked_text r s reads = reads.others part.Text (λ e. omega (arith, ap number e)) (λ e. omega (arith, ap number e)) (λ e. omega (arith, ap number e))
 
-pub looked_then : (one other : Part) (f g h : Option Files) (r s t : Reads) (k m n : ℕ) → LookedAt one other f g r s k m → LookedAt one other g h s t m n → LookedAt one other f h r t k n
-looked_then one other f g h r s t k m n a b = record {
+pub looked_then : {one other : Part} {f g h : Option Files} {r s t : Reads} {k m n : ℕ} → LookedAt one other f g r s k m → LookedAt one other g h s t m n → LookedAt one other f h r t k n
+looked_then a b = record {
   files = b.files ∙ a.files;
   faults = omega (arith, a.faults, b.faults);
   later = λ p. omega (arith, a.later p, b.later p);

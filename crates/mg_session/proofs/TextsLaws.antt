@@ -1,5 +1,5 @@
 -- The text of a base: its reader, before and after it is loaded.
-use Rattle.std.proofs.Common.{arith, ◌≡◌, ◌+◌, ◌-◌, ◌≤◌, ℕ, zero, suc, List, [], ◌∷◌, length, get_or, Some, None, Ok, Err, refl, sym, ◌∙◌, ap, subst, is_some}
+use Rattle.std.proofs.Common.{arith, ◌≡◌, ◌+◌, ◌-◌, ◌≤◌, ℕ, zero, suc, List, [], ◌∷◌, length, get_or, Some, None, Ok, Err, sym, ◌∙◌, ap, subst, is_some}
 use Rattle.std.specs.Prelude.{IfSome}
 use Rattle.std.specs.List.{AllByRecursion}
 use Rattle.std.specs.declared.option.Option.{Option}
@@ -135,7 +135,7 @@ module _ {base : List ℕ} {head : Head} {reader : Option TextReading} {texts : 
     content = content;
     pages = pages;
     sound = sound;
-    looked = shown_then _ _ _ _ _ _ _ _ _ _ before (looked_shown part.Text part.Places _ _ _ _ _ _ (omega arith) (omega arith) (omega arith) (omega arith) looked);
+    looked = shown_then before (looked_shown part.Text part.Places _ _ _ _ _ _ (omega arith) (omega arith) (omega arith) (omega arith) looked);
     cause = cause_after _ _ _ _ _ _ _ before.faults (omega arith) (read_cause result _ _ _ _ _ _ looked.faults later cause);
     lack = read_lack result _ _ _ _ _ _ lacks cause;
   }

@@ -14,7 +14,7 @@ pub loop-term-preserved : goal.loop-term-preserved
 loop-term-preserved g c = record {
   fits = c.in-Ok.ensures.fits;
   same = parts_then _ _ _ c.loop-term.invariant.same c.in-Ok.ensures.same;
-  looked = looked_then _ _ _ _ _ _ _ _ _ _ _ c.loop-term.invariant.looked c.in-Ok.ensures.looked;
+  looked = looked_then c.loop-term.invariant.looked c.in-Ok.ensures.looked;
   told = λ version collection limits stands.
       let here = lex_later _ _ _ _ collection c.loop-term.invariant.same c.loop-term.invariant.looked.files stands in
       let term = c.as_bytes.ensures ∙ get_or_read c.args.terms.now c.loop-term.term-index c.term-item.result c.loop-term-test.true c.term-item.is [] in
@@ -44,7 +44,7 @@ returns-in-Err-clause-answer g c = λ version collection limits stands.
     (lex_later _ _ _ _ collection c.loop-term.invariant.same c.loop-term.invariant.looked.files stands))
 
 pub returns-in-Err-clause-looked : goal.returns-in-Err-clause-looked
-returns-in-Err-clause-looked g c = looked_then _ _ _ _ _ _ _ _ _ _ _ c.loop-term.invariant.looked c.in-Err.ensures.looked
+returns-in-Err-clause-looked g c = looked_then c.loop-term.invariant.looked c.in-Err.ensures.looked
 
 pub returns-in-Err-clause-cause : goal.returns-in-Err-clause-cause
 returns-in-Err-clause-cause g c = caused_then c.in-Err.refusal c.loop-term.invariant.looked.faults c.in-Err.ensures.cause
@@ -61,7 +61,7 @@ pub returns-in-Err-push-clause-answer : goal.returns-in-Err-push-clause-answer
 returns-in-Err-push-clause-answer g c = λ version collection limits stands. tt
 
 pub returns-in-Err-push-clause-looked : goal.returns-in-Err-push-clause-looked
-returns-in-Err-push-clause-looked g c = looked_then _ _ _ _ _ _ _ _ _ _ _ c.loop-term.invariant.looked c.in-Ok.ensures.looked
+returns-in-Err-push-clause-looked g c = looked_then c.loop-term.invariant.looked c.in-Ok.ensures.looked
 
 pub returns-in-Err-push-clause-cause : goal.returns-in-Err-push-clause-cause
 returns-in-Err-push-clause-cause g c = record { later = omega (arith, c.loop-term.invariant.looked.faults, c.in-Ok.ensures.cause.later); device = tt }

@@ -41,7 +41,8 @@ pub returns-in-Err-pass-clause-stepped : goal.returns-in-Err-pass-clause-stepped
 returns-in-Err-pass-clause-stepped g c =
     let found = c.in-Ok.ensures in
     let e = c.in-Err-pass.ensures.stepped in
-    let refused = put_refused {out = at_sink g.O.Sink c.args.out.now} {now = at_sink g.O.Sink c.pass.new.out} c.in-Err-pass.refusal c.from-in-Err-pass.ensures e.cause e.lack (omega arith) (omega arith) in
+    let refused = put_refused {out = at_sink g.O.Sink c.args.out.now} {now = at_sink g.O.Sink c.pass.new.out}
+    c.in-Err-pass.refusal c.from-in-Err-pass.ensures e.cause e.lack (omega arith) (omega arith) in
     record {
       fits = found.fits;
       same = found.same;

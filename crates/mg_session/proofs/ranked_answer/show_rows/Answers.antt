@@ -19,7 +19,8 @@ loop-place-init g c = record {
 
 pub show_doc-requires : goal.show_doc-requires
 show_doc-requires g c =
-    let numbered_row = numbered (g.D.Documents.texts c.args.texts.now).head.documents c.args.rows.now c.loop-place.place c.row-row.result.number c.requires.range (omega arith) c.row-row.ensures.number in
+    let numbered_row = numbered (g.D.Documents.texts c.args.texts.now).head.documents c.args.rows.now c.loop-place.place c.row-row.result.number
+    c.requires.range (omega arith) c.row-row.ensures.number in
     record {
       fits = c.loop-place.invariant.fits;
       some = numbered_row.0;
@@ -32,7 +33,7 @@ loop-place-preserved g c =
     record {
       fits = c.in-Ok.ensures.fits;
       same = texts_then _ _ _ inv.same c.in-Ok.ensures.same;
-      looked = shown_then _ _ _ _ _ _ _ _ _ _ inv.looked c.in-Ok.ensures.looked;
+      looked = shown_then inv.looked c.in-Ok.ensures.looked;
       output = omega (arith, inv.output, c.in-Ok.ensures.cause.output);
       lacks = omega (arith, inv.lacks, c.in-Ok.ensures.lack.later);
       shown = λ code collection is.
@@ -66,7 +67,7 @@ returns-in-Err g c =
       sound = λ code collection is.
           let inv = c.loop-place.invariant in
           c.in-Err.ensures.sound code collection (texts_later _ _ _ _ code collection inv.same inv.looked.files is);
-      looked = shown_then _ _ _ _ _ _ _ _ _ _ so_far.looked e.looked;
+      looked = shown_then so_far.looked e.looked;
       cause = cause_after _ _ _ _ _ _ _ so_far.looked.faults so_far.output e.cause;
       lack = lack_after _ _ _ _ so_far.lacks e.lack;
     }

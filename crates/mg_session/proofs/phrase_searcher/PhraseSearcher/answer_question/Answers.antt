@@ -4,7 +4,8 @@ use Rattle.mg_session.proofs.PhraseReplyLaws.{line_answered, line_refused, line_
 use Rattle.mg_session.proofs.phrase_searcher.PhraseSearcher.answer_question.Goals as goal
 
 pub returns-in-Err-clause-replied : goal.returns-in-Err-clause-replied
-returns-in-Err-clause-replied g c = λ code collection over. line_refused c.in-Err.why code collection _ _ _ _ _ _ _ c.in-Err.ensures.refused c.answer_refused.ensures.content c.answer_refused.ensures.cause
+returns-in-Err-clause-replied g c = λ code collection over.
+    line_refused c.in-Err.why code collection _ _ _ _ _ _ _ c.in-Err.ensures.refused c.answer_refused.ensures.content c.answer_refused.ensures.cause
 
 pub returns-in-Err-clause-stepped : goal.returns-in-Err-clause-stepped
 returns-in-Err-clause-stepped g c = opened_unread c.requires.fits (line_told _ c.answer_refused.ensures.later c.answer_refused.ensures.lacks c.answer_refused.ensures.cause)

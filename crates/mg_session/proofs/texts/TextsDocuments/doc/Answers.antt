@@ -10,9 +10,11 @@ pub returns-in-Some-clause-shown : goal.returns-in-Some-clause-shown
 returns-in-Some-clause-shown g c =
     let e = c.doc_within.ensures in
     let before = shown_none _ (g.S.Store.files c.args.store.now) (g.S.Store.reads c.args.store.now) (g.S.Store.faults c.args.store.now) in
-    let loaded = texts_reader (g.S.Store.files c.args.store.now) _ c.in-Some.reader (subst (λ (t : Texting). TextsFit (g.S.Store.files c.args.store.now) t) (sym c.self.view_is) c.requires.fits) c.in-Some.is in
+    let loaded = texts_reader (g.S.Store.files c.args.store.now) _ c.in-Some.reader
+    (subst (λ (t : Texting). TextsFit (g.S.Store.files c.args.store.now) t) (sym c.self.view_is) c.requires.fits) c.in-Some.is in
     read_shown c.self.view_is c.requires.fits before
-    {IsPrinted = λ collection. AfterPut (g.O.Sink.written c.args.out.now) (g.O.Sink.written c.doc_within.new.out) (document collection c.args.number) c.doc_within.result} refl loaded e.same e.fits e.looked e.added.faults e.added.lacks e.cause
+    {IsPrinted = λ collection. AfterPut (g.O.Sink.written c.args.out.now) (g.O.Sink.written c.doc_within.new.out) (document collection c.args.number) c.doc_within.result}
+    refl loaded e.same e.fits e.looked e.added.faults e.added.lacks e.cause
     (λ code collection is.
     let own = subst (λ (t : Texting). TextsStand t (g.S.Store.files c.args.store.now) code collection) (sym c.self.view_is) is in
     e.content collection (short_document _ _ _ _ collection (loaded.stands code collection own.text) (omega (arith, own.size))))
