@@ -18,14 +18,6 @@ MOST_WORDS = 25
 MOST_LINES = 130
 # Pages whose code spans of one word are names of the crates.
 NAMING = ["docs/ARCHITECTURE.md", "docs/CONTRIBUTING.md", "docs/DECISIONS.md", "docs/DEFINITIONS.md", "docs/GLOSSARY.md", "docs/OPEN.md", "docs/PROOFS.md"]
-# Imports of proofs that another crate keeps for itself, by file and module: none may come to them. docs/OPEN.md has them.
-PRIVATE = {
-    ("mg_check_index/proofs/RunSteps.antt", "mg_runs.proofs.Segments"),
-    ("mg_rank/proofs/SumLaws.antt", "mg_post.proofs.ListHeads"),
-    ("mg_rank/proofs/list/add_list/Answers.antt", "mg_post.proofs.ListHeads"),
-    ("mg_session/proofs/WildListLaws.antt", "mg_post.proofs.ListHeads"),
-    ("mg_session/proofs/wild_answer/mark_list/Answers.antt", "mg_post.proofs.ListHeads"),
-}
 
 
 def pages():
@@ -116,10 +108,7 @@ def imports(suite):
         for crate, module in re.findall(r"Rattle\.(mg_\w+)\.proofs\.(\w+)", path.read_text()):
             if crate not in (place.parts[0], "mg_defs", "mg_laws") and module != "CallerLemmas":
                 found.add((str(place), f"{crate}.proofs.{module}"))
-    suite.check("proofs that cite another crate's own", sorted(found - PRIVATE), [])
-    told = (ROOT / "docs" / "OPEN.md").read_text()
-    missing = [module for _, module in found & PRIVATE if module not in told]
-    suite.check("docs/OPEN.md names those that do", missing, [])
+    suite.check("proofs that cite another crate's own", sorted(found), [])
 
 
 def words_of_crates():
