@@ -57,6 +57,10 @@ shown_documents = 1048576
 abbrev pub shown_digits : ℕ
 shown_digits = 7
 
+-- rotations of all terms, which a session of patterns may order
+abbrev pub rotations : ℕ
+rotations = 134217728
+
 -- ---- of a build
 
 -- bytes of the pool that it sorts in

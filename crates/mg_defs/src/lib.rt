@@ -33,7 +33,7 @@ pub use lexicon::terms_are_entries;
 pub use limits::{
     COLLECTION_BYTES, DOCUMENTS, GREATEST_BUDGET, HELD_BYTES, INPUT_BYTES, LEAST_BUDGET,
     LINE_BYTES, OCCURRENCE_BYTES, OPEN_PARENTHESES, PHRASE_WORDS, PIECE_BYTES, PIECES,
-    RANKED_TERMS, limits_are_defined,
+    RANKED_TERMS, ROTATIONS, limits_are_defined,
 };
 pub use lines::{lines_of, quit_always};
 pub use lists::{block_stands, list_rises, one_range};

@@ -32,6 +32,9 @@ pub const RANKED_TERMS: usize = 64;
 /// The words of a phrase.
 pub const PHRASE_WORDS: usize = 64;
 
+/// The rotations of all terms that a session of patterns may order.
+pub const ROTATIONS: u64 = 1 << 27;
+
 /// The bytes of the pool that a build sorts in: the least that may be asked for.
 pub const LEAST_BUDGET: u64 = 4096;
 
@@ -53,6 +56,7 @@ pub fn limits_are_defined()
     ensures parentheses { OPEN_PARENTHESES ≡ Limits.open_parentheses }
     ensures terms { RANKED_TERMS ≡ Limits.ranked_terms }
     ensures words { PHRASE_WORDS ≡ Limits.phrase_words }
+    ensures rotations { ROTATIONS ≡ Limits.rotations }
     ensures least { LEAST_BUDGET ≡ Limits.least_budget }
     ensures greatest { GREATEST_BUDGET ≡ Limits.greatest_budget }
     ensures cap { Limits.greatest_cap ≡ GREATEST_BUDGET / OCCURRENCE_BYTES }

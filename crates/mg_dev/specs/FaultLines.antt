@@ -1,6 +1,7 @@
 -- The lines of faults.
 use Rattle.std.specs.Prelude.{ℕ, List, [], ◌∷◌, codes, decimal}
 use Rattle.std.specs.List.{concat}
+use Rattle.mg_defs.specs.Limits.{input_limit, rotations, version_2}
 use Rattle.mg_defs.specs.declared.Stream.{Stream}
 use Rattle.mg_defs.specs.declared.Stream.TheVariants.{Words, Others}
 use Rattle.mg_dev.specs.declared.fault.Fault.{Fault}
@@ -32,15 +33,15 @@ fault_line (Damaged bad) = concat (codes "mg: damaged: part " ∷ printed_name b
 fault_line NoCollection = codes "mg: there is no such collection\n"
 fault_line (TooLarge size most) = concat (codes "mg: the collection has " ∷ decimal size ∷ codes " bytes, more than " ∷
     decimal most ∷ codes "\n" ∷ [])
-fault_line TooManyDocuments = codes "mg: more than 16777216 documents\n"
-fault_line (TooManyPieces stream) = concat (codes "mg: more than 4194304 distinct " ∷ stream_name stream ∷ codes "\n" ∷
-    [])
+fault_line TooManyDocuments = concat (codes "mg: more than " ∷ decimal version_2.documents ∷ codes " documents\n" ∷ [])
+fault_line (TooManyPieces stream) = concat (codes "mg: more than " ∷ decimal version_2.pieces ∷ codes " distinct " ∷
+    stream_name stream ∷ codes "\n" ∷ [])
 fault_line (Changed what first second) = concat (codes "mg: the collection changed while it was read: " ∷
     counted_name what ∷ codes " was " ∷ decimal first ∷ codes ", then " ∷ decimal second ∷ codes "\n" ∷ [])
 fault_line Memory = codes "mg: out of memory\n"
 fault_line (NameClash part) = concat (codes "mg: the collection has the name of part " ∷ printed_name part ∷
     codes "\n" ∷ [])
-fault_line InputTooLong = codes "mg: the input is longer than 4294967296 bytes\n"
+fault_line InputTooLong = concat (codes "mg: the input is longer than " ∷ decimal input_limit ∷ codes " bytes\n" ∷ [])
 fault_line SameName = codes "mg: both names are the same\n"
 fault_line (TooManyRotations count) = concat (codes "mg: the terms have " ∷ decimal count ∷
-    codes " rotations, more than 134217728\n" ∷ [])
+    codes " rotations, more than " ∷ decimal rotations ∷ codes "\n" ∷ [])

@@ -7,7 +7,7 @@ ghost use Rattle.mg_dev.specs.FaultLines.{piece_text, fault_line, stream_name};
 
 use crate::{Bad, Fault, Part, PutErr, Sink, What};
 use itoa::Buffer;
-use mg_defs::Stream;
+use mg_defs::{DOCUMENTS, INPUT_BYTES, PIECES, ROTATIONS, Stream};
 
 /// A piece of a line.
 #[derive(Clone, Copy)]
@@ -117,6 +117,21 @@ fn put_too_large<O: Sink>(out: &mut O, size: u64, most: u64) -> Result<(), PutEr
 }
 
 #[tactic(auto, unfolding(crate::specs::FaultLines::fault_line))]
+fn put_too_many_documents<O: Sink>(out: &mut O) -> Result<(), PutErr>
+    ensures content { AfterPut (O.written out.old) (O.written out.new)
+        (fault_line Fault.TooManyDocuments) result }
+    ensures cause { HasPutCause (O.faults out.old) (O.faults out.new) result }
+    ensures lack { HasLack (O.lacks out.old) (O.lacks out.new) result }
+{
+    let pieces = [
+        Piece::Text("mg: more than "),
+        Piece::Number(DOCUMENTS as u64),
+        Piece::Text(" documents\n"),
+    ];
+    put_pieces(out, &pieces)
+}
+
+#[tactic(auto, unfolding(crate::specs::FaultLines::fault_line))]
 fn put_too_many_pieces<O: Sink>(out: &mut O, stream: Stream) -> Result<(), PutErr>
     ensures content { AfterPut (O.written out.old) (O.written out.new)
         (fault_line (Fault.TooManyPieces stream)) result }
@@ -124,7 +139,9 @@ fn put_too_many_pieces<O: Sink>(out: &mut O, stream: Stream) -> Result<(), PutEr
     ensures lack { HasLack (O.lacks out.old) (O.lacks out.new) result }
 {
     let pieces = [
-        Piece::Text("mg: more than 4194304 distinct "),
+        Piece::Text("mg: more than "),
+        Piece::Number(PIECES as u64),
+        Piece::Text(" distinct "),
         Piece::Text(stream_name(stream)),
         Piece::Text("\n"),
     ];
@@ -147,6 +164,21 @@ fn put_name_clash<O: Sink>(out: &mut O, part: Part) -> Result<(), PutErr>
 }
 
 #[tactic(auto, unfolding(crate::specs::FaultLines::fault_line))]
+fn put_input_too_long<O: Sink>(out: &mut O) -> Result<(), PutErr>
+    ensures content { AfterPut (O.written out.old) (O.written out.new)
+        (fault_line Fault.InputTooLong) result }
+    ensures cause { HasPutCause (O.faults out.old) (O.faults out.new) result }
+    ensures lack { HasLack (O.lacks out.old) (O.lacks out.new) result }
+{
+    let pieces = [
+        Piece::Text("mg: the input is longer than "),
+        Piece::Number(INPUT_BYTES),
+        Piece::Text(" bytes\n"),
+    ];
+    put_pieces(out, &pieces)
+}
+
+#[tactic(auto, unfolding(crate::specs::FaultLines::fault_line))]
 fn put_too_many_rotations<O: Sink>(out: &mut O, count: u64) -> Result<(), PutErr>
     ensures content { AfterPut (O.written out.old) (O.written out.new)
         (fault_line (Fault.TooManyRotations count)) result }
@@ -156,7 +188,9 @@ fn put_too_many_rotations<O: Sink>(out: &mut O, count: u64) -> Result<(), PutErr
     let pieces = [
         Piece::Text("mg: the terms have "),
         Piece::Number(count),
-        Piece::Text(" rotations, more than 134217728\n"),
+        Piece::Text(" rotations, more than "),
+        Piece::Number(ROTATIONS),
+        Piece::Text("\n"),
     ];
     put_pieces(out, &pieces)
 }
@@ -178,7 +212,7 @@ pub fn put_fault_line<O: Sink>(out: &mut O, fault: &Fault) -> Result<(), PutErr>
         Fault::Damaged(bad) => put_damaged(out, bad),
         Fault::NoCollection => out.put(b"mg: there is no such collection\n"),
         Fault::TooLarge { size, most } => put_too_large(out, size, most),
-        Fault::TooManyDocuments => out.put(b"mg: more than 16777216 documents\n"),
+        Fault::TooManyDocuments => put_too_many_documents(out),
         Fault::TooManyPieces { stream } => put_too_many_pieces(out, stream),
         Fault::Changed {
             what,
@@ -187,7 +221,7 @@ pub fn put_fault_line<O: Sink>(out: &mut O, fault: &Fault) -> Result<(), PutErr>
         } => put_changed(out, what, first, second),
         Fault::Memory => out.put(b"mg: out of memory\n"),
         Fault::NameClash { part } => put_name_clash(out, part),
-        Fault::InputTooLong => out.put(b"mg: the input is longer than 4294967296 bytes\n"),
+        Fault::InputTooLong => put_input_too_long(out),
         Fault::SameName => out.put(b"mg: both names are the same\n"),
         Fault::TooManyRotations { count } => put_too_many_rotations(out, count),
     }
