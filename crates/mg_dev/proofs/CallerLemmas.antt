@@ -1,10 +1,13 @@
--- For callers: how a run ends by what a call answered.
-use Rattle.std.proofs.Common.{◌≡◌, ◌⊎◌, ℕ, List, [], Option, Ok, Err, ap, inl, inr, refl, subst, sym, append-nil}
+-- For callers: how a run ends by what a call answered, and the cause of a reader's refusal.
+use Rattle.std.proofs.Common.{arith, ◌≡◌, ◌⊎◌, ◌≤◌, ℕ, List, [], Option, Ok, Err, ap, inl, inr, refl, subst, sym, append-nil}
 use Rattle.std.specs.Prelude.{Result, OnOk, IfErr}
+use Rattle.mg_dev.specs.PartCauses.{HasPartCause, IsCaused}
 use Rattle.mg_dev.specs.StreamLaws.{grew_nothing, grew_second}
 use Rattle.mg_dev.specs.Streams.{appended, AfterPut, GrewByPrefix}
 use Rattle.mg_dev.specs.declared.fault.Fault.{Fault}
 use Rattle.mg_dev.specs.declared.fault.Fault.TheVariants.{Usage, StoreFault, ReadFault, WriteFault, NotBuilt, Damaged, NoCollection, TooLarge, TooManyDocuments, TooManyPieces, Changed, Memory, NameClash, InputTooLong, SameName, TooManyRotations}
+use Rattle.mg_dev.specs.declared.part_err.PartErr.{PartErr}
+use Rattle.mg_dev.specs.declared.part_err.PartErr.TheVariants as err
 use Rattle.mg_dev.specs.declared.status.Status.{Status}
 use Rattle.mg_dev.specs.declared.status.Status.TheVariants.{Done, Stopped}
 use Rattle.mg_dev.specs.Runs.{IfStopped, IsDone, RefusedFor, Run, StoppedFor, StopsUnless, status_of}
@@ -66,3 +69,25 @@ grew_all old new bytes is = subst (λ (b : List ℕ). GrewByPrefix old new b) (a
 pub put_grew : {T E : Type 0} (r : Result T E) (old new : Option (List ℕ)) (bytes : List ℕ) → AfterPut old new bytes r → GrewByPrefix old new bytes
 put_grew (Ok value) old new bytes put = grew_all old new bytes put
 put_grew (Err e) old new bytes put = put
+
+-- ---- a cause behind an earlier moment
+
+pub cause_ok : {T : Type 0} {x : T} {m n : ℕ} → m ≤ n → HasPartCause m n (Ok x)
+cause_ok later = record { later = later; device = tt }
+
+caused_as : (T U : Type 0) (l m n : ℕ) (e : PartErr) → l ≤ m → IsCaused {T = T} m n (Err e) → IsCaused {T = U} l n (Err e)
+caused_as T U l m n err.Device later rose = omega (arith, later, rose)
+caused_as T U l m n err.Memory later rose = tt
+caused_as T U l m n (err.Bad bad) later rose = tt
+
+-- a refusal that is handed on, whatever value was wanted
+pub cause_err : {T U : Type 0} {e : PartErr} {l m n : ℕ} → l ≤ m → HasPartCause {T = T} m n (Err e) → HasPartCause {T = U} l n (Err e)
+cause_err {T} {U} {e} {l} {m} {n} later cause = record {
+  later = omega (arith, later, cause.later);
+  device = caused_as T U l m n e later cause.device;
+}
+
+-- an answer that is handed on
+pub cause_then : {T : Type 0} (result : Result T PartErr) {l m n : ℕ} → l ≤ m → HasPartCause m n result → HasPartCause l n result
+cause_then (Ok x) later cause = cause_ok (omega (arith, later, cause.later))
+cause_then (Err e) later cause = cause_err later cause

@@ -16,7 +16,7 @@ use Rattle.mg_model.specs.Damage.{AnswersLoad, AnswersRoom, AnswersStream, IsDam
 use Rattle.mg_model.specs.Loading.{LoadsModel, LoadsStream}
 use Rattle.mg_model.specs.Read.{AnswersEntries, ReadOnce, ReadWithin, ReadsPieces, ToldUnread, code_read}
 use Rattle.mg_model.proofs.Standing.{second-damage}
-use Rattle.mg_model.proofs.Walking.{cause-err}
+use Rattle.mg_dev.proofs.CallerLemmas.{cause_err}
 
 -- ---- how often a part was read
 
@@ -49,7 +49,7 @@ load-short {base} {p} {count} {refusal} {f} {g} {r} {s} same reads cause room = 
   looked = record { files = same; faults = cause.later; later = λ q. omega (arith, reads q); others = λ q _. reads q };
   once = λ told. read-any {T = StreamCode} p count (part_bytes base p f) r s (Err refusal) (omega (arith, reads p));
   unread = λ told short. reads p;
-  cause = cause-err (omega arith) cause;
+  cause = cause_err (omega arith) cause;
 }
 
 broken-part : (p : Part) (count : ℕ) (bytes : List ℕ) (refusal : PartErr) → 2 * count ≤ length bytes → AnswersEntries p count bytes (Err refusal) → AnswersStream p count bytes (Err refusal)
@@ -79,7 +79,7 @@ module _ {base : List ℕ} {p : Part} {count : ℕ} {f g h : Option Files} {r s 
         };
         once = λ told. read-behind ReadPieces StreamCode p count (part_bytes base p f) r s t refusal (reads p) (read.once told);
         unread = λ told short. absurd (omega (arith, short, room told));
-        cause = cause-err later read.cause;
+        cause = cause_err later read.cause;
       }
 
   -- its entries were read
@@ -128,7 +128,7 @@ words-refused {base} {words} {others} {refusal} {f} {g} {r} {s} one =
       others_unread = λ told short. unread;
       words_first = λ told. inl unread;
       words_told = λ told. told-unread r s refusal unread;
-      cause = cause-err (omega arith) one.cause;
+      cause = cause_err (omega arith) one.cause;
     }
 
 damage-names : {p : Part} {count : ℕ} {bytes : List ℕ} {bad : declared.Bad} → IsDamage p count bytes bad → bad.part ≡ p
@@ -167,7 +167,7 @@ module _ {base : List ℕ} {words others : ℕ} {it : StreamCode} {f g h : Optio
         others_unread = λ told short. two.unread told short ∙ first;
         words_first = λ told. inr (it, one.answer told);
         words_told = λ told. told-others others (part_bytes base part.Nonwords f) r t refusal (two.answer told);
-        cause = cause-err one.looked.faults two.cause;
+        cause = cause_err one.looked.faults two.cause;
       }
 
   -- both are loaded

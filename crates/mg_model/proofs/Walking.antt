@@ -14,7 +14,8 @@ use Rattle.std.specs.declared.option.Option.{Option}
 use Rattle.std.specs.Option.{IsSome}
 use Rattle.mg_dev.specs.Files.{Files, Reads, bytes_at}
 use Rattle.mg_dev.specs.Names.{same_part}
-use Rattle.mg_dev.specs.PartCauses.{HasPartCause, IsCaused}
+use Rattle.mg_dev.proofs.CallerLemmas.{cause_err, cause_ok}
+use Rattle.mg_dev.specs.PartCauses.{HasPartCause}
 use Rattle.mg_bits.specs.Pages.{Looked, Paging}
 use Rattle.mg_front.specs.Looks.{ReadOn, ReadTo}
 use Rattle.mg_front.proofs.CallerLemmas.{on_more, on_same, read_first, read_first_to}
@@ -151,17 +152,6 @@ looked-then {p} same one two = record {
   others = λ x apart. two.others x (ap (same_part x) same ∙ apart) ∙ one.others x apart;
 }
 
-pub cause-ok : {T : Type 0} {x : T} {m n : ℕ} → m ≤ n → HasPartCause m n (Ok x)
-cause-ok later = record { later = later; device = tt }
-
-caused-as : (T U : Type 0) (l m n : ℕ) (e : PartErr) → l ≤ m → IsCaused {T = T} m n (Err e) → IsCaused {T = U} l n (Err e)
-caused-as T U l m n Device later rose = omega (arith, later, rose)
-caused-as T U l m n Memory later rose = tt
-caused-as T U l m n (Bad bad) later rose = tt
-
-pub cause-err : {T U : Type 0} {e : PartErr} {l m n : ℕ} → l ≤ m → HasPartCause {T = T} m n (Err e) → HasPartCause {T = U} l n (Err e)
-cause-err {T} {U} {e} {l} {m} {n} later cause = record { later = omega (arith, later, cause.later); device = caused-as T U l m n e later cause.device }
-
 -- what a walk has read since its first entry
 pub record ReadSoFar (start now : Walking) (read : ReadPieces) (f g : Option Files) (r s : Reads) (a b : ℕ) : Type 0 where
   pub looked : Looked start.feed.part f g r s a b
@@ -229,7 +219,7 @@ module _ {start now next : Walking} {read : ReadPieces} {out : FrontEntry} {f g 
     each = so.each;
     looked = looked-then so.part so.looked step.looked;
     once = λ told. read-within false step told;
-    cause = cause-ok (omega (arith, so.looked.faults, step.looked.faults));
+    cause = cause_ok (omega (arith, so.looked.faults, step.looked.faults));
   }
 
   -- no memory for the entry
@@ -254,7 +244,7 @@ module _ {start now next : Walking} {read : ReadPieces} {out : FrontEntry} {f g 
         let within = refused-within now f g r s t (piece_entries (code_read read)) start.feed.part start.feed.name told so.looked.files so.name so.part so.gave so.first step.reads in
         once-refused ReadPieces now out (piece_entries (code_read read)) refusal start.feed.part start.count (bytes_at g now.feed.name) (bytes_at f start.feed.name) r t
         (so.gave.given (here so told)) (step.answer (here so told)) so.width so.count so.part (same-bytes so) within;
-    cause = cause-err so.looked.faults step.cause;
+    cause = cause_err so.looked.faults step.cause;
   }
 
 -- reading was refused before the first entry
