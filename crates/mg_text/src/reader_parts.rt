@@ -18,6 +18,17 @@ pub(crate) struct ReaderParts<'a, S: Store, M: Drop> {
     pub(crate) model: M,
 }
 
+/// A feed of a part under a base.
+fn feed_of<'a, S: Store>(
+    alloc: Global,
+    base: &'a str,
+    part: Part,
+) -> Result<PageFeed<'a, S>, AllocError>
+    ensures { IfOk result (λ feed. IsFeedOf feed base.entry.now part) }
+{
+    PageFeed::new(alloc, FileRef { base, part })
+}
+
 impl<'a, S: Store, M: Drop> ReaderParts<'a, S, M> {
     /// Those of the text under a base, with this model.
     pub(crate) fn new(alloc: Global, base: &'a str, model: M) -> Result<Self, AllocError>
@@ -25,17 +36,9 @@ impl<'a, S: Store, M: Drop> ReaderParts<'a, S, M> {
         ensures places { IfOk result (λ parts. IsFeedOf parts.places base.entry.now part.Places) }
         ensures model { IfOk result (λ parts. parts.model ≡ model) }
     {
-        let text = FileRef {
-            base,
-            part: Part::Text,
-        };
-        let places = FileRef {
-            base,
-            part: Part::Places,
-        };
         Ok(ReaderParts {
-            text: PageFeed::new(alloc, text)?,
-            places: PageFeed::new(alloc, places)?,
+            text: feed_of(alloc, base, Part::Text)?,
+            places: feed_of(alloc, base, Part::Places)?,
             buffer: ShowBuffer::new(alloc, 0)?,
             model,
         })
