@@ -1,5 +1,6 @@
 -- Pieces and pairs, one after the other.
-use Rattle.std.proofs.Common.{arith, ◌≡◌, ◌+◌, ◌^◌, ◌≤◌, ◌<◌, ℕ, suc, zero, List, [], ◌∷◌, ◌++◌, length, take, drop, get_or, Option, Result, Ok, Err, refl, sym, ◌∙◌, ap, subst, length-append, append-nil, append_assoc, add-one, drop-cons, take-append-drop}
+use Rattle.std.proofs.Common.{arith, ◌≡◌, ◌+◌, ◌^◌, ◌≤◌, ◌<◌, ℕ, suc, zero, List, [], ◌∷◌, ◌++◌, length, take, drop}
+use Rattle.std.proofs.Common.{get_or, Option, Result, Ok, Err, refl, sym, ◌∙◌, ap, subst, length-append, append-nil, append_assoc, add-one, drop-cons, take-append-drop}
 use Rattle.std.proofs.lemmas.Option.{slice_get_within}
 use Rattle.std.proofs.lemmas.List.{take_more}
 use Rattle.std.proofs.lemmas.Grind.{flat_map-append}
@@ -7,7 +8,6 @@ use Rattle.mg_dev.specs.StreamLaws.{grew_first}
 use Rattle.mg_dev.specs.Faults.{show_of_put}
 use Rattle.mg_dev.specs.declared.device.PutErr.{PutErr}
 use Rattle.mg_dev.specs.declared.device.PutErr.TheVariants as put
-use Rattle.mg_dev.specs.declared.part_err.PartErr.{PartErr}
 use Rattle.mg_dev.specs.declared.part_err.PartErr.TheVariants as part
 use Rattle.mg_dev.specs.declared.show_err.ShowErr.TheVariants as show
 use Rattle.mg_bits.specs.Feed.{Feeding, Device as Seen, Read, ReadsWithin, Calm}
@@ -20,7 +20,7 @@ use Rattle.mg_defs.specs.Sorted.{number_of}
 use Rattle.mg_defs.proofs.FrontLaws.{shows_left, shows_right}
 use Rattle.mg_defs.proofs.ParseLaws.{parse-is}
 use Rattle.mg_dev.specs.declared.show_err.ShowErr.{ShowErr}
-use Rattle.mg_text.specs.Decoding.{Decoded, Ends, Gathering, Gathers, IsIn, IsPutCaused, Keeps, PairIn, PairsIn, Shown, Stopped, Takes, coded_pairs}
+use Rattle.mg_text.specs.Decoding.{Decoded, Ends, Gathering, Gathers, IsIn, IsPutCaused, Keeps, PairIn, PairsIn, Shown, Stopped, coded_pairs}
 use Rattle.mg_text.proofs.Shows.{shown_held, shown_prefix}
 use Rattle.mg_text.proofs.Steps.{decoded_more, stopped_more, stopped_wider}
 
@@ -29,12 +29,10 @@ use Rattle.mg_text.proofs.Steps.{decoded_more, stopped_more, stopped_wider}
 pub piece_number : (code : StreamCode) (piece : List ℕ) → IsIn code piece → number_of code.pieces piece < length code.pieces
 piece_number code piece is = slice_get_within code.pieces (number_of code.pieces piece) piece is
 
-pub piece_refused : (T : Type 0) (refusal : PartErr) (whole : T → Type 0) (all : Type 0) (f0 f1 : Feeding) (d0 d1 : Seen) (from to : ℕ)
-    (w0 w1 : Option (List ℕ)) (b : Gathering) (bytes piece : List ℕ) {most : ℕ} → Shown w0 w1 b bytes most →
-    Takes {T = T} (Err refusal) whole (ReadsWithin f0 f1 d0 d1 from to) → Ends (Err (show.Part refusal)) all (Stopped f0 f1 d0 d1 from to w0 w1 (bytes ++ piece))
-piece_refused T part.Device whole all f0 f1 d0 d1 from to w0 w1 b bytes piece {most} shown pages = record { pages = pages; grew = grew_first w0 w1 bytes piece (shown_prefix w0 w1 b bytes shown) }
-piece_refused T part.Memory whole all f0 f1 d0 d1 from to w0 w1 b bytes piece {most} shown pages = pages
-piece_refused T (part.Bad bad) whole all f0 f1 d0 d1 from to w0 w1 b bytes piece {most} shown pages = pages
+-- a piece was refused before it was read
+pub piece_stopped : {f0 f1 : Feeding} {d0 d1 : Seen} {from to : ℕ} {w0 w1 : Option (List ℕ)} {b : Gathering} (bytes piece : List ℕ) {most : ℕ} → Shown w0 w1 b bytes most →
+    ReadsWithin f0 f1 d0 d1 from to → Stopped f0 f1 d0 d1 from to w0 w1 (bytes ++ piece)
+piece_stopped bytes piece shown pages = record { pages = pages; grew = grew_first _ _ bytes piece (shown_prefix _ _ _ bytes shown) }
 
 -- a refused put
 pub put_refused : (refusal : PutErr) (all part : Type 0) → part → Ends (Err (show_of_put refusal)) all part

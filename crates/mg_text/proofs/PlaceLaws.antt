@@ -18,15 +18,17 @@ eight_read : (held : Option ℕ) (index : ℕ) → to_read 4096 held (8 * (8 * i
 eight_read None index = grind (arith, common_steps)
 eight_read (Some page) index = grind (arith, common_steps)
 
-module _ {caused : ℕ → ℕ → Type 0} {old new : Paging} {f g : Option Files} {r s : Reads} {m n : ℕ} (fits : Fits new g) (file : SameFile old new)
-    (looked : Looked old.part f g r s m n) (cause : caused m n) where
+module _ {claim : Type 0} {caused : ℕ → ℕ → Type 0} {old new : Paging} {f g : Option Files} {r s : Reads} {m n : ℕ} (fits : Fits new g) (file : SameFile old new)
+    (looked : Looked old.part f g r s m n) (cause : caused m n) (told : claim) where
   -- a place of four bytes was looked for
-  pub read_four : (index : ℕ) → ReadPart (feeding_of 4096 old) (feeding_of 4096 new) (of_store f m r) (of_store g n s) (8 * (4 * index)) (8 * (4 * index + 4)) → ReadsPlace old new caused f g r s m n
-  read_four index read = record { fits = fits; file = file; looked = looked; page = omega (arith, read.pages.device old.part refl, four_read old.held index); cause = cause }
+  pub read_four : (index : ℕ) → ReadPart (feeding_of 4096 old) (feeding_of 4096 new) (of_store f m r) (of_store g n s) (8 * (4 * index)) (8 * (4 * index + 4)) →
+      ReadsPlace claim caused old new f g r s m n
+  read_four index read = record { fits = fits; file = file; looked = looked; page = omega (arith, read.pages.device old.part refl, four_read old.held index); told = told; cause = cause }
 
   -- a place of eight bytes was looked for
-  pub read_eight : (index : ℕ) → ReadPart (feeding_of 4096 old) (feeding_of 4096 new) (of_store f m r) (of_store g n s) (8 * (8 * index)) (8 * (8 * index + 8)) → ReadsPlace old new caused f g r s m n
-  read_eight index read = record { fits = fits; file = file; looked = looked; page = omega (arith, read.pages.device old.part refl, eight_read old.held index); cause = cause }
+  pub read_eight : (index : ℕ) → ReadPart (feeding_of 4096 old) (feeding_of 4096 new) (of_store f m r) (of_store g n s) (8 * (8 * index)) (8 * (8 * index + 8)) →
+      ReadsPlace claim caused old new f g r s m n
+  read_eight index read = record { fits = fits; file = file; looked = looked; page = omega (arith, read.pages.device old.part refl, eight_read old.held index); told = told; cause = cause }
 
 four_long : (n : ℕ) → length (four n) ≡ 4
 unfolding four

@@ -1,5 +1,6 @@
 -- Where the text of a collection stands: each document's place, bits, pieces and pages.
-use Rattle.std.proofs.Common.{arith, inl, inr, ◌≡◌, ◌+◌, ◌-◌, ◌*◌, ◌^◌, ◌≤◌, ◌<◌, ◌==◌, if◌then◌else◌, ℕ, suc, zero, Bool, true, false, List, [], ◌∷◌, ◌++◌, length, take, drop, get_or, map, sum_by, Option, Some, None, IsSome, refl, sym, ◌∙◌, ap, subst, append_assoc, slice_get, take-append-drop}
+use Rattle.std.proofs.Common.{arith, inl, inr, ◌≡◌, ◌+◌, ◌-◌, ◌*◌, ◌^◌, ◌≤◌, ◌<◌, ◌==◌, if◌then◌else◌, ℕ, suc, zero, Bool, true, false, List, []}
+use Rattle.std.proofs.Common.{◌∷◌, ◌++◌, length, take, drop, get_or, map, sum_by, Option, Some, None, IsSome, refl, sym, ◌∙◌, ap, subst, append_assoc, slice_get, take-append-drop}
 use Rattle.std.specs.List.{flat_map, list_any, onto_first}
 use Rattle.std.specs.Str.{bytes_eq}
 use Rattle.std.proofs.lemmas.Option.{slice_get-get_or}

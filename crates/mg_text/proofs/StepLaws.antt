@@ -18,8 +18,10 @@ use Rattle.mg_defs.specs.Codes.{gamma}
 use Rattle.mg_defs.specs.CodedText.{TextCode, coded_doc, codeword_of}
 use Rattle.mg_defs.specs.Parse.{parse, text}
 use Rattle.mg_defs.proofs.FrontLaws.{shows_left}
-use Rattle.mg_text.specs.Decoding.{AddedOf, Brings, Decoded, DecodingStep, ForShown, Gathering, IsPutCaused, IsReadCaused, IsShowCaused, Moment, PairsIn, ReadsNumber, Shown, ShowsDoc, ShowsFirst, ShowsPair, ShowsPairs, ShowsPiece, ShowsWhole, Steps, bytes_to_come, coded_pairs}
-use Rattle.mg_text.proofs.PairLaws.{both_decoded, doc_decoded, doc_stopped, first_fits, first_stopped, next_pair, no_pairs, pair_fits, pair_shows, pair_small, pairs_more, pairs_stopped, parse_text, put_refused, second_fits, second_stopped, shows_next}
+use Rattle.mg_text.specs.Decoding.{AddedOf, Brings, Decoded, DecodingStep, ForShown, Gathering, IsPutCaused, IsReadCaused, IsShowCaused, Moment, PairsIn, ReadsNumber, Shown}
+use Rattle.mg_text.specs.Decoding.{ShowsDoc, ShowsFirst, ShowsPair, ShowsPairs, ShowsPiece, ShowsWhole, Steps, bytes_to_come, coded_pairs}
+use Rattle.mg_text.proofs.PairLaws.{both_decoded, doc_decoded, doc_stopped, first_fits, first_stopped, next_pair, no_pairs, pair_fits, pair_shows, pair_small}
+use Rattle.mg_text.proofs.PairLaws.{pairs_more, pairs_stopped, parse_text, put_refused, second_fits, second_stopped, shows_next}
 use Rattle.mg_text.proofs.Shows.{adds_less, adds_more, adds_none, shown_none}
 use Rattle.mg_text.proofs.Steps.{caused_more, ends_map, ends_more, put_caused}
 
@@ -36,12 +38,12 @@ steps_tell step told = record { fits = step.fits; calm = step.calm; told = told;
 -- a step behind another one
 pub steps_more : {before agrees : Type 0} {one two both : DecodingStep} (r : Result (Unit {0}) ShowErr) {a b c : Moment} → Steps before one (Ok tt) a b → Steps agrees two r b c → both a c →
     Steps agrees both r a c
-steps_more r first second told = record {
+steps_more r {a} {b} {c} first second told = record {
   fits = second.fits;
   calm = calm_more _ _ _ _ _ _ first.calm second.calm;
   told = told;
   added = adds_more first.added second.added;
-  cause = caused_more r _ _ _ _ _ _ _ _ _ first.calm.faults first.added.faults first.added.lacks second.cause;
+  cause = caused_more r _ _ _ a.sink b.sink c.sink first.calm.faults first.added.faults first.added.lacks second.cause;
 }
 
 -- ---- a pair
@@ -154,7 +156,7 @@ number_refused {T} refusal {a} {b} read held sink told = record {
 pub put_behind : {T agrees : Type 0} {tells : DecodingStep} (value : T) (r : Result (Unit {0}) ShowErr) (left size : ℕ) {a c : Moment} →
     ReadsNumber agrees (Ok value) a.feed c.feed a.device c.device → AddedOf (bytes_to_come a.held) (bytes_to_come c.held) a.sink c.sink →
     IsPutCaused r left size a.sink.faults c.sink.faults a.sink.lacks c.sink.lacks → tells a c → Steps agrees tells r a c
-put_behind value r left size read added cause told = record { fits = read.fits; calm = read.calm; told = told; added = added; cause = put_caused r _ _ _ _ _ _ _ _ cause }
+put_behind value r left size {a} {c} read added cause told = record { fits = read.fits; calm = read.calm; told = told; added = added; cause = put_caused r _ _ _ _ a.sink c.sink cause }
 
 -- ---- a document
 

@@ -2,6 +2,7 @@
 use Rattle.std.proofs.Common.{arith, ◌≤◌, ◌<◌, ℕ, Bool, true, false, List, ◌++◌, Option, Result, Ok, Err, MatchResult}
 use Rattle.std.specs.Bool.{OnTrue}
 use Rattle.mg_dev.specs.Causes.{Rose}
+use Rattle.mg_dev.specs.Moments.{SinkAt}
 use Rattle.mg_dev.specs.StreamLaws.{grew_first}
 use Rattle.mg_dev.specs.declared.part_err.PartErr.{PartErr}
 use Rattle.mg_dev.specs.declared.part_err.PartErr.TheVariants as part
@@ -39,22 +40,24 @@ stopped_wider f0 f1 d0 d1 a p q w0 w1 bytes more some le le2 stopped = record {
 rose_more : (a b c : ℕ) → a ≤ b → Rose b c → Rose a c
 rose_more a b c le rose = omega (arith, le, rose)
 
-pub caused_more : (r : Result (Unit {0}) ShowErr) (s0 s1 s2 f0 f1 f2 l0 l1 l2 : ℕ) → s0 ≤ s1 → f0 ≤ f1 → l0 ≤ l1 → IsShowCaused r s1 s2 f1 f2 l1 l2 → IsShowCaused r s0 s2 f0 f2 l0 l2
-caused_more (Ok done) s0 s1 s2 f0 f1 f2 l0 l1 l2 s f l cause = tt
-caused_more (Err (show.Part part.Device)) s0 s1 s2 f0 f1 f2 l0 l1 l2 s f l cause = rose_more s0 s1 s2 s cause
-caused_more (Err (show.Part part.Memory)) s0 s1 s2 f0 f1 f2 l0 l1 l2 s f l cause = cause
-caused_more (Err (show.Part (part.Bad bad))) s0 s1 s2 f0 f1 f2 l0 l1 l2 s f l cause = tt
-caused_more (Err show.Write) s0 s1 s2 f0 f1 f2 l0 l1 l2 s f l cause = rose_more f0 f1 f2 f cause
-caused_more (Err show.Memory) s0 s1 s2 f0 f1 f2 l0 l1 l2 s f l cause = rose_more l0 l1 l2 l cause
+pub caused_more : (r : Result (Unit {0}) ShowErr) (s0 s1 s2 : ℕ) (one two now : SinkAt) → s0 ≤ s1 → one.faults ≤ two.faults → one.lacks ≤ two.lacks →
+    IsShowCaused r s1 s2 two.faults now.faults two.lacks now.lacks → IsShowCaused r s0 s2 one.faults now.faults one.lacks now.lacks
+caused_more (Ok done) s0 s1 s2 one two now s f l cause = tt
+caused_more (Err (show.Part part.Device)) s0 s1 s2 one two now s f l cause = rose_more s0 s1 s2 s cause
+caused_more (Err (show.Part part.Memory)) s0 s1 s2 one two now s f l cause = cause
+caused_more (Err (show.Part (part.Bad bad))) s0 s1 s2 one two now s f l cause = tt
+caused_more (Err show.Write) s0 s1 s2 one two now s f l cause = rose_more one.faults two.faults now.faults f cause
+caused_more (Err show.Memory) s0 s1 s2 one two now s f l cause = rose_more one.lacks two.lacks now.lacks l cause
 
 -- what stopped a put stops a document
-pub put_caused : (r : Result (Unit {0}) ShowErr) (left size s t f g l m : ℕ) → IsPutCaused r left size f g l m → IsShowCaused r s t f g l m
-put_caused (Ok done) left size s t f g l m cause = tt
-put_caused (Err (show.Part part.Device)) left size s t f g l m cause = absurd cause
-put_caused (Err (show.Part part.Memory)) left size s t f g l m cause = cause
-put_caused (Err (show.Part (part.Bad bad))) left size s t f g l m cause = tt
-put_caused (Err show.Write) left size s t f g l m cause = cause
-put_caused (Err show.Memory) left size s t f g l m cause = cause
+pub put_caused : (r : Result (Unit {0}) ShowErr) (left size s t : ℕ) (one now : SinkAt) → IsPutCaused r left size one.faults now.faults one.lacks now.lacks →
+    IsShowCaused r s t one.faults now.faults one.lacks now.lacks
+put_caused (Ok done) left size s t one now cause = tt
+put_caused (Err (show.Part part.Device)) left size s t one now cause = absurd cause
+put_caused (Err (show.Part part.Memory)) left size s t one now cause = cause
+put_caused (Err (show.Part (part.Bad bad))) left size s t one now cause = tt
+put_caused (Err show.Write) left size s t one now cause = cause
+put_caused (Err show.Memory) left size s t one now cause = cause
 
 pub ends_read : {T : Type 0} (refusal : PartErr) (whole : T → Type 0) (part all now : Type 0) → (part → now) → Takes {T = T} (Err refusal) whole part → Ends (Err (show.Part refusal)) all now
 ends_read part.Device whole p all now f takes = f takes

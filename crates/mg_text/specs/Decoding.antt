@@ -164,11 +164,16 @@ IsPutCaused (Err (show.Part (Bad bad))) left size f g l m = left < size
 IsPutCaused (Err show.Write) left size f g l m = Rose f g
 IsPutCaused (Err show.Memory) left size f g l m = Rose l m
 
--- the same by the functions that tell a sink's faults and lacks, of a piece
-abbrev pub PutCaused : {Out : Type 0} → (Out → ℕ) → (Out → ℕ) → Out → Out → Gathering → List ℕ →
-    Result (Unit {0}) ShowErr → Type 0
-PutCaused faults lacks out out_now b piece result = IsPutCaused result b.left (length piece) (faults out)
-    (faults out_now) (lacks out) (lacks out_now)
+-- what putting a piece into a buffer promises
+pub record PutsPiece (piece : List ℕ) (result : Result (Unit {0}) ShowErr) (old new : Gathering) (out out_now : SinkAt) :
+    Type 0 where
+  -- what the sink took and what is held grow by the piece, or the sink took a prefix of both
+  pub shown : ForShown out.written old (λ before bytes most. Gathers result before out_now.written new (bytes ++ piece)
+      most)
+  -- the sink was given no more bytes than might come
+  pub added : AddedOf (bytes_to_come old) (bytes_to_come new) out out_now
+  -- a refusal has its cause
+  pub cause : IsPutCaused result old.left (length piece) out.faults out_now.faults out.lacks out_now.lacks
 
 -- the store's failure has a cause, and no memory is wanted
 abbrev pub IsReadCaused : {T : Type 0} → Result T PartErr → ℕ → ℕ → Type 0
@@ -281,10 +286,10 @@ pub record Steps (agrees : Type 0) (tells : DecodingStep) (result : Result (Unit
       new.sink.lacks
 
 -- a step of decoding, by the functions that tell of a feed, of a device and of a sink
-abbrev pub Decodes : {Fed Dev Out : Type 0} → (Fed → Feeding) → (Fed → Option Files → Type 0) → (Dev → Seen) →
-    (Out → Option (List ℕ)) → (Out → ℕ) → (Out → ℕ) → Reading Fed → Reading Fed → Dev → Dev → Gathering →
-    Gathering → Out → Out → (Result (Unit {0}) ShowErr → DecodingStep) → Result (Unit {0}) ShowErr → Type 0
-Decodes feeding fits device written faults lacks r r_now d d_now b b_now out out_now tells result =
+abbrev pub Decodes : {Fed Dev Out : Type 0} → (Result (Unit {0}) ShowErr → DecodingStep) → Result (Unit {0}) ShowErr →
+    (Fed → Feeding) → (Fed → Option Files → Type 0) → (Dev → Seen) → (Out → Option (List ℕ)) → (Out → ℕ) →
+    (Out → ℕ) → Reading Fed → Reading Fed → Dev → Dev → Gathering → Gathering → Out → Out → Type 0
+Decodes tells result feeding fits device written faults lacks r r_now d d_now b b_now out out_now =
     Steps (fits r_now.feed (device d_now).files) (tells result) result (moment_of feeding device written faults lacks r d b out)
     (moment_of feeding device written faults lacks r_now d_now b_now out_now)
 

@@ -4,6 +4,7 @@ use Rattle.std.specs.Option.{IsSome}
 use Rattle.std.specs.declared.option.Option.{Option}
 use Rattle.std.specs.declared.result.Result.{Result}
 use Rattle.mg_dev.specs.Files.{Files, Reads, bytes_at}
+use Rattle.mg_dev.specs.Moments.{Between}
 use Rattle.mg_bits.specs.Pages.{Fits, Looked, Paging, SameFile}
 use Rattle.mg_defs.specs.CodedText.{TextCode, place_bytes, text_part}
 
@@ -15,8 +16,8 @@ place_width version = if version == 1 then 4 else 8
 abbrev pub place_limit : ℕ → ℕ
 place_limit version = if version == 1 then 2 ^ 32 else 2 ^ 64
 
--- what reading a place promises, beside the place
-pub record ReadsPlace (old new : Paging) (caused : ℕ → ℕ → Type 0) (files_before files_now : Option Files)
+-- what reading a place promises
+pub record ReadsPlace (claim : Type 0) (caused : ℕ → ℕ → Type 0) (old new : Paging) (files_before files_now : Option Files)
     (reads_before reads_now : Reads) (faults_before faults_now : ℕ) : Type 0 where
   -- what the feed keeps of the part agrees with it
   pub fits : Fits new files_now
@@ -26,8 +27,16 @@ pub record ReadsPlace (old new : Paging) (caused : ℕ → ℕ → Type 0) (file
   pub looked : Looked old.part files_before files_now reads_before reads_now faults_before faults_now
   -- at most one page is read
   pub page : reads_now old.part ≤ reads_before old.part + 1
+  -- what is told of the place
+  pub told : claim
   -- a refusal has its cause
   pub cause : caused faults_before faults_now
+
+-- the same by the functions that tell of a store
+abbrev pub LooksUp : {X : Type 0} → Type 0 → (ℕ → ℕ → Type 0) → Paging → Paging → (X → Option Files) → (X → Reads) →
+    (X → ℕ) → X → X → Type 0
+LooksUp claim caused old new files reads faults before now = Between files reads faults before now
+    (ReadsPlace claim caused old new)
 
 -- the place of an index is this one
 pub record IsPlaceAt (version index place : ℕ) (bytes : List ℕ) : Type 0 where

@@ -3,9 +3,10 @@ use Rattle.std.specs.Prelude.{◌≡◌, ◌≢◌, ℕ, ◌*◌, ◌+◌, ◌^�
 use Rattle.std.specs.Option.{IsSome}
 use Rattle.std.specs.declared.option.Option.{Option}
 use Rattle.std.specs.declared.result.Result.{Result}
-use Rattle.mg_dev.specs.Files.{Files, Reads, bytes_at}
-use Rattle.mg_dev.specs.Moments.{SinkAt}
+use Rattle.mg_dev.specs.Files.{Files, Reads, SameReads, bytes_at}
+use Rattle.mg_dev.specs.Moments.{Between, SinkAt, sink_at}
 use Rattle.mg_dev.specs.Names.{full_name}
+use Rattle.mg_dev.specs.PartCauses.{HasPartCause}
 use Rattle.mg_dev.specs.declared.part.Part.{Part}
 use Rattle.mg_dev.specs.declared.part.Part.TheVariants as part
 use Rattle.mg_dev.specs.declared.part_err.PartErr.{PartErr}
@@ -73,6 +74,12 @@ pub record IsTextReader (r : TextReading) (base : List ℕ) (head : Head) : Type
   pub version_is : r.version ≡ head.version
   pub documents_are : r.documents ≡ head.documents
   pub size_is : r.size ≡ head.text_bytes
+
+-- the same by these codes; what it keeps agrees with all files, since it keeps nothing
+pub record IsReaderOver (r : TextReading) (base : List ℕ) (head : Head) (code : TextCode) : Type 0 where
+  pub fits : (files : Option Files) → TextFits r files
+  pub reader : IsTextReader r base head
+  pub model : r.code ≡ code
 
 -- ---- where the parts stand
 
@@ -159,18 +166,6 @@ places_size head = place_width head.version * (head.documents + 1)
 abbrev pub AnswersTextSizes : Stored → Result (Unit {0}) PartErr → Type 0
 AnswersTextSizes s r = AnswersSizes s.head.text_bytes (places_size s.head) s.text s.places r
 
--- the two sizes are those of the head
-abbrev pub HasSizes : Stored → Type 0
-HasSizes s = (length s.text ≡ s.head.text_bytes) × (length s.places ≡ places_size s.head)
-
--- what loading a reader answers: the first of the two sizes that differs, then what the models answer; memory is wanted only where both sizes are right and Words has room for its entries
-abbrev pub AnswersReader : Stored → Result TextReading PartErr → Type 0
-AnswersReader s (Ok r) = HasSizes s × AnswersLoad s.head.words s.head.others s.words s.others (Ok r.code)
-AnswersReader s (Err Device) = Unit {0}
-AnswersReader s (Err Memory) = HasSizes s × AnswersLoad s.head.words s.head.others s.words s.others (Err Memory)
-AnswersReader s (Err (Bad bad)) = AnswersTextSizes s (Err (Bad bad))
-    ⊎ (HasSizes s × AnswersLoad s.head.words s.head.others s.words s.others (Err (Bad bad)))
-
 -- what the parts of a base hold
 abbrev pub stored_at : Option Files → List ℕ → Head → Stored
 stored_at files base head = record {
@@ -180,6 +175,33 @@ stored_at files base head = record {
   text = bytes_at files (full_name base part.Text);
   places = bytes_at files (full_name base part.Places);
 }
+
+-- what comparing the two sizes promises
+pub record ComparesSizes (base : List ℕ) (head : Head) (result : Result (Unit {0}) PartErr)
+    (files_before files_now : Option Files) (reads_before reads_now : Reads) (faults_before faults_now : ℕ) : Type 0
+  where
+    -- Text is compared first
+    pub answer : IsSome files_before → AnswersTextSizes (stored_at files_before base head) result
+    -- no memory is wanted
+    pub memory : result ≢ Err Memory
+    -- no file changes, and no part is read
+    pub files : files_now ≡ files_before
+    pub reads : SameReads reads_before reads_now
+    -- a refusal has its cause
+    pub cause : HasPartCause faults_before faults_now result
+
+-- the two sizes are those of the head
+abbrev pub HasSizes : Stored → Type 0
+HasSizes s = (length s.text ≡ s.head.text_bytes) × (length s.places ≡ places_size s.head)
+
+-- what loading a reader answers: the first of the two sizes that differs, then what the models answer
+-- memory is wanted only where both sizes are right and Words has room for its entries
+abbrev pub AnswersReader : Stored → Result TextReading PartErr → Type 0
+AnswersReader s (Ok r) = HasSizes s × AnswersLoad s.head.words s.head.others s.words s.others (Ok r.code)
+AnswersReader s (Err Device) = Unit {0}
+AnswersReader s (Err Memory) = HasSizes s × AnswersLoad s.head.words s.head.others s.words s.others (Err Memory)
+AnswersReader s (Err (Bad bad)) = AnswersTextSizes s (Err (Bad bad))
+    ⊎ (HasSizes s × AnswersLoad s.head.words s.head.others s.words s.others (Err (Bad bad)))
 
 -- one of the two sizes is not that of the head
 abbrev pub DiffersInSize : Option Files → List ℕ → Head → Type 0
@@ -227,42 +249,6 @@ GathersDoc r files sent sent_now b b_now number result = (collection : List ℕ)
     length (bytes ++ document collection number) ≤ most →
     Gathers result before sent_now b_now (bytes ++ document collection number) most
 
--- that, and no more pages of the text are read than its bits lie on
-abbrev pub GathersWithin : {X Y : Type 0} → (X → Option Files) → (X → Reads) → (Y → Option (List ℕ)) → TextReading → X →
-    X → Y → Y → Gathering → Gathering → ℕ → Result (Unit {0}) ShowErr → Type 0
-GathersWithin files reads written r store store_now out out_now b b_now number result =
-    (collection : List ℕ) (before : Option (List ℕ)) (bytes : List ℕ) (most : ℕ) →
-    TextStands r (files store) collection → Shown before (written out) b bytes most →
-    length (bytes ++ document collection number) ≤ most →
-    AnswersGathered result before (written out_now) b_now (bytes ++ document collection number) most
-    (reads store part.Text) (reads store_now part.Text) (document_pages r.code collection number)
-
--- where the parts stand and a document has at most so many bytes: it is written, or a prefix of it
--- no more pages of the text are read than its bits lie on
-abbrev pub ShowsWithin : {X Y : Type 0} → (X → Option Files) → (X → Reads) → (Y → Option (List ℕ)) → TextReading → X →
-    X → Y → Y → ℕ → ℕ → Result (Unit {0}) ShowErr → Type 0
-ShowsWithin files reads written r store store_now out out_now number most result = WhereTextStands r (files store)
-    (λ collection. length (document collection number) ≤ most →
-    AnswersDoc result (written out) (written out_now) (document collection number)
-    (reads store part.Text) (reads store_now part.Text) (document_pages r.code collection number))
-
--- what decoding a document promises, whatever the parts hold
-pub record ReadsDocument (old new : TextReading) (most most_now : ℕ) (out out_now : SinkAt)
-    (result : Result (Unit {0}) ShowErr) (files_before files_now : Option Files) (reads_before reads_now : Reads)
-    (faults_before faults_now : ℕ) : Type 0 where
-  -- what the reader keeps of Text and Places agrees with them
-  pub fits : TextFits new files_now
-  -- it reads the same text
-  pub same : SameText old new
-  -- nothing is read but Text and Places, and no file changes
-  pub looked : LookedAt part.Text part.Places files_before files_now reads_before reads_now faults_before faults_now
-  -- at most one page of Places is read
-  pub places : reads_now part.Places ≤ reads_before part.Places + 1
-  -- the sink was given no more bytes than might come
-  pub added : AddedOf most most_now out out_now
-  -- a refusal has its cause
-  pub cause : IsShowCaused result faults_before faults_now out.faults out_now.faults out.lacks out_now.lacks
-
 -- no part is bad
 abbrev pub ShowIsNotBad : Result (Unit {0}) ShowErr → Type 0
 ShowIsNotBad (Ok done) = Unit {0}
@@ -271,3 +257,45 @@ ShowIsNotBad (Err (show.Part Memory)) = Unit {0}
 ShowIsNotBad (Err (show.Part (Bad bad))) = ⊥
 ShowIsNotBad (Err show.Write) = Unit {0}
 ShowIsNotBad (Err show.Memory) = Unit {0}
+
+-- a document of this number can be read
+pub record CanRead (r : TextReading) (files : Option Files) (number : ℕ) : Type 0 where
+  -- what the reader keeps of Text and Places agrees with them
+  pub fits : TextFits r files
+  -- the number is one from 1 to the number of documents
+  pub some : 1 ≤ number
+  pub within : number ≤ r.documents
+
+-- what reading a document promises: whatever the parts hold, what is told of its bytes, and facts wherever the parts
+-- stand for a collection of which it may come
+pub record ReadsDocument (old new : TextReading) (number : ℕ) (wherever : (List ℕ → Type 0) → Type 0) (told : Type 0)
+    (most most_now : ℕ) (out out_now : SinkAt) (result : Result (Unit {0}) ShowErr)
+    (files_before files_now : Option Files) (reads_before reads_now : Reads) (faults_before faults_now : ℕ) : Type 0
+  where
+    -- what the reader keeps of Text and Places agrees with them
+    pub fits : TextFits new files_now
+    -- it reads the same text
+    pub same : SameText old new
+    -- nothing is read but Text and Places, and no file changes
+    pub looked : LookedAt part.Text part.Places files_before files_now reads_before reads_now faults_before faults_now
+    -- its bytes come
+    pub content : told
+    -- no part is bad
+    pub never_bad : wherever (λ _. ShowIsNotBad result)
+    -- no more pages of Text are read than its bits lie on
+    pub pages : wherever (PagesOfDocument old number reads_before reads_now)
+    -- at most one page of Places is read
+    pub places : reads_now part.Places ≤ reads_before part.Places + 1
+    -- the sink was given no more bytes than might come
+    pub added : AddedOf most most_now out out_now
+    -- a refusal has its cause
+    pub cause : IsShowCaused result faults_before faults_now out.faults out_now.faults out.lacks out_now.lacks
+
+-- the same by the functions that tell of a store and of a sink
+abbrev pub ReadsDoc : {X Y : Type 0} → ((List ℕ → Type 0) → Type 0) → Type 0 → ℕ → ℕ → ℕ → Result (Unit {0}) ShowErr →
+    TextReading → TextReading → (X → Option Files) → (X → Reads) → (X → ℕ) → X → X → (Y → Option (List ℕ)) → (Y → ℕ) →
+    (Y → ℕ) → Y → Y → Type 0
+ReadsDoc wherever told most most_now number result old new files reads faults before now written sink_faults lacks out out_now =
+    Between files reads faults before now
+    (ReadsDocument old new number wherever told most most_now (sink_at written sink_faults lacks out)
+    (sink_at written sink_faults lacks out_now) result)

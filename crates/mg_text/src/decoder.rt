@@ -23,9 +23,9 @@ fn show_piece<F: Feed, O: Sink>(
     out: &mut O,
 ) -> Result<(), ShowErr>
     requires fits { F.fits r.old.feed (F.device dev.old).files }
-    ensures { Decodes F.feeding F.fits F.device O.written O.faults O.lacks r.old r.new dev.old
-        dev.new buffer.old buffer.new out.old out.new (ShowsPiece (code_of stream model.now))
-        result }
+    ensures { Decodes (ShowsPiece (code_of stream model.now)) result F.feeding F.fits F.device
+        O.written O.faults O.lacks r.old r.new dev.old dev.new buffer.old buffer.new out.old
+        out.new }
 {
     match get_symbol(model.canon(stream), r, dev) {
         Ok(symbol) => match model.short_piece(stream, symbol) {
@@ -47,8 +47,9 @@ fn show_pair<F: Feed, O: Sink>(
     out: &mut O,
 ) -> Result<(), ShowErr>
     requires fits { F.fits r.old.feed (F.device dev.old).files }
-    ensures { Decodes F.feeding F.fits F.device O.written O.faults O.lacks r.old r.new dev.old
-        dev.new buffer.old buffer.new out.old out.new (ShowsPair model.now) result }
+    ensures { Decodes (ShowsPair model.now) result F.feeding F.fits F.device
+        O.written O.faults O.lacks r.old r.new dev.old dev.new buffer.old buffer.new out.old
+        out.new }
 {
     match show_piece(model, Stream::Words, r, dev, buffer, out) {
         Ok(()) => {}
@@ -126,8 +127,9 @@ fn show_pairs<F: Feed, O: Sink>(
     count: u32,
 ) -> Result<(), ShowErr>
     requires fits { F.fits r.old.feed (F.device dev.old).files }
-    ensures { Decodes F.feeding F.fits F.device O.written O.faults O.lacks r.old r.new dev.old
-        dev.new buffer.old buffer.new out.old out.new (ShowsPairs model.now count) result }
+    ensures { Decodes (ShowsPairs model.now count) result F.feeding F.fits F.device
+        O.written O.faults O.lacks r.old r.new dev.old dev.new buffer.old buffer.new out.old
+        out.new }
 {
     for _i in 0..count {
         if show_held(model, r, buffer) {
@@ -150,8 +152,9 @@ pub fn gather_doc<F: Feed, O: Sink>(
     out: &mut O,
 ) -> Result<(), ShowErr>
     requires fits { F.fits r.old.feed (F.device dev.old).files }
-    ensures { Decodes F.feeding F.fits F.device O.written O.faults O.lacks r.old r.new dev.old
-        dev.new buffer.old buffer.new out.old out.new (ShowsDoc model.now) result }
+    ensures { Decodes (ShowsDoc model.now) result F.feeding F.fits F.device
+        O.written O.faults O.lacks r.old r.new dev.old dev.new buffer.old buffer.new out.old
+        out.new }
 {
     let count = match get_count(r, dev) {
         Ok(count) => count,
@@ -171,8 +174,9 @@ pub fn show_doc<F: Feed, O: Sink>(
 ) -> Result<(), ShowErr>
     requires fits { F.fits r.old.feed (F.device dev.old).files }
     requires empty { buffer.old.held ≡ [] }
-    ensures { Decodes F.feeding F.fits F.device O.written O.faults O.lacks r.old r.new dev.old
-        dev.new buffer.old buffer.new out.old out.new (ShowsWhole model.now) result }
+    ensures { Decodes (ShowsWhole model.now) result F.feeding F.fits F.device
+        O.written O.faults O.lacks r.old r.new dev.old dev.new buffer.old buffer.new out.old
+        out.new }
 {
     match gather_doc(model, r, dev, buffer, out) {
         Ok(()) => {}

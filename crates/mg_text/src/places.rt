@@ -4,8 +4,7 @@ ghost use Rattle.mg_dev.specs.Causes.{HasCause};
 ghost use Rattle.mg_bits.specs.Pages.{Fits};
 ghost use Rattle.mg_defs.specs.Numbers.{eight, four};
 ghost use Rattle.mg_text.specs.Decoding.{IsReadCaused, Takes};
-ghost use Rattle.mg_text.specs.Places.{place_width, ForPlace, AnswersNumber, ReadsPlace};
-ghost use Rattle.mg_dev.specs.Moments.{Between};
+ghost use Rattle.mg_text.specs.Places.{place_width, ForPlace, AnswersNumber, LooksUp};
 
 use mg_bits::PageFeed;
 use mg_dev::{Bad, Failed, Part, PartErr, Store};
@@ -28,9 +27,9 @@ fn narrow_place<S: Store>(
     index: u32,
 ) -> Result<Option<u64>, Failed>
     requires fits { Fits places.old (S.files store.old) }
-    ensures read { Between S.files S.reads S.faults store.old store.new
-        (ReadsPlace places.old places.new (λ before now. HasCause before now result)) }
-    ensures told { AnswersNumber places.old (S.files store.old) 4 index four (2 ^ 32) result }
+    ensures { LooksUp (AnswersNumber places.old (S.files store.old) 4 index four (2 ^ 32) result)
+        (λ before now. HasCause before now result) places.old places.new S.files S.reads S.faults
+        store.old store.new }
 {
     let mut bytes = [0u8; 4];
     match places.fill(store, 4 * u64::from(index), &mut bytes) {
@@ -47,9 +46,9 @@ fn wide_place<S: Store>(
     index: u32,
 ) -> Result<Option<u64>, Failed>
     requires fits { Fits places.old (S.files store.old) }
-    ensures read { Between S.files S.reads S.faults store.old store.new
-        (ReadsPlace places.old places.new (λ before now. HasCause before now result)) }
-    ensures told { AnswersNumber places.old (S.files store.old) 8 index eight (2 ^ 64) result }
+    ensures { LooksUp (AnswersNumber places.old (S.files store.old) 8 index eight (2 ^ 64) result)
+        (λ before now. HasCause before now result) places.old places.new S.files S.reads S.faults
+        store.old store.new }
 {
     let mut bytes = [0u8; 8];
     match places.fill(store, 8 * u64::from(index), &mut bytes) {
@@ -67,10 +66,10 @@ fn read_place<S: Store>(
     index: u32,
 ) -> Result<Option<u64>, Failed>
     requires fits { Fits places.old (S.files store.old) }
-    ensures read { Between S.files S.reads S.faults store.old store.new
-        (ReadsPlace places.old places.new (λ before now. HasCause before now result)) }
-    ensures told { ForPlace places.old (S.files store.old) version index
-        (λ p. IfOk result (λ place. place ≡ Some p)) }
+    ensures { LooksUp (ForPlace places.old (S.files store.old) version index
+        (λ p. IfOk result (λ place. place ≡ Some p)))
+        (λ before now. HasCause before now result) places.old places.new S.files S.reads S.faults
+        store.old store.new }
 {
     if version == 1 {
         return narrow_place(places, store, index);
@@ -87,11 +86,10 @@ pub fn first_byte<S: Store>(
     index: u32,
 ) -> Result<u64, PartErr>
     requires fits { Fits places.old (S.files store.old) }
-    ensures read { Between S.files S.reads S.faults store.old store.new
-        (ReadsPlace places.old places.new (IsReadCaused result)) }
+    ensures read { LooksUp (ForPlace places.old (S.files store.old) version index
+        (λ p. p ≤ size → p ≤ 2 ^ 60 → Takes result (λ from. from ≡ p) (Unit {0})))
+        (IsReadCaused result) places.old places.new S.files S.reads S.faults store.old store.new }
     ensures small { IfOk result (λ from. from ≤ 2 ^ 60) }
-    ensures told { ForPlace places.old (S.files store.old) version index
-        (λ p. p ≤ size → p ≤ 2 ^ 60 → Takes result (λ from. from ≡ p) (Unit {0})) }
 {
     let high = size.min(LAST);
     match read_place(places, store, version, index) {

@@ -4,7 +4,8 @@ ghost use Rattle.std.specs.Bool.{OnTrue, OnFalse};
 ghost use Rattle.mg_dev.specs.Causes.{HasLack, HasPutCause};
 ghost use Rattle.mg_dev.specs.Streams.{AfterPut};
 ghost use Rattle.mg_model.specs.Blocks.{short_piece};
-ghost use Rattle.mg_text.specs.Decoding.{AddsOf, ForShown, Gathers, IsPutCaused, Keeps, PutCaused, bytes_to_come};
+ghost use Rattle.mg_dev.specs.Moments.{sink_at};
+ghost use Rattle.mg_text.specs.Decoding.{AddsOf, ForShown, IsPutCaused, Keeps, PutsPiece, bytes_to_come};
 
 use mg_dev::{Bad, Part, PartErr, PutErr, ShowErr, Sink, refused_put};
 use mg_model::short_piece;
@@ -101,12 +102,9 @@ impl ShowBuffer {
     #[inline(never)]
     pub fn put<O: Sink>(&mut self, out: &mut O, piece: &[u8]) -> Result<(), ShowErr>
         requires short { length piece.now ≤ 255 }
-        ensures shown { ForShown (O.written out.old) self.old
-            (λ before bytes most. Gathers result before (O.written out.new) self.new
-            (bytes ++ piece.now) most) }
-        ensures added { AddsOf O.written O.faults O.lacks out.old out.new (bytes_to_come self.old)
-            (bytes_to_come self.new) }
-        ensures cause { PutCaused O.faults O.lacks out.old out.new self.old piece.now result }
+        ensures { PutsPiece piece.now result self.old self.new
+            (sink_at O.written O.faults O.lacks out.old)
+            (sink_at O.written O.faults O.lacks out.new) }
     {
         if piece.len() <= self.room - self.used {
             self.keep(piece);
@@ -134,13 +132,9 @@ impl ShowBuffer {
     #[inline]
     pub fn put_short<O: Sink>(&mut self, out: &mut O, entry: &[u8; 16]) -> Result<(), ShowErr>
         requires short { slice_index entry.now 0 ≤ 15 }
-        ensures shown { ForShown (O.written out.old) self.old
-            (λ before bytes most. Gathers result before (O.written out.new) self.new
-            (bytes ++ short_piece entry.now) most) }
-        ensures added { AddsOf O.written O.faults O.lacks out.old out.new (bytes_to_come self.old)
-            (bytes_to_come self.new) }
-        ensures cause { PutCaused O.faults O.lacks out.old out.new self.old (short_piece entry.now)
-            result }
+        ensures { PutsPiece (short_piece entry.now) result self.old self.new
+            (sink_at O.written O.faults O.lacks out.old)
+            (sink_at O.written O.faults O.lacks out.new) }
     {
         if MOST <= self.room - self.used {
             self.keep_short(entry);

@@ -6,10 +6,10 @@ ghost use Rattle.mg_dev.specs.declared.part.Part.TheVariants as part;
 ghost use Rattle.mg_defs.specs.PagesOf.{pages};
 ghost use Rattle.mg_defs.specs.Split.{documents};
 ghost use Rattle.mg_front.specs.Reading.{IsNotBad, LookedAt};
-ghost use Rattle.mg_text.specs.Decoding.{Added, AddsOf, IsShowCaused, bytes_to_come};
+ghost use Rattle.mg_text.specs.Decoding.{bytes_to_come};
 ghost use Rattle.mg_text.specs.Held.{ForShortDocument, WhereShort};
-ghost use Rattle.mg_text.specs.Reading.{AnswersReader, AnswersTextSizes, IsTextReader, SameText, ShowIsNotBad, TextFits, TextStands, stored_at, WhereIsText, GathersDoc, DiffersInSize, GathersWithin, WhereTextStands, PagesOfDocument, ReadsDocument, ShowsWithin, WritesDocument};
-ghost use Rattle.mg_dev.specs.Moments.{Between, sink_at};
+ghost use Rattle.mg_text.specs.Reading.{AnswersReader, CanRead, ComparesSizes, DiffersInSize, GathersDoc, IsReaderOver, IsTextReader, ReadsDoc, TextFits, TextStands, WhereIsText, WhereTextStands, WritesDocument, stored_at};
+ghost use Rattle.mg_dev.specs.Moments.{Between};
 ghost use Rattle.mg_dev.specs.Streams.{AfterPut};
 
 use crate::decoder::{gather_doc, show_doc};
@@ -56,12 +56,8 @@ impl<'a, S: Store> Model for TextReader<'a, S> {
 
 // Compares the sizes of Text and Places with those of the head, in this order.
 fn expect_sizes<S: Store>(store: &mut S, base: &str, head: &Head) -> Result<(), PartErr>
-    ensures answer { IsSome (S.files store.old) →
-        AnswersTextSizes (stored_at (S.files store.old) base.now head.now) result }
-    ensures memory { result ≢ Err PartErr.Memory }
-    ensures files { S.files store.new ≡ S.files store.old }
-    ensures reads { SameReads (S.reads store.old) (S.reads store.new) }
-    ensures cause { HasPartCause (S.faults store.old) (S.faults store.new) result }
+    ensures { Between S.files S.reads S.faults store.old store.new
+        (ComparesSizes base.now head.now result) }
 {
     let text = FileRef {
         base,
@@ -128,9 +124,7 @@ impl<'a, S: Store> TextReader<'a, S> {
 
     // A reader by this model.
     fn over(alloc: Global, base: &'a str, head: &Head, model: TextModel) -> Result<Self, AllocError>
-        ensures fits { IfOk result (λ r. (files : Option Files) → TextFits r files) }
-        ensures reader { IfOk result (λ r. IsTextReader r base.entry.now head.now) }
-        ensures model { IfOk result (λ r. r.code ≡ model) }
+        ensures { IfOk result (λ r. IsReaderOver r base.entry.now head.now model) }
     {
         match ReaderParts::new(alloc, base, model) {
             Ok(parts) => Ok(Self::of(parts, head)),
@@ -177,25 +171,12 @@ impl<'a, S: Store> TextReader<'a, S> {
     /// damaged or tell of more bytes than any collection has, and never for want of memory; `Write`
     /// where the sink failed; `Memory` where the sink lacked it.
     pub fn doc<O: Sink>(&mut self, store: &mut S, number: u32, out: &mut O) -> Result<(), ShowErr>
-        requires fits { TextFits self.old (S.files store.old) }
-        requires some { 1 ≤ number }
-        requires within { number ≤ self.old.documents }
-        ensures fits { TextFits self.new (S.files store.new) }
-        ensures same { SameText self.old self.new }
-        ensures looked { Between S.files S.reads S.faults store.old store.new
-            (LookedAt part.Text part.Places) }
-        ensures content { WhereTextStands self.old (S.files store.old)
-            (WritesDocument (O.written out.old) (O.written out.new) number result) }
-        ensures never_bad { WhereTextStands self.old (S.files store.old)
-            (λ _. ShowIsNotBad result) }
-        ensures pages { WhereTextStands self.old (S.files store.old)
-            (PagesOfDocument self.old number (S.reads store.old) (S.reads store.new)) }
-        ensures places { S.reads store.new part.Places ≤ S.reads store.old part.Places + 1 }
-        ensures added { Added (O.written out.old) (O.written out.new) (O.faults out.old)
-            (O.faults out.new) (O.lacks out.old) (O.lacks out.new) }
-        ensures cause { IsShowCaused result (S.faults store.old) (S.faults store.new)
-            (O.faults out.old) (O.faults out.new)
-            (O.lacks out.old) (O.lacks out.new) }
+        requires { CanRead self.old (S.files store.old) number }
+        ensures { ReadsDoc (WhereTextStands self.old (S.files store.old))
+            (WhereTextStands self.old (S.files store.old)
+            (WritesDocument (O.written out.old) (O.written out.new) number result)) (2 ^ 32 - 1) 0
+            number result self.old self.new S.files S.reads S.faults store.old store.new O.written
+            O.faults O.lacks out.old out.new }
     {
         self.doc_within(store, number, GREATEST, out)
     }
@@ -214,27 +195,23 @@ impl<'a, S: Store> TextReader<'a, S> {
         most: u64,
         out: &mut O,
     ) -> Result<(), ShowErr>
-        requires fits { TextFits self.old (S.files store.old) }
-        requires some { 1 ≤ number }
-        requires within { number ≤ self.old.documents }
-        ensures fits { TextFits self.new (S.files store.new) }
-        ensures same { SameText self.old self.new }
-        ensures looked { Between S.files S.reads S.faults store.old store.new
-            (LookedAt part.Text part.Places) }
-        ensures content { ForShortDocument self.old (S.files store.old) number most
-            (λ doc. AfterPut (O.written out.old) (O.written out.new) doc result) }
-        ensures never_bad { ForShortDocument self.old (S.files store.old) number most
-            (λ _. ShowIsNotBad result) }
-        ensures pages { WhereShort self.old (S.files store.old) number most
-            (PagesOfDocument self.old number (S.reads store.old) (S.reads store.new)) }
-        ensures places { S.reads store.new part.Places ≤ S.reads store.old part.Places + 1 }
-        // Whatever the parts hold, no more bytes are added.
-        ensures added { AddsOf O.written O.faults O.lacks out.old out.new most 0 }
-        ensures cause { IsShowCaused result (S.faults store.old) (S.faults store.new)
-            (O.faults out.old) (O.faults out.new)
-            (O.lacks out.old) (O.lacks out.new) }
+        requires { CanRead self.old (S.files store.old) number }
+        ensures { ReadsDoc (WhereShort self.old (S.files store.old) number most)
+            (ForShortDocument self.old (S.files store.old) number most
+            (λ doc. AfterPut (O.written out.old) (O.written out.new) doc result)) most 0
+            number result self.old self.new S.files S.reads S.faults store.old store.new O.written
+            O.faults O.lacks out.old out.new }
     {
-        self.show(store, number, most, out)
+        let version = self.version;
+        let size = self.size;
+        let from = match first_byte(&mut self.places, store, version, size, number - 1) {
+            Ok(from) => from,
+            Err(refusal) => return Err(ShowErr::Part(refusal)),
+        };
+        self.text.seek(8 * from);
+        self.buffer.start(most);
+        self.buffer.begin(8 * from);
+        show_doc(&self.model, &mut self.text, store, &mut self.buffer, out)
     }
 
     /// Adds the bytes of a document to those that a buffer holds; what goes to the sink is as much
@@ -253,53 +230,13 @@ impl<'a, S: Store> TextReader<'a, S> {
         buffer: &mut ShowBuffer,
         out: &mut O,
     ) -> Result<(), ShowErr>
-        requires fits { TextFits self.old (S.files store.old) }
-        requires some { 1 ≤ number }
-        requires within { number ≤ self.old.documents }
-        ensures fits { TextFits self.new (S.files store.new) }
-        ensures same { SameText self.old self.new }
-        ensures looked { Between S.files S.reads S.faults store.old store.new
-            (LookedAt part.Text part.Places) }
-        ensures content { GathersDoc self.old (S.files store.old) (O.written out.old)
-            (O.written out.new) buffer.old buffer.new number result }
-        ensures never_bad { WhereShort self.old (S.files store.old) number buffer.old.left
-            (λ _. ShowIsNotBad result) }
-        ensures pages { WhereShort self.old (S.files store.old) number buffer.old.left
-            (PagesOfDocument self.old number (S.reads store.old) (S.reads store.new)) }
-        ensures places { S.reads store.new part.Places ≤ S.reads store.old part.Places + 1 }
-        ensures added { AddsOf O.written O.faults O.lacks out.old out.new (bytes_to_come buffer.old)
-            (bytes_to_come buffer.new) }
-        ensures cause { IsShowCaused result (S.faults store.old) (S.faults store.new)
-            (O.faults out.old) (O.faults out.new)
-            (O.lacks out.old) (O.lacks out.new) }
-    {
-        self.gather_behind(store, number, buffer, out)
-    }
-
-    /// The models of both streams, as they were loaded.
-    pub fn model(&self) -> &TextModel
-        ensures { result.now ≡ self.now.code }
-    {
-        &self.model
-    }
-
-    // Gathers a document, where the parts stand or not.
-    fn gather_behind<O: Sink>(
-        &mut self,
-        store: &mut S,
-        number: u32,
-        buffer: &mut ShowBuffer,
-        out: &mut O,
-    ) -> Result<(), ShowErr>
-        requires fits { TextFits self.old (S.files store.old) }
-        requires some { 1 ≤ number }
-        requires within { number ≤ self.old.documents }
-        ensures read { Between S.files S.reads S.faults store.old store.new
-            (ReadsDocument self.old self.new (bytes_to_come buffer.old) (bytes_to_come buffer.new)
-            (sink_at O.written O.faults O.lacks out.old)
-            (sink_at O.written O.faults O.lacks out.new) result) }
-        ensures answer { GathersWithin S.files S.reads O.written self.old store.old store.new
-            out.old out.new buffer.old buffer.new number result }
+        requires { CanRead self.old (S.files store.old) number }
+        ensures { ReadsDoc (WhereShort self.old (S.files store.old) number buffer.old.left)
+            (GathersDoc self.old (S.files store.old) (O.written out.old) (O.written out.new)
+            buffer.old buffer.new number result)
+            (bytes_to_come buffer.old) (bytes_to_come buffer.new)
+            number result self.old self.new S.files S.reads S.faults store.old store.new O.written
+            O.faults O.lacks out.old out.new }
     {
         let (version, size) = (self.version, self.size);
         let index = number - 1;
@@ -313,32 +250,10 @@ impl<'a, S: Store> TextReader<'a, S> {
         gather_doc(&self.model, &mut self.text, store, buffer, out)
     }
 
-    // Shows a document, where the parts stand or not.
-    fn show<O: Sink>(
-        &mut self,
-        store: &mut S,
-        number: u32,
-        most: u64,
-        out: &mut O,
-    ) -> Result<(), ShowErr>
-        requires fits { TextFits self.old (S.files store.old) }
-        requires some { 1 ≤ number }
-        requires within { number ≤ self.old.documents }
-        ensures read { Between S.files S.reads S.faults store.old store.new
-            (ReadsDocument self.old self.new most 0 (sink_at O.written O.faults O.lacks out.old)
-            (sink_at O.written O.faults O.lacks out.new) result) }
-        ensures answer { ShowsWithin S.files S.reads O.written self.old store.old store.new out.old
-            out.new number most result }
+    /// The models of both streams, as they were loaded.
+    pub fn model(&self) -> &TextModel
+        ensures { result.now ≡ self.now.code }
     {
-        let version = self.version;
-        let size = self.size;
-        let from = match first_byte(&mut self.places, store, version, size, number - 1) {
-            Ok(from) => from,
-            Err(refusal) => return Err(ShowErr::Part(refusal)),
-        };
-        self.text.seek(8 * from);
-        self.buffer.start(most);
-        self.buffer.begin(8 * from);
-        show_doc(&self.model, &mut self.text, store, &mut self.buffer, out)
+        &self.model
     }
 }

@@ -3,15 +3,16 @@ use Rattle.std.specs.Prelude.{slice_get}
 use Rattle.mg_defs.specs.Sorted.{number_of}
 use Rattle.mg_defs.specs.Marks.{code_of}
 use Rattle.mg_model.specs.Blocks.{short_piece}
-use Rattle.mg_text.proofs.PairLaws.{piece_number, piece_put, piece_refused}
+use Rattle.mg_text.proofs.PairLaws.{piece_number, piece_put, piece_stopped}
 use Rattle.mg_text.proofs.StepLaws.{number_refused, put_behind}
+use Rattle.mg_text.proofs.Steps.{ends_read}
 use Rattle.mg_text.proofs.decoder.show_piece.Goals as goal
 
 pub returns-in-Err : goal.returns-in-Err
 returns-in-Err g c = number_refused c.in-Err.refusal c.in-Err.ensures.read refl refl (λ piece is before bytes most small shows shown fits.
     let code = code_of c.args.stream c.args.model.now in
     let below : number_of code.pieces piece < length code.lengths = omega (arith, piece_number code piece is, c.canon.ensures.keeps.each) in
-    piece_refused _ c.in-Err.refusal _ _ _ _ _ _ _ _ _ _ _ bytes piece shown ((rw c.canon.ensures.lengths at c.in-Err.ensures.told) (number_of code.pieces piece) below small shows))
+    ends_read c.in-Err.refusal _ _ _ _ (λ pages. piece_stopped bytes piece shown pages) ((rw c.canon.ensures.lengths at c.in-Err.ensures.told) (number_of code.pieces piece) below small shows))
 
 pub returns-in-Some : goal.returns-in-Some
 returns-in-Some g c = put_behind c.in-Ok.symbol c.put_short.result _ _ c.in-Ok.ensures.read c.put_short.ensures.added c.put_short.ensures.cause (λ piece is before bytes most small shows shown fits.

@@ -1,29 +1,37 @@
-use Rattle.mg_text.proofs.Steps.{ends_first, ends_good, ends_second}
+use Rattle.std.proofs.Common.{arith, ◌≡◌, ◌≤◌, length, sym, subst, ◌∙◌, ap, ◌-◌}
+use Rattle.mg_dev.specs.declared.part.Part.TheVariants as part
+use Rattle.mg_dev.specs.Names.{same_part}
+use Rattle.mg_defs.specs.CodedText.{place_after}
+use Rattle.mg_text.specs.Decoding.{Gathering}
+use Rattle.mg_text.proofs.DocumentLaws.{document_read, document_refused, short_told}
+use Rattle.mg_text.proofs.ReaderLaws.{doc_told, place_refused, place_wanted}
 use Rattle.mg_text.proofs.text_reader.TextReader.doc_within.Goals as goal
 
-pub returns-clause-content : goal.returns-clause-content
-returns-clause-content g c = λ collection has. ends_first c.show.result _ _ _ _ (c.show.ensures.answer collection has.stands has.short)
+pub returns-in-Err : goal.returns-in-Err
+returns-in-Err g c =
+    let fits = rw (← c.self.view_is) at c.requires.fits in
+    let within = rw (← c.self.view_is) at c.requires.within in
+    let read = c.in-Err.ensures.read in
+    rw (← c.self.view_is)
+    (document_refused c.in-Err.refusal fits c.self.invariant.1 (omega arith) read
+    (short_told _ (g.O.Sink.written c.args.out.now) (g.O.Sink.written c.args.out.now) c.args.most (λ collection has.
+    let wanted = place_wanted _ _ collection c.args.number has.stands c.requires.some within in
+    place_refused _ c.in-Err.refusal _ _ _ _ _ _ (read.looked.others part.Text (ap (same_part part.Text) c.self.invariant.1))
+    (read.told has.stands.told (place_after c.self.inside.model collection (c.args.number - 1)) wanted.0 wanted.1 wanted.2))))
 
-pub returns-clause-never_bad : goal.returns-clause-never_bad
-returns-clause-never_bad g c = λ collection has. ends_good c.show.result _ _ (c.show.ensures.answer collection has.stands has.short)
-
-pub returns-clause-pages : goal.returns-clause-pages
-returns-clause-pages g c = λ collection has. ends_second c.show.result _ _ _ (c.show.ensures.answer collection has.stands has.short)
-
-pub returns-clause-fits : goal.returns-clause-fits
-returns-clause-fits g c = c.show.ensures.read.fits
-
-pub returns-clause-same : goal.returns-clause-same
-returns-clause-same g c = c.show.ensures.read.same
-
-pub returns-clause-looked : goal.returns-clause-looked
-returns-clause-looked g c = c.show.ensures.read.looked
-
-pub returns-clause-places : goal.returns-clause-places
-returns-clause-places g c = c.show.ensures.read.places
-
-pub returns-clause-added : goal.returns-clause-added
-returns-clause-added g c = c.show.ensures.read.added
-
-pub returns-clause-cause : goal.returns-clause-cause
-returns-clause-cause g c = c.show.ensures.read.cause
+pub returns : goal.returns
+returns g c =
+    let within = rw (← c.self.view_is) at c.requires.within in
+    let buffer = c.begin.ensures ∙ c.start.ensures in
+    let left : c.begin.new.self.left ≡ c.args.most = ap (λ (b : Gathering). b.left) buffer in
+    let read = c.in-Ok.ensures.read in
+    rw (← c.self.view_is)
+    (document_read c.show_doc.result c.in-Ok.from c.self.invariant.0 c.self.invariant.1 read c.seek.ensures.feed c.show_doc.ensures
+    (omega (arith, ap (λ (b : Gathering). length b.held) buffer, left)) (omega arith)
+    (short_told c.show_doc.result (g.O.Sink.written c.args.out.now) (g.O.Sink.written c.show_doc.new.out) c.args.most (λ collection has.
+    let wanted = place_wanted _ _ collection c.args.number has.stands c.requires.some within in
+    doc_told c.show_doc.result _ _ _ collection c.args.number c.in-Ok.from c.seek.new.self.place c.seek.new.self.feed _ _ _ _ c.args.most _ _ has.stands
+    c.requires.some within read.looked.files
+    (read.told has.stands.told (place_after c.self.inside.model collection (c.args.number - 1)) wanted.0 wanted.1 wanted.2)
+    c.seek.ensures.place c.seek.ensures.feed c.self.invariant.0 (read.looked.others part.Text (ap (same_part part.Text) c.self.invariant.1)) has.short
+    (λ doc all few fits small shows. c.show_doc.ensures.told doc all few (subst (λ n. length doc ≤ n) (sym left) fits) small shows))))
