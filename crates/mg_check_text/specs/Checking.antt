@@ -161,6 +161,11 @@ ForNextDoc r files head p claim = ForDoc r files p.documents (head.collection - 
 abbrev pub PlaceStands : ℕ → ℕ → ℕ → Parts → Type 0
 PlaceStands version number place parts = StandAt (place_width version * number) (place_bytes version place) parts.places
 
+-- the code of a document stands next in Text, and its place in Places
+pub record CodeStands (version : ℕ) (coded : List ℕ) (p : Progress) (parts : Parts) : Type 0 where
+  pub code : StandAt p.place coded parts.text
+  pub place : PlaceStands version p.documents p.place parts
+
 -- by the parts of a base, a document stands next, and it was added
 abbrev pub FoundMore : Option Files → List ℕ → Head → TextReading → Progress → Progress → Type 0
 FoundMore files base head r old new = FoundNext (parts_at files base) head.version r.code old new

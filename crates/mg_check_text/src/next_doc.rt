@@ -1,5 +1,5 @@
 //! One document more of a text that nothing is known of.
-ghost use Rattle.std.specs.Prelude.{◌≡◌, ◌≢◌, ◌+◌, ◌-◌, ◌*◌, ◌<◌, ◌≤◌, ◌^◌, Err, IfErr, IsSome, OnOk, length};
+ghost use Rattle.std.specs.Prelude.{◌≡◌, ◌≢◌, ◌+◌, ◌-◌, ◌*◌, ◌<◌, ◌≤◌, ◌^◌, Err, IfErr, IfOk, IsSome, OnOk, length};
 ghost use Rattle.mg_dev.specs.Bads.{IsNotBad};
 ghost use Rattle.mg_dev.specs.Moments.{Between};
 ghost use Rattle.mg_defs.specs.CodedText.{coded_size};
@@ -7,7 +7,7 @@ ghost use Rattle.mg_defs.specs.Means.{StandForNone};
 ghost use Rattle.mg_defs.specs.Split.{IsDocument};
 ghost use Rattle.mg_layout.specs.Stands.{parts_at};
 ghost use Rattle.mg_text.specs.Reading.{TextFits};
-ghost use Rattle.mg_check_text.specs.Checking.{HasAdded, IsInRange, IsNextDoc, ForNextDoc, PlaceStands, FoundMore, WhereRead};
+ghost use Rattle.mg_check_text.specs.Checking.{CodeStands, HasAdded, IsInRange, IsNextDoc, ForNextDoc, PlaceStands, FoundMore, WhereRead};
 ghost use Rattle.mg_check_parts.specs.Refusals.{OnBad, Refutes};
 ghost use Rattle.mg_check_parts.specs.Decoding.{CanCode};
 ghost use Rattle.mg_check_parts.specs.Looks.{LooksAtSet};
@@ -123,6 +123,39 @@ fn unknown_piece(place: u64) -> PartErr
     })
 }
 
+// Sees that the code of a document stands next in Text, and its place in Places; answers where the code ends.
+fn expect_coded<S: Store>(
+    store: &mut S,
+    base: &str,
+    version: u8,
+    progress: &Progress,
+    coded: &[u8],
+) -> Result<u64, PartErr>
+    requires place { progress.now.place ≤ 2 ^ 60 }
+    requires narrow { version ≡ 1 → progress.now.place < 2 ^ 32 }
+    ensures end { IfOk result (λ end. end ≡ progress.now.place + length coded.now) }
+    ensures stand { IsSome (S.files store.old) →
+        OnOk result (CodeStands version coded.now progress.now
+        (parts_at (S.files store.old) base.now)) }
+    ensures other { IsSome (S.files store.old) →
+        OnBad result (CodeStands version coded.now progress.now
+        (parts_at (S.files store.old) base.now) → ⊥) }
+    ensures looks { Between S.files S.reads S.faults store.old store.new (LooksAtSet result) }
+{
+    let text = FileRef {
+        base,
+        part: Part::Text,
+    };
+    let end = match expect_more(store, text, progress.place, coded) {
+        Ok(end) => end,
+        Err(refusal) => return Err(refusal),
+    };
+    match expect_place(store, base, version, progress.documents, progress.place) {
+        Ok(()) => Ok(end),
+        Err(refusal) => Err(refusal),
+    }
+}
+
 // Codes a document, and adds it to what was read where its code stands next in Text and its place in Places.
 fn add_doc<S: Store>(
     alloc: Global,
@@ -149,27 +182,19 @@ fn add_doc<S: Store>(
         progress.old → ⊥) }
     ensures looks { Between S.files S.reads S.faults store.old store.new (LooksAtSet result) }
 {
-    let text = FileRef {
-        base,
-        part: Part::Text,
-    };
     let coded = match code_doc(alloc, model, doc, &mut progress.uses) {
         Ok(Some(coded)) => coded,
         Ok(None) => return Err(unknown_piece(progress.place)),
         Err(_) => return Err(PartErr::Memory),
     };
-    let place = match expect_more(store, text, progress.place, coded.bytes()) {
-        Ok(place) => place,
+    let end = match expect_coded(store, base, version, progress, coded.bytes()) {
+        Ok(end) => end,
         Err(refusal) => return Err(refusal),
     };
-    match expect_place(store, base, version, progress.documents, progress.place) {
-        Ok(()) => {}
-        Err(refusal) => return Err(refusal),
-    }
     progress.documents += 1;
     progress.bytes += doc.len() as u64;
     progress.last = doc.len() as u64;
-    progress.place = place;
+    progress.place = end;
     Ok(())
 }
 
