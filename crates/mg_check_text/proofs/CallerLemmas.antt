@@ -1,5 +1,6 @@
 -- What callers may cite of the text: readers that stay, documents that were read, and the collection that is meant.
-use Rattle.std.proofs.Common.{arith, ◌≡◌, ◌<◌, ◌≤◌, ◌+◌, ◌-◌, ℕ, zero, suc, true, false, Bool, List, [], ◌∷◌, length, get_or, sym, ap, subst, ◌∙◌, inl, inr, is_some, ◌⊎◌, ◌^◌, ◌==◌, if◌then◌else◌, Contains}
+use Rattle.std.proofs.Common.{arith, ◌≡◌, ◌<◌, ◌≤◌, ◌+◌, ◌-◌, ℕ, zero, suc, true, false, Bool, List, []}
+use Rattle.std.proofs.Common.{◌∷◌, length, get_or, sym, ap, subst, ◌∙◌, inl, inr, is_some, ◌⊎◌, ◌^◌, ◌==◌, if◌then◌else◌, Contains}
 use Rattle.std.specs.List.{AllByRecursion, flat_map}
 use Rattle.std.specs.declared.option.Option.{Option}
 use Rattle.std.proofs.lemmas.List.{get_or_past}

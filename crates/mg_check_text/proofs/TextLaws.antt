@@ -1,5 +1,6 @@
 -- The text of a set, document by document, and what it means at the end.
-use Rattle.std.proofs.Common.{arith, zero, suc, ◌≡◌, ◌≤◌, ◌<◌, ◌+◌, ◌*◌, ◌==◌, ◌++◌, ℕ, Bool, true, false, if◌then◌else◌, List, [], ◌∷◌, Contains, length, map, sum, sum_by, take, drop, get_or, IsTrue, refl, sym, ap, subst, ◌∙◌, append_assoc, append-nil, length-append, add-zero}
+use Rattle.std.proofs.Common.{arith, zero, suc, ◌≡◌, ◌≤◌, ◌<◌, ◌+◌, ◌*◌, ◌==◌, ◌++◌, ℕ, Bool, true, false, if◌then◌else◌, List, [], ◌∷◌}
+use Rattle.std.proofs.Common.{Contains, length, map, sum, sum_by, take, drop, get_or, IsTrue, refl, sym, ap, subst, ◌∙◌, append_assoc, append-nil, length-append, add-zero}
 use Rattle.std.specs.List.{AllByRecursion, flat_map}
 use Rattle.std.specs.declared.option.Option.{Option}
 use Rattle.std.proofs.Math.Seq.{drop-append_seam, drop-cons, take-add, take-append_seam, take-length}

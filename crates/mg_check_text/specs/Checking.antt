@@ -166,6 +166,14 @@ pub record CodeStands (version : ℕ) (coded : List ℕ) (p : Progress) (parts :
   pub code : StandAt p.place coded parts.text
   pub place : PlaceStands version p.documents p.place parts
 
+-- a document can stand next
+abbrev pub StandsNext : ℕ → TextCode → List ℕ → Progress → Parts → Type 0
+StandsNext version code doc p parts = IsNextDoc parts version code doc p
+
+-- the documents that were read are all
+abbrev pub EndsAt : Head → TextCode → Progress → Parts → Type 0
+EndsAt head code p parts = IsAtEnd parts head code p
+
 -- by the parts of a base, a document stands next, and it was added
 abbrev pub FoundMore : Option Files → List ℕ → Head → TextReading → Progress → Progress → Type 0
 FoundMore files base head r old new = FoundNext (parts_at files base) head.version r.code old new
@@ -174,7 +182,11 @@ FoundMore files base head r old new = FoundNext (parts_at files base) head.versi
 abbrev pub FoundSet : Option Files → List ℕ → Head → TextReading → Type 0
 FoundSet files base head r = FoundText (parts_at files base) (fields_of head) r.code
 
--- a claim where the reader's codes were told, and some documents were read
+-- a claim where the reader's codes were told
+abbrev pub WhereLoaded : Option Files → List ℕ → Head → TextReading → Type 0 → Type 0
+WhereLoaded files base head r claim = IsLoaded files base head r → claim
+
+-- the same where some documents were read too
 abbrev pub WhereRead : Option Files → List ℕ → Head → TextReading → Progress → Type 0 → Type 0
 WhereRead files base head r p claim = IsLoaded files base head r → (docs : List (List ℕ)) →
     HasRead (parts_at files base) head.version r.code docs p → claim

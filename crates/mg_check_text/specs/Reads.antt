@@ -1,18 +1,22 @@
 -- What a call does that reads the text of a set, what it starts from, and the terms that it reads.
-use Rattle.std.specs.Prelude.{◌≡◌, ◌≤◌, ◌^◌, ℕ, List, length, Ok}
+use Rattle.std.specs.Prelude.{◌≡◌, ◌≤◌, ◌^◌, ℕ, List, length, Ok, OnOk}
+use Rattle.std.specs.Option.{IsSome}
 use Rattle.std.specs.declared.option.Option.{Option}
 use Rattle.std.specs.declared.result.Result.{Result}
 use Rattle.mg_dev.specs.Files.{Files, Reads}
-use Rattle.mg_dev.specs.Moments.{StoreStep}
+use Rattle.mg_dev.specs.Moments.{Between, StoreStep}
 use Rattle.mg_dev.specs.declared.part_err.PartErr.{PartErr}
 use Rattle.mg_defs.specs.Heads.{IsWithin}
-use Rattle.mg_defs.specs.Means.{IsModel}
+use Rattle.mg_defs.specs.Means.{IsModel, StandForNone}
+use Rattle.mg_defs.specs.Stands.{Parts}
 use Rattle.mg_defs.specs.Terms.{document}
 use Rattle.mg_layout.specs.HeadAnswers.{fields_of}
+use Rattle.mg_layout.specs.Stands.{parts_at}
 use Rattle.mg_layout.specs.declared.head.Head.{Head}
 use Rattle.mg_model.specs.Terms.{TermNumbers, terms_and_numbers}
 use Rattle.mg_text.specs.Reading.{SameText, TextFits, TextReading, TextStands}
 use Rattle.mg_check_parts.specs.Looks.{LooksAtSet}
+use Rattle.mg_check_parts.specs.Refusals.{OnBad}
 use Rattle.mg_check_parts.specs.TermsRead.{AreTermsOf, TermsRead}
 
 -- ---- calls that read the text
@@ -31,6 +35,41 @@ pub record ReadsText {T : Type 0} (old new : TextReading) (result : Result T Par
 -- calls that were done and read the text
 abbrev pub HasReadText : TextReading → TextReading → StoreStep
 HasReadText old new = ReadsText {T = Unit {0}} old new (Ok tt)
+
+-- calls that read on: what is found, and where a part is refused the parts of a base stand for no collection
+pub record ReadsOn {T : Type 0} (claim : Type 0) (wherever : Type 0 → Type 0) (base : List ℕ) (old new : TextReading)
+    (result : Result T PartErr) (files_before files_now : Option Files) (reads_before reads_now : Reads)
+    (faults_before faults_now : ℕ) : Type 0 where
+  -- what was found
+  pub found : claim
+  -- a part is refused only where the parts stand for none
+  pub none : wherever (OnBad result (StandForNone (parts_at files_before base)))
+  -- the text was read, and other parts of a set
+  pub text : ReadsText old new result files_before files_now reads_before reads_now faults_before faults_now
+
+-- the same by the functions that tell of a store
+abbrev pub FindsText : {X T : Type 0} → Type 0 → (Type 0 → Type 0) → List ℕ → TextReading → TextReading → Result T PartErr →
+    (X → Option Files) → (X → Reads) → (X → ℕ) → X → X → Type 0
+FindsText claim wherever base old new result files reads faults before now = Between files reads faults before now
+    (ReadsOn claim wherever base old new result)
+
+-- ---- calls that compare
+
+-- a claim on the parts of a base was compared with them
+pub record Compared {T : Type 0} (claim : Parts → Type 0) (base : List ℕ) (result : Result T PartErr)
+    (files_before files_now : Option Files) (reads_before reads_now : Reads) (faults_before faults_now : ℕ) : Type 0 where
+  -- at `Ok` it is so
+  pub so : IsSome files_before → OnOk result (claim (parts_at files_before base))
+  -- a part is refused only where it is not so
+  pub other : IsSome files_before → OnBad result (claim (parts_at files_before base) → ⊥)
+  -- parts of a set were read, and nothing else
+  pub looks : LooksAtSet result files_before files_now reads_before reads_now faults_before faults_now
+
+-- the same by the functions that tell of a store
+abbrev pub Compares : {X T : Type 0} → (Parts → Type 0) → List ℕ → Result T PartErr → (X → Option Files) → (X → Reads) →
+    (X → ℕ) → X → X → Type 0
+Compares claim base result files reads faults before now = Between files reads faults before now
+    (Compared claim base result)
 
 -- ---- what they start from
 

@@ -3,15 +3,12 @@ ghost use Rattle.std.specs.Prelude.{◌≡◌, ◌≢◌, ◌+◌, ◌-◌, ◌*
 ghost use Rattle.mg_dev.specs.Bads.{IsNotBad};
 ghost use Rattle.mg_dev.specs.Moments.{Between};
 ghost use Rattle.mg_defs.specs.CodedText.{coded_size};
-ghost use Rattle.mg_defs.specs.Means.{StandForNone};
 ghost use Rattle.mg_defs.specs.Split.{IsDocument};
-ghost use Rattle.mg_layout.specs.Stands.{parts_at};
 ghost use Rattle.mg_text.specs.Reading.{TextFits};
-ghost use Rattle.mg_check_text.specs.Checking.{CodeStands, HasAdded, IsInRange, IsNextDoc, ForNextDoc, PlaceStands, FoundMore, WhereRead};
-ghost use Rattle.mg_check_parts.specs.Refusals.{OnBad, Refutes};
+ghost use Rattle.mg_check_text.specs.Checking.{CodeStands, ForNextDoc, FoundMore, HasAdded, IsInRange, PlaceStands, StandsNext, WhereRead};
+ghost use Rattle.mg_check_parts.specs.Refusals.{OnBad};
 ghost use Rattle.mg_check_parts.specs.Decoding.{CanCode};
-ghost use Rattle.mg_check_parts.specs.Looks.{LooksAtSet};
-ghost use Rattle.mg_check_text.specs.Reads.{ReadsBy, ReadsText};
+ghost use Rattle.mg_check_text.specs.Reads.{Compares, FindsText, ReadsBy, ReadsText};
 
 use crate::progress::Progress;
 use mg_check_parts::{code_doc, expect_more};
@@ -34,12 +31,8 @@ pub(crate) fn expect_place<S: Store>(
     place: u64,
 ) -> Result<(), PartErr>
     requires narrow { version ≡ 1 → place < 2 ^ 32 }
-    ensures stand { IsSome (S.files store.old) →
-        OnOk result (PlaceStands version number place (parts_at (S.files store.old) base.now)) }
-    ensures other { IsSome (S.files store.old) →
-        IfErr result (Refutes (PlaceStands version number place
-        (parts_at (S.files store.old) base.now))) }
-    ensures looks { Between S.files S.reads S.faults store.old store.new (LooksAtSet result) }
+    ensures { Compares (PlaceStands version number place) base.now result S.files S.reads S.faults
+        store.old store.new }
 {
     let file = FileRef {
         base,
@@ -134,13 +127,8 @@ fn expect_coded<S: Store>(
     requires place { progress.now.place ≤ 2 ^ 60 }
     requires narrow { version ≡ 1 → progress.now.place < 2 ^ 32 }
     ensures end { IfOk result (λ end. end ≡ progress.now.place + length coded.now) }
-    ensures stand { IsSome (S.files store.old) →
-        OnOk result (CodeStands version coded.now progress.now
-        (parts_at (S.files store.old) base.now)) }
-    ensures other { IsSome (S.files store.old) →
-        OnBad result (CodeStands version coded.now progress.now
-        (parts_at (S.files store.old) base.now) → ⊥) }
-    ensures looks { Between S.files S.reads S.faults store.old store.new (LooksAtSet result) }
+    ensures compared { Compares (CodeStands version coded.now progress.now) base.now result S.files
+        S.reads S.faults store.old store.new }
 {
     let text = FileRef {
         base,
@@ -172,15 +160,10 @@ fn add_doc<S: Store>(
     requires bytes { progress.old.bytes < 2 ^ 32 }
     requires place { progress.old.place ≤ 2 ^ 60 }
     requires narrow { version ≡ 1 → progress.old.place < 2 ^ 32 }
-    ensures next { IsSome (S.files store.old) →
-        OnOk result (IsNextDoc (parts_at (S.files store.old) base.now) version model.now doc.now
-        progress.old) }
+    ensures compared { Compares (StandsNext version model.now doc.now progress.old) base.now result
+        S.files S.reads S.faults store.old store.new }
     ensures added { OnOk result (HasAdded model.now doc.now progress.old progress.new) }
     ensures short { OnOk result (coded_size model.now doc.now ≤ 12 * length doc.now + 13) }
-    ensures other { IsSome (S.files store.old) →
-        OnBad result (IsNextDoc (parts_at (S.files store.old) base.now) version model.now doc.now
-        progress.old → ⊥) }
-    ensures looks { Between S.files S.reads S.faults store.old store.new (LooksAtSet result) }
 {
     let coded = match code_doc(alloc, model, doc, &mut progress.uses) {
         Ok(Some(coded)) => coded,
@@ -214,13 +197,10 @@ pub(crate) fn next_doc<S: Store>(
     requires range { IsInRange reader.old.code head.now progress.old }
     ensures range { OnOk result (IsInRange reader.old.code head.now progress.new) }
     ensures count { OnOk result (progress.new.documents ≡ progress.old.documents + 1) }
-    ensures found { IsSome (S.files store.old) →
-        OnOk result (FoundMore (S.files store.old) base.now head.now reader.old progress.old
-        progress.new) }
-    ensures none { WhereRead (S.files store.old) base.now head.now reader.old progress.old
-        (OnBad result (StandForNone (parts_at (S.files store.old) base.now))) }
-    ensures text { Between S.files S.reads S.faults store.old store.new
-        (ReadsText reader.old reader.new result) }
+    ensures read { FindsText (IsSome (S.files store.old) → OnOk result
+        (FoundMore (S.files store.old) base.now head.now reader.old progress.old progress.new))
+        (WhereRead (S.files store.old) base.now head.now reader.old progress.old) base.now
+        reader.old reader.new result S.files S.reads S.faults store.old store.new }
 {
     match decode_next(store, head, reader, held, progress) {
         Ok(()) => {}

@@ -3,15 +3,11 @@
 //! Nothing is trusted: a document is kept only once its own code was found in Text. At the end the parts that are read
 //! so far mean one collection, or the set stands for none.
 ghost use Rattle.std.specs.Prelude.{◌≡◌, ◌<◌, ◌≤◌, ◌^◌, IfOk, IsSome, OnErr, OnOk};
-ghost use Rattle.mg_dev.specs.Moments.{Between};
 ghost use Rattle.mg_defs.specs.Heads.{IsWithin};
-ghost use Rattle.mg_defs.specs.Means.{StandForNone};
 ghost use Rattle.mg_layout.specs.HeadAnswers.{fields_of};
 ghost use Rattle.mg_layout.specs.Stands.{parts_at};
-ghost use Rattle.mg_check_text.specs.Checking.{EndNumbers, FoundDocs, IsAtEnd, IsInRange, IsLoaded, FoundSet};
-ghost use Rattle.mg_check_parts.specs.Refusals.{OnBad};
-ghost use Rattle.mg_check_parts.specs.Looks.{LooksAtSet};
-ghost use Rattle.mg_check_text.specs.Reads.{ReadsBy, ReadsText};
+ghost use Rattle.mg_check_text.specs.Checking.{EndNumbers, EndsAt, FoundDocs, FoundSet, IsInRange, IsLoaded, WhereLoaded};
+ghost use Rattle.mg_check_text.specs.Reads.{Compares, FindsText, ReadsBy};
 
 use crate::next_doc::{expect_place, next_doc};
 use crate::progress::Progress;
@@ -38,13 +34,10 @@ fn read_docs<S: Store>(
     requires reads { ReadsBy reader.old (S.files store.old) head.now }
     ensures range { IfOk result (λ p. IsInRange reader.old.code head.now p) }
     ensures all { IfOk result (λ p. p.documents ≡ head.now.documents) }
-    ensures found { IsSome (S.files store.old) →
+    ensures read { FindsText (IsSome (S.files store.old) →
         IfOk result (λ p. FoundDocs (parts_at (S.files store.old) base.now) head.now.version
-        reader.old.code p) }
-    ensures none { IsLoaded (S.files store.old) base.now head.now reader.old →
-        OnBad result (StandForNone (parts_at (S.files store.old) base.now)) }
-    ensures text { Between S.files S.reads S.faults store.old store.new
-        (ReadsText reader.old reader.new result) }
+        reader.old.code p)) (WhereLoaded (S.files store.old) base.now head.now reader.old) base.now
+        reader.old reader.new result S.files S.reads S.faults store.old store.new }
 {
     let mut held = HeldDocument::new(alloc, head.collection);
     let mut progress = match Progress::new(alloc, reader.model()) {
@@ -113,13 +106,8 @@ fn expect_end<S: Store>(
 ) -> Result<(), PartErr>
     requires within { IsWithin (fields_of head.now) }
     requires range { IsInRange model.now head.now progress.now }
-    ensures ends { IsSome (S.files store.old) →
-        OnOk result (IsAtEnd (parts_at (S.files store.old) base.now) head.now model.now
-        progress.now) }
-    ensures other { IsSome (S.files store.old) →
-        OnBad result (IsAtEnd (parts_at (S.files store.old) base.now) head.now model.now
-        progress.now → ⊥) }
-    ensures looks { Between S.files S.reads S.faults store.old store.new (LooksAtSet result) }
+    ensures { Compares (EndsAt head.now model.now progress.now) base.now result S.files S.reads
+        S.faults store.old store.new }
 {
     match expect_numbers(head, progress) {
         Ok(()) => {}
@@ -157,12 +145,10 @@ pub fn read_text<S: Store>(
     reader: &mut TextReader<'_, S>,
 ) -> Result<(), PartErr>
     requires reads { ReadsBy reader.old (S.files store.old) head.now }
-    ensures found { IsLoaded (S.files store.old) base.now head.now reader.old →
-        OnOk result (FoundSet (S.files store.old) base.now head.now reader.old) }
-    ensures none { IsLoaded (S.files store.old) base.now head.now reader.old →
-        OnBad result (StandForNone (parts_at (S.files store.old) base.now)) }
-    ensures text { Between S.files S.reads S.faults store.old store.new
-        (ReadsText reader.old reader.new result) }
+    ensures { FindsText (IsLoaded (S.files store.old) base.now head.now reader.old →
+        OnOk result (FoundSet (S.files store.old) base.now head.now reader.old))
+        (WhereLoaded (S.files store.old) base.now head.now reader.old) base.now
+        reader.old reader.new result S.files S.reads S.faults store.old store.new }
 {
     let progress = match read_docs(alloc, store, base, head, reader) {
         Ok(progress) => progress,

@@ -1,4 +1,4 @@
-use Rattle.std.proofs.Common.{arith, ◌≡◌, ◌≤◌, ◌+◌, ◌∙◌, length, ap, subst, sym}
+use Rattle.std.proofs.Common.{rules, arith, ◌≡◌, ◌≤◌, ◌+◌, ◌∙◌, length, ap, subst, sym}
 use Rattle.mg_defs.specs.CodedText.{TextCode}
 use Rattle.mg_defs.specs.Means.{IsModel}
 use Rattle.mg_layout.specs.Stands.{parts_at}
@@ -20,10 +20,14 @@ add_doc-requires-clause-can g c =
       others = record { size = range.other_places ∙ ap (λ (code : TextCode). length code.others.pieces) (sym same); few = omega (arith, range.others, left, few) };
     }
 
-pub returns-in-Err-clause-none : goal.returns-in-Err-clause-none
-returns-in-Err-clause-none g c = λ loaded docs so.
-    refused-next (g.S.Store.files c.args.store.now) c.args.base.now c.args.head.now c.args.reader.now docs c.args.progress.now c.in-Err.refusal loaded so
-    c.requires.more (λ collection stand short. c.in-Err.ensures.never_bad collection (record { stands = stand; short = omega (arith, short) }))
+pub returns-in-Err-clause-read : goal.returns-in-Err-clause-read
+returns-in-Err-clause-read g c = record {
+  found = λ told. tt;
+  none = λ loaded docs so.
+      refused-next (g.S.Store.files c.args.store.now) c.args.base.now c.args.head.now c.args.reader.now docs c.args.progress.now c.in-Err.refusal loaded so
+      c.requires.more (λ collection stand short. c.in-Err.ensures.never_bad collection (record { stands = stand; short = omega (arith, short) }));
+  text = c.in-Err.ensures.text;
+}
 
 pub returns-clause-range : goal.returns-clause-range
 returns-clause-range g c =
@@ -35,20 +39,18 @@ returns-clause-range g c =
     (range-next c.model.result.now c.args.head.now c.bytes.result.now c.args.progress.now c.add_doc.new.progress range added short left c.requires.more))
     c.add_doc.ensures.added c.add_doc.ensures.short
 
-pub returns-clause-none : goal.returns-clause-none
-returns-clause-none g c = λ loaded docs so.
-    let same : c.model.result.now ≡ c.args.reader.now.code = c.model.ensures ∙ c.decode_next.ensures.text.same.code in
-    let told = told-there (g.S.Store.files c.args.store.now) (g.S.Store.files c.decode_next.new.store) c.decode_next.ensures.text.looks.files loaded.told in
-    other-next (g.S.Store.files c.args.store.now) c.args.base.now c.args.head.now c.args.reader.now docs c.args.progress.now c.bytes.result.now c.add_doc.result loaded so c.requires.more
-    (λ collection stand short. c.bytes.ensures ∙ c.in-Ok.ensures.own collection (record { stands = stand; short = omega (arith, short) }))
-    (on-bad (IsNextDoc (parts_at (g.S.Store.files c.decode_next.new.store) c.args.base.now) c.args.head.now.version c.model.result.now c.bytes.result.now c.args.progress.now)
-    (IsNextDoc (parts_at (g.S.Store.files c.args.store.now) c.args.base.now) c.args.head.now.version c.args.reader.now.code c.bytes.result.now c.args.progress.now) c.add_doc.result
-    (λ next. next-there (g.S.Store.files c.args.store.now) (g.S.Store.files c.decode_next.new.store) c.args.base.now c.args.head.now.version
-    c.args.reader.now.code c.model.result.now c.bytes.result.now c.args.progress.now c.decode_next.ensures.text.looks.files same next)
-    (c.add_doc.ensures.other told))
-
-pub returns-in-Err-clause-text : goal.returns-in-Err-clause-text
-returns-in-Err-clause-text g c = c.in-Err.ensures.text
-
-pub returns-clause-text : goal.returns-clause-text
-returns-clause-text g c = text_looks c.in-Ok.ensures.text c.add_doc.ensures.looks
+pub returns-clause-read : goal.returns-clause-read
+returns-clause-read g c = record {
+  found = search rules;
+  none = λ loaded docs so.
+      let same : c.model.result.now ≡ c.args.reader.now.code = c.model.ensures ∙ c.decode_next.ensures.text.same.code in
+      let told = told-there (g.S.Store.files c.args.store.now) (g.S.Store.files c.decode_next.new.store) c.decode_next.ensures.text.looks.files loaded.told in
+      other-next (g.S.Store.files c.args.store.now) c.args.base.now c.args.head.now c.args.reader.now docs c.args.progress.now c.bytes.result.now c.add_doc.result loaded so c.requires.more
+      (λ collection stand short. c.bytes.ensures ∙ c.in-Ok.ensures.own collection (record { stands = stand; short = omega (arith, short) }))
+      (on-bad (IsNextDoc (parts_at (g.S.Store.files c.decode_next.new.store) c.args.base.now) c.args.head.now.version c.model.result.now c.bytes.result.now c.args.progress.now)
+      (IsNextDoc (parts_at (g.S.Store.files c.args.store.now) c.args.base.now) c.args.head.now.version c.args.reader.now.code c.bytes.result.now c.args.progress.now) c.add_doc.result
+      (λ next. next-there (g.S.Store.files c.args.store.now) (g.S.Store.files c.decode_next.new.store) c.args.base.now c.args.head.now.version
+      c.args.reader.now.code c.model.result.now c.bytes.result.now c.args.progress.now c.decode_next.ensures.text.looks.files same next)
+      (c.add_doc.ensures.compared.other told));
+  text = text_looks c.in-Ok.ensures.text c.add_doc.ensures.compared.looks;
+}

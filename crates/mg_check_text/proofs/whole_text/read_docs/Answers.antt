@@ -27,27 +27,29 @@ loop-number-preserved g c =
     let files = inv.text.looks.files in
     let code = inv.text.same.code in
     record {
-      text = text_then inv.text c.in-Ok-next_doc.ensures.text;
+      text = text_then inv.text c.in-Ok-next_doc.ensures.read.text;
       range = code-range c.loop-number.reader.code c.args.reader.now.code c.args.head.now c.next_doc.new.progress (sym code) c.in-Ok-next_doc.ensures.range;
       count = c.in-Ok-next_doc.ensures.count ∙ ap (λ (n : ℕ). n + 1) inv.count;
       found = λ told.
           docs-more (g.S.Store.files c.args.store.now) (g.S.Store.files c.loop-number.store) c.args.base.now c.args.head.now.version c.args.reader.now.code
           c.loop-number.reader.code c.loop-number.progress c.next_doc.new.progress files code (inv.found told)
-          (c.in-Ok-next_doc.ensures.found (subst (λ f. IsSome f) (sym files) told));
+          (c.in-Ok-next_doc.ensures.read.found (subst (λ f. IsSome f) (sym files) told));
     }
 
-pub returns-in-Err-next_doc-clause-none : goal.returns-in-Err-next_doc-clause-none
-returns-in-Err-next_doc-clause-none g c = λ loaded.
+pub returns-in-Err-clause-read : goal.returns-in-Err-clause-read
+returns-in-Err-clause-read g c = record { found = λ told. tt; none = λ loaded. tt; text = text_own Memory _ _ _ c.requires.reads.fits tt }
+
+pub returns-in-Err-next_doc-clause-read : goal.returns-in-Err-next_doc-clause-read
+returns-in-Err-next_doc-clause-read g c =
     let inv = c.loop-number.invariant in
-    docs-none (g.S.Store.files c.args.store.now) (g.S.Store.files c.loop-number.store) c.args.base.now c.args.head.now c.args.reader.now c.loop-number.reader
-    c.loop-number.progress c.in-Err-next_doc.refusal inv.text.looks.files inv.text.same loaded
-    (inv.found loaded.told) c.in-Err-next_doc.ensures.none
+    let e = c.in-Err-next_doc.ensures.read in
+    record {
+      found = λ told. tt;
+      none = λ loaded.
+          docs-none (g.S.Store.files c.args.store.now) (g.S.Store.files c.loop-number.store) c.args.base.now c.args.head.now c.args.reader.now c.loop-number.reader
+          c.loop-number.progress c.in-Err-next_doc.refusal inv.text.looks.files inv.text.same loaded (inv.found loaded.told) e.none;
+      text = text_err (text_then inv.text e.text);
+    }
 
-pub returns-in-Err-clause-text : goal.returns-in-Err-clause-text
-returns-in-Err-clause-text g c = text_own Memory _ _ _ c.requires.reads.fits tt
-
-pub returns-in-Err-next_doc-clause-text : goal.returns-in-Err-next_doc-clause-text
-returns-in-Err-next_doc-clause-text g c = text_err (text_then c.loop-number.invariant.text c.in-Err-next_doc.ensures.text)
-
-pub returns-clause-text : goal.returns-clause-text
-returns-clause-text g c = text_ok c.loop-number.invariant.text
+pub returns-clause-read : goal.returns-clause-read
+returns-clause-read g c = record { found = c.loop-number.invariant.found; none = λ loaded. tt; text = text_ok c.loop-number.invariant.text }
