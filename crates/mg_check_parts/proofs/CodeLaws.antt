@@ -1,5 +1,5 @@
 -- Pieces and pairs that are put and counted.
-use Rattle.std.proofs.Common.{arith, zero, suc, ◌≡◌, ◌≢◌, ◌≤◌, ◌<◌, ◌+◌, ◌*◌, ◌^◌, ◌++◌, ℕ, Bool, false, cond, List, [], ◌∷◌, Contains, length, map, sum, get_or, slice_get, Ok, Err, refl, sym, ap, subst, ◌∙◌, Some, None, append_assoc, append-nil, length-append, add-zero}
+use Rattle.std.proofs.Common.{arith, zero, suc, ◌≡◌, ◌≢◌, ◌≤◌, ◌<◌, ◌+◌, ◌*◌, ◌^◌, ◌++◌, ℕ, Bool, cond, List, [], ◌∷◌, Contains, length, map, sum, get_or, slice_get, Ok, Err, refl, sym, ap, subst, ◌∙◌, Some, None, append_assoc, append-nil, length-append, add-zero}
 use Rattle.std.specs.List.{AllByRecursion, flat_map}
 use Rattle.std.specs.Str.{bytes_eq}
 use Rattle.std.specs.declared.option.Option.{Option}
@@ -15,15 +15,14 @@ use Rattle.mg_defs.proofs.SortedLaws.{number-at, other-isnt, same-refl}
 use Rattle.mg_defs.specs.Bits.{Bits, as_bytes}
 use Rattle.mg_defs.specs.CodedText.{StreamCode, TextCode, codeword_of, coded_doc, coded_pair}
 use Rattle.mg_defs.specs.Codes.{gamma}
-use Rattle.mg_defs.specs.Heads.{as_number}
 use Rattle.mg_defs.specs.Means.{HasCodewords, IsStreamCode}
 use Rattle.mg_defs.specs.Parse.{Pair, parse}
 use Rattle.mg_defs.proofs.ParseLaws.{parse_short}
 use Rattle.mg_defs.specs.Sorted.{number_of}
 use Rattle.mg_defs.specs.Vocabulary.{count_in, piece_of_pair}
 use Rattle.mg_defs.specs.declared.Stream.TheVariants.{Words, Others}
-use Rattle.mg_text_writer.specs.Writing.{Began, IsOnText, TextWriting, text_bytes}
-use Rattle.mg_check_parts.specs.Decoding.{AreCounts, Counted, IsCodedAs, PutPairs, PutPiece, HasRoom, WherePut, WhereUnknown}
+use Rattle.mg_text_writer.specs.Writing.{Began, Ended, IsOnText, TextWriting, text_bytes}
+use Rattle.mg_check_parts.specs.Decoding.{AreCounts, Counted, IsClosed, IsCodedAs, PutPairs, PutPiece, HasRoom, WherePut, WhereUnknown}
 use Rattle.mg_check_parts.specs.declared.uses.Uses.{Uses}
 
 -- ---- one piece more
@@ -219,20 +218,23 @@ pub are-put-all : (code : TextCode) (all pairs : List Pair) (w0 w1 : TextWriting
 are-put-all code all pairs w0 w1 f0 f1 u0 u1 none so = subst (λ (ps : List Pair). PutPairs code ps w0 w1 f0 f1 u0 u1)
     (sym (append-nil so.done) ∙ ap (λ (ps : List Pair). so.done ++ ps) (sym none) ∙ so.whole) so.put
 
+-- a document that was ended is all of the text
+pub text-closed : (w now : TextWriting) (bits : Bits) (f : Option Files) (text : List ℕ) → IsOnText now f (bits ∷ []) [] → Ended w now →
+    text ≡ text_bytes (bits ∷ []) → IsClosed w bits text
+text-closed w now bits f text whole ended is =
+    let size : length (text_bytes (bits ∷ [])) ≡ length text = ap length (sym is) in
+    record { bytes_are = is; short = omega (arith, whole.bound, whole.place, size, ended.pairs, ended.docs) }
+
 -- a document that was begun, whose pairs were put and which was ended is coded
-pub doc-coded : (code : TextCode) (doc bytes : List ℕ) (n : ℕ) (w0 w1 w2 w3 : TextWriting) (f1 f2 f3 : Option Files) (u0 u1 : Uses) → n ≡ length (parse doc) → length doc < 2 ^ 32 → w0.pairs ≡ 0 →
-    IsOnText w1 f1 [] (gamma (n + 1)) → Began w0 w1 n → PutPairs code (parse doc) w1 w2 f1 f2 u0 u1 →
-    IsOnText w3 f3 ((gamma (n + 1) ++ flat_map (coded_pair code) (parse doc)) ∷ []) [] → w3.pairs ≡ w2.pairs → w3.is_open ≡ false →
-    bytes ≡ text_bytes ((gamma (n + 1) ++ flat_map (coded_pair code) (parse doc)) ∷ []) → IsCodedAs code doc bytes u0 u1
-doc-coded code doc bytes n w0 w1 w2 w3 f1 f2 f3 u0 u1 count small none on began put whole pairs closed bytes_are =
+pub doc-coded : (code : TextCode) (doc bytes : List ℕ) (n : ℕ) (w0 w1 w2 : TextWriting) (f1 f2 : Option Files) (u0 u1 : Uses) → n ≡ length (parse doc) →
+    length doc < 2 ^ 32 → w0.pairs ≡ 0 → w0.docs ≡ 0 → Began w0 w1 n → PutPairs code (parse doc) w1 w2 f1 f2 u0 u1 →
+    IsClosed w2 (gamma (n + 1) ++ flat_map (coded_pair code) (parse doc)) bytes → IsCodedAs code doc bytes u0 u1
+doc-coded code doc bytes n w0 w1 w2 f1 f2 u0 u1 count small none first began put closed =
     let bits : gamma (n + 1) ++ flat_map (coded_pair code) (parse doc) ≡ coded_doc code doc = ap (λ (m : ℕ). gamma (m + 1) ++ flat_map (coded_pair code) (parse doc)) count in
-    let is : bytes ≡ as_bytes (coded_doc code doc) = bytes_are ∙ append-nil (as_bytes (gamma (n + 1) ++ flat_map (coded_pair code) (parse doc))) ∙ ap as_bytes bits in
-    let one : w3.docs ≡ 1 = whole.count ∙ ap (λ (b : Bool). 1 + as_number b) closed in
-    let size : length (text_bytes ((gamma (n + 1) ++ flat_map (coded_pair code) (parse doc)) ∷ [])) ≡ length bytes = ap length (sym bytes_are) in
     record {
       codable = record { each = put.known; few = omega (arith, parse_short doc, small) };
-      bytes_are = is;
-      short = omega (arith, whole.bound, whole.place, size, one, pairs, put.pairs_are, began.pairs, none, count, parse_short doc);
+      bytes_are = closed.bytes_are ∙ append-nil (as_bytes (gamma (n + 1) ++ flat_map (coded_pair code) (parse doc))) ∙ ap as_bytes bits;
+      short = omega (arith, closed.short, put.docs, began.docs, put.pairs_are, began.pairs, none, first, count, parse_short doc);
       words = put.words;
       others = put.others;
     }

@@ -1,7 +1,7 @@
 -- A document coded anew, and how often each piece of a code comes on the way.
 use Rattle.std.specs.Prelude.{◌≡◌, ℕ, ◌+◌, ◌*◌, ◌<◌, ◌≤◌, ◌^◌, ◌++◌, List, [], ◌∷◌, length, map, sum, All, Contains, Ok, Err, None, Some}
 use Rattle.std.specs.List.{AllByRecursion, flat_map}
-use Rattle.std.specs.Option.{is_some}
+use Rattle.std.specs.Option.{IsSome, is_some}
 use Rattle.std.specs.declared.option.Option.{Option}
 use Rattle.std.specs.declared.result.Result.{Result}
 use Rattle.mg_dev.specs.Files.{Files, bytes_at}
@@ -16,7 +16,7 @@ use Rattle.mg_defs.specs.Marks.{code_of}
 use Rattle.mg_defs.specs.Means.{HasCodewords, IsCodable, IsModel}
 use Rattle.mg_defs.specs.Parse.{Pair}
 use Rattle.mg_defs.specs.Vocabulary.{count_in, piece_of_pair, pieces_in}
-use Rattle.mg_text_writer.specs.Writing.{IsOnText, PutOne, TextWriting}
+use Rattle.mg_text_writer.specs.Writing.{IsOnText, PutOne, TextWriting, text_bytes}
 use Rattle.mg_check_parts.specs.declared.uses.Uses.{Uses}
 
 -- ---- counts by symbol
@@ -89,6 +89,18 @@ pub record IsCodedAs (code : TextCode) (doc bytes : List ℕ) (old new : Uses) :
 -- the bytes of the text in a store of its own
 abbrev pub text_in : Option Files → List ℕ
 text_in files = bytes_at files (full_name [] part.Text)
+
+-- ---- the end of a document
+
+-- a text is the one document of these bits, which a writer had begun
+pub record IsClosed (w : TextWriting) (bits : Bits) (text : List ℕ) : Type 0 where
+  pub bytes_are : text ≡ text_bytes (bits ∷ [])
+  -- a pair takes at most twelve bytes, and so does the number of pairs
+  pub short : 8 * length text ≤ 96 * w.pairs + 96 * w.docs + 7
+
+-- where the store tells its files, its text is that document
+abbrev pub ClosesText : TextWriting → Option Files → Option Files → Type 0
+ClosesText w before now = (bits : Bits) → IsOnText w before [] bits → IsSome before → IsClosed w bits (text_in now)
 
 -- ---- what came of it
 

@@ -2,7 +2,7 @@
 //!
 //! Nothing is known of what decoding damaged text gives. So a document is kept only once its own code is found in the
 //! text: it is coded by the same model into a store of its own, and the bytes are compared.
-ghost use Rattle.std.specs.Prelude.{◌≡◌, ◌+◌, ◌*◌, ◌<◌, ◌^◌, ◌∷◌, [], ℕ, false, Contains, IsSome, length};
+ghost use Rattle.std.specs.Prelude.{◌≡◌, ◌+◌, ◌*◌, ◌<◌, ◌^◌, ◌∷◌, [], ℕ, false, true, Contains, IsSome, OnOk, length};
 ghost use Rattle.mg_defs.specs.Bits.{Bits};
 ghost use Rattle.mg_defs.specs.Marks.{code_of};
 ghost use Rattle.mg_defs.specs.Means.{HasCodewords, IsCodable, IsModel, IsStreamCode};
@@ -10,7 +10,7 @@ ghost use Rattle.mg_parse.specs.Lent.{pair_of};
 ghost use Rattle.mg_text_writer.specs.Writing.{IsOnText, turn};
 ghost use Rattle.std.specs.List.{AllByRecursion};
 ghost use Rattle.mg_defs.specs.Parse.{parse};
-ghost use Rattle.mg_check_parts.specs.Decoding.{CanCode, HasRoom, IsCodedAs, PutPairs, WhereCoded, WherePut, WhereUnknown, PutsPiece, text_in};
+ghost use Rattle.mg_check_parts.specs.Decoding.{CanCode, ClosesText, HasRoom, IsCodedAs, PutPairs, WhereCoded, WherePut, WhereUnknown, PutsPiece, text_in};
 
 use crate::recent::Recent;
 use crate::uses::{Uses, count_use};
@@ -158,6 +158,19 @@ fn count_pairs(doc: &[u8]) -> u32
     Pairs::new(doc).count() as u32
 }
 
+// Ends the document that was begun, all of whose pieces were put, and writes what is held.
+fn close_text<S: Store>(writer: &mut TextWriter<'_>, store: &mut S) -> Result<(), PutErr>
+    requires took { (bits : Bits) × IsOnText writer.old (S.files store.old) [] bits }
+    requires base { writer.old.base ≡ [] }
+    requires begun { writer.old.is_open ≡ true }
+    requires whole { writer.old.left ≡ 0 }
+    ensures closed { OnOk result (ClosesText writer.old (S.files store.old) (S.files store.new)) }
+{
+    writer.end_doc(store)?;
+    writer.finish(store)?;
+    Ok(())
+}
+
 // Codes a document by a writer to which nothing was put.
 fn put_doc<S: Store>(
     writer: &mut TextWriter<'_>,
@@ -183,8 +196,7 @@ fn put_doc<S: Store>(
         Ok(None) => return Ok(None),
         Err(refusal) => return Err(refusal),
     }
-    writer.end_doc(store)?;
-    writer.finish(store)?;
+    close_text(writer, store)?;
     Ok(Some(()))
 }
 
