@@ -1,6 +1,7 @@
 mod Comparing
 mod LexiconLaws
 mod RangedLaws
+mod SomeLaws
 mod WrittenLaws
 mod ListedLaws
 mod ComparedLaws

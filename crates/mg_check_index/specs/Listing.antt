@@ -68,6 +68,15 @@ room_at w k = slice_index w.starts (k + 1) - slice_index w.starts k
 abbrev pub list_at : Ranged → ℕ → List Posting
 list_at w k = take (slice_index w.next k - slice_index w.starts k) (drop (slice_index w.starts k) w.postings)
 
+-- so many of the lists of a range, from one of them on
+abbrev pub some_of : Ranged → ℕ → ℕ → Ranged
+some_of w first count = record {
+  first = w.first + first;
+  starts = take (count + 1) (drop first w.starts);
+  next = take count (drop first w.next);
+  postings = w.postings;
+}
+
 -- the lists of the terms from one on to before another, with room for so many postings each
 pub record HasRooms (w : Ranged) (docs : List ℕ) (first end : ℕ) : Type 0 where
   pub first_is : w.first ≡ first

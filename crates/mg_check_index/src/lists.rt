@@ -1,6 +1,6 @@
 //! Inverted lists and their skip entries against those that are written anew.
 //!
-//! The lists of a range of terms are written into a store in memory, and its bytes are compared with those of Post and
+//! Some lists of a range at a time are written into a store in memory, and its bytes are compared with those of Post and
 //! Skip behind what was compared before. On the way the lexicon gets what is to stand of each term.
 ghost use Rattle.std.specs.Prelude.{◌≡◌, ◌<◌, ◌≤◌, ◌+◌, ◌-◌, ◌*◌, ◌/◌, ◌^◌, ◌∷◌, List, [], IfErr, IfOk, IfSome, OnOk, IsSome, codes, length};
 ghost use Rattle.mg_dev.specs.Bads.{IsNotBad};
@@ -16,7 +16,7 @@ ghost use Rattle.mg_check_parts.specs.Looks.{LooksAtSet};
 
 use crate::indexed::Indexed;
 use crate::lexicon::Lexicon;
-use crate::range_lists::RangeLists;
+use crate::some_lists::SomeLists;
 use mg_check_parts::{expect_more, wanted};
 use mg_defs::Posting;
 use mg_dev::{Bad, FileRef, Part, PartErr, Store};
@@ -32,9 +32,9 @@ pub struct Places {
     pub skip: u64,
 }
 
-/// The lists of a range, written anew in memory.
+/// Lists that are written anew in memory.
 #[derive(Drop)]
-struct NewLists<'a> {
+pub(crate) struct NewLists<'a> {
     store: SureStore,
     writer: ListWriter<'a>,
 }
@@ -76,8 +76,8 @@ fn info_behind(number: u32, docs: u32, before: Places, at: (u64, u32)) -> Option
 }
 
 impl<'a> NewLists<'a> {
-    // No list among so many documents.
-    fn start(alloc: Global, all: u32) -> Result<Self, AllocError>
+    /// No list among so many documents.
+    pub(crate) fn start(alloc: Global, all: u32) -> Result<Self, AllocError>
         requires all { all ≤ 2 ^ 24 }
         ensures new { IfOk result (IsNewLists ⟦<SureStore as Store>⟧.files all) }
     {
@@ -189,7 +189,7 @@ impl<'a> NewLists<'a> {
     // compared as far as these places.
     fn push_term(
         &mut self,
-        lists: &RangeLists,
+        lists: &SomeLists<'_>,
         index: usize,
         of: &Indexed<'_>,
         before: Places,
@@ -211,12 +211,12 @@ impl<'a> NewLists<'a> {
             index self.old lexicon.old (IfErr result IsNotBad) }
         ensures step { WritesTerms self.old self.new lexicon.old lexicon.new result }
     {
-        let docs = lists.room(index);
-        let at = match self.write(lists.list(index), docs, of.documents) {
+        let list = lists.list(index);
+        let at = match self.write(list.postings, list.docs, of.documents) {
             Ok(at) => at,
             Err(refusal) => return Err(refusal),
         };
-        let info = match info_behind(lists.number(index), docs, before, at) {
+        let info = match info_behind(list.number, list.docs, before, at) {
             Some(info) => info,
             None => return Err(PartErr::Bad(other_list(1 << 32, 0, u64::from(u32::MAX)))),
         };
@@ -229,7 +229,7 @@ impl<'a> NewLists<'a> {
     // Writes all lists of a range, and pushes what is to stand of their terms.
     fn push_terms(
         &mut self,
-        lists: &RangeLists,
+        lists: &SomeLists<'_>,
         of: &Indexed<'_>,
         before: Places,
         lexicon: &mut Lexicon<'_>,
@@ -302,11 +302,11 @@ impl<'a> NewLists<'a> {
         }
     }
 
-    // Writes the lists of a range, sees that Post and Skip go on with them, and pushes what is to stand of its terms.
-    fn check<S: Store>(
+    /// Writes lists of a range, sees that Post and Skip go on with them, and pushes what is to stand of their terms.
+    pub(crate) fn check<S: Store>(
         &mut self,
         store: &mut S,
-        lists: &RangeLists,
+        lists: &SomeLists<'_>,
         of: &Indexed<'_>,
         compared: &mut Compared<'_>,
     ) -> Result<(), PartErr>
@@ -352,24 +352,4 @@ impl<'a> Compared<'a> {
             Err(AllocError) => Err(AllocError),
         }
     }
-}
-
-/// Sees that Post and Skip go on with the lists of a range, and pushes what is to stand of its terms.
-pub fn check_lists<S: Store>(
-    alloc: Global,
-    store: &mut S,
-    of: &Indexed<'_>,
-    lists: &RangeLists,
-    compared: &mut Compared<'_>,
-) -> Result<(), PartErr>
-    requires range { CanCompareRange ⟦<SureStore as Store>⟧.files of.now lists.now compared.old }
-    ensures range { Between S.files S.reads S.faults store.old store.new
-        (RangeCompared ⟦<SureStore as Store>⟧.files of.now lists.now compared.old compared.new
-        result) }
-{
-    let mut new_lists = match NewLists::start(alloc, of.documents) {
-        Ok(new_lists) => new_lists,
-        Err(AllocError) => return Err(PartErr::Memory),
-    };
-    new_lists.check(store, lists, of, compared)
 }

@@ -12,8 +12,8 @@ use Rattle.mg_check_index.proofs.lists.NewLists.push_term.Goals as goal
 pub returns-in-Err-clause-never_bad : goal.returns-in-Err-clause-never_bad
 returns-in-Err-clause-never_bad c = λ collection has.
     let rises = subst (λ n. Rises n 0 (list_at c.args.lists.now c.args.index)) c.requires.write.all_are (range_rises _ _ _ collection c.args.index has.of c.requires.index) in
-    c.in-Err.ensures.never_bad (subst (λ ps. Rises c.args.of.now.documents 0 ps) (sym c.list.ensures) rises)
-    (ap (λ (ps : List Posting). length ps) c.list.ensures ∙ range_full _ _ _ collection c.args.index has.of c.requires.index ∙ sym c.room-docs.ensures.room)
+    c.in-Err.ensures.never_bad (subst (λ ps. Rises c.args.of.now.documents 0 ps) (sym c.list-list.ensures.postings) rises)
+    (ap (λ (ps : List Posting). length ps) c.list-list.ensures.postings ∙ range_full _ _ _ collection c.args.index has.of c.requires.index ∙ sym c.list-list.ensures.docs)
 
 pub returns-in-None-clause-never_bad : goal.returns-in-None-clause-never_bad
 returns-in-None-clause-never_bad c = λ collection has.
@@ -34,11 +34,11 @@ returns-in-Ok-push-clause-listed c = λ collection has.
     let bits = at.0 ∙ ap (λ m. length (lists_bits m some) / 8) (sym c.requires.write.all_are) in
     let entries = at.1 ∙ ap (λ m. length (lists_entries m some)) (sym c.requires.write.all_are) in
     let t_is = slice_get-get_or terms n [] within in
-    let number = c.in-Some.ensures.number ∙ c.number.ensures in
+    let number = c.in-Some.ensures.number ∙ c.list-list.ensures.number in
     listed_more c.args.lists.now terms c.args.before c.args.index collection c.args.self.now.writer c.write.new.self.writer _ _ c.args.lexicon.now.writer
     c.push.new.self.writer _ _ (get_or terms n []) _ has c.requires.index c.requires.write.range.range c.write.ensures.step.same.all t_is
-    (c.in-Some.ensures.info ∙ same_info _ _ _ _ _ _ c.room-docs.ensures.room (ap (λ m. c.args.before.post + m) bits) (ap (λ m. c.args.before.skip / 16 + m) entries))
-    (λ done took. subst (λ ps. Took c.write.new.self.writer (Some (files_of c.write.new.self.store.shelf.files.items)) (done ++ ps ∷ []) []) c.list.ensures (c.in-Ok.ensures.took done took))
+    (c.in-Some.ensures.info ∙ same_info _ _ _ _ _ _ c.list-list.ensures.docs (ap (λ m. c.args.before.post + m) bits) (ap (λ m. c.args.before.skip / 16 + m) entries))
+    (λ done took. subst (λ ps. Took c.write.new.self.writer (Some (files_of c.write.new.self.store.shelf.files.items)) (done ++ ps ∷ []) []) c.list-list.ensures.postings (c.in-Ok.ensures.took done took))
     (λ ts took. c.in-Ok-push.ensures.took ts (get_or terms n []) (ap (λ m. slice_get terms m) number ∙ t_is) took)
 
 pub returns-in-Err-clause-step : goal.returns-in-Err-clause-step
