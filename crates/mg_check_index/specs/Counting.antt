@@ -1,11 +1,13 @@
 -- What contracts see of terms that are counted, and of weights and runs that are compared with their parts.
-use Rattle.std.specs.Prelude.{◌≡◌, ◌≢◌, ℕ, ◌+◌, ◌-◌, ◌*◌, ◌<◌, ◌≤◌, ◌^◌, List, [], ◌∷◌, ◌++◌, length, take, drop, flat_map, min, slice_index, slice_set, map, count_by}
+use Rattle.std.specs.Prelude.{◌≡◌, ◌≢◌, ℕ, ◌+◌, ◌-◌, ◌*◌, ◌<◌, ◌≤◌, ◌^◌, List, [], ◌∷◌, ◌++◌, length, take, drop, flat_map, min, slice_index, slice_set, map, count_by, OnOk}
 use Rattle.std.specs.Option.{IsSome}
 use Rattle.std.specs.declared.option.Option.{Option}
+use Rattle.std.specs.declared.result.Result.{Result}
 use Rattle.std.specs.List.{enumerate_from, list_any}
-use Rattle.mg_dev.specs.Files.{Files, bytes_at}
+use Rattle.mg_dev.specs.Files.{Files, Reads, bytes_at}
 use Rattle.mg_dev.specs.Names.{full_name}
 use Rattle.mg_dev.specs.declared.part.Part.TheVariants as part
+use Rattle.mg_dev.specs.declared.part_err.PartErr.{PartErr}
 use Rattle.mg_defs.specs.CodedText.{TextCode}
 use Rattle.mg_defs.specs.Bits.{as_bytes}
 use Rattle.mg_defs.specs.Means.{IsCodable}
@@ -20,7 +22,10 @@ use Rattle.mg_defs.specs.Stands.{weights_part}
 use Rattle.mg_defs.specs.Terms.{dictionary, docs, same_term, terms}
 use Rattle.mg_defs.specs.Weights.{weight}
 use Rattle.mg_check_parts.specs.Documents.{numbers_in}
+use Rattle.mg_check_parts.specs.Looks.{LooksAtSet}
+use Rattle.mg_check_parts.specs.Refusals.{WhereBad}
 use Rattle.mg_check_parts.specs.TermsRead.{AreTermsOf, TermsRead}
+use Rattle.mg_runs.specs.Bytes.{AreEntries}
 use Rattle.mg_runs.specs.Fed.{AreOccurrences, cap_of}
 use Rattle.mg_runs.specs.Pooled.{Pooled}
 
@@ -53,6 +58,18 @@ EndsThere c files = (done : List ℕ) → HasBegun c files done → bytes_at fil
 -- it has others
 abbrev pub EndsElsewhere : Comparing → Option Files → Type 0
 EndsElsewhere c files = (done : List ℕ) → HasBegun c files done → bytes_at files c.name ≢ done
+
+-- ---- calls that compare
+
+-- a part is compared with what is wanted, told of the moments before and after
+pub record ComparesPart {T : Type 0} (wanted damaged : Type 0) (result : Result T PartErr)
+    (files files_now : Option Files) (reads reads_now : Reads) (faults faults_now : ℕ) : Type 0 where
+  -- what is so where it is as wanted
+  pub done : wanted
+  -- what is so where damage is told
+  pub bad : IsSome files → WhereBad damaged result
+  -- only parts of the set were read
+  pub looks : LooksAtSet result files files_now reads reads_now faults faults_now
 
 -- ---- weights
 
@@ -96,6 +113,11 @@ pub record RunReading : Type 0 where
   pub part : Comparing
   pub pool : Pooled
 
+-- the same part is compared, by runs of as many occurrences
+pub record SameRun (old new : RunReading) : Type 0 where
+  pub name : new.part.name ≡ old.part.name
+  pub limit : new.pool.limit ≡ old.pool.limit
+
 -- the bytes of a run in a store of its own
 abbrev pub run_bytes : Option Files → List ℕ
 run_bytes files = bytes_at files (full_name [] part.Run)
@@ -103,6 +125,29 @@ run_bytes files = bytes_at files (full_name [] part.Run)
 -- the bytes of the run that a pool's entries make
 abbrev pub run_of_pool : Pooled → List ℕ
 run_of_pool pool = as_bytes (runs_bits (gathered pool.entries ∷ []))
+
+-- a pool may be written as a run
+pub record CanBeRun (pool : Pooled) : Type 0 where
+  -- it has entries
+  pub some : 1 ≤ length pool.entries
+  -- no more of them than occurrences in a collection
+  pub many : length pool.entries ≤ 2 ^ 32
+  -- each is of a document, and counts at least one
+  pub entries : AreEntries pool.entries
+
+-- these are the bytes of the run that its entries make, of which there are few
+pub record IsRunOf (pool : Pooled) (bytes : List ℕ) : Type 0 where
+  pub bytes_are : bytes ≡ run_of_pool pool
+  pub few : length bytes ≤ 16 + 32 * length pool.entries
+
+-- its entries are written as a run, told of the moments before and after
+pub record WritesRun {T E : Type 0} (old new : Pooled) (result : Result T E) : Type 0 where
+  -- then it has none
+  pub empty : OnOk result (new.entries ≡ [])
+  -- nor a slot, where it had none
+  pub slots : OnOk result (old.slots ≡ [] → new.slots ≡ [])
+  -- it takes as many as before
+  pub limit : new.limit ≡ old.limit
 
 -- the bytes of the part of the runs of these occurrences
 abbrev pub run_part_of : RunReading → List (ℕ × ℕ) → List ℕ

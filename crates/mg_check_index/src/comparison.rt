@@ -2,9 +2,8 @@
 ghost use Rattle.std.specs.Prelude.{◌≡◌, ◌+◌, ◌≤◌, ◌^◌, length, true, IsSome, OnOk};
 ghost use Rattle.mg_dev.specs.Names.{full_name};
 ghost use Rattle.mg_dev.specs.Moments.{Between};
-ghost use Rattle.mg_check_parts.specs.Refusals.{WhereBad};
-ghost use Rattle.mg_check_index.specs.Counting.{HasBegunMore, GoesOnOtherwise, EndsThere, EndsElsewhere};
-ghost use Rattle.mg_check_parts.specs.Looks.{LooksAtSet, is_of_set};
+ghost use Rattle.mg_check_index.specs.Counting.{ComparesPart, HasBegunMore, GoesOnOtherwise, EndsThere, EndsElsewhere};
+ghost use Rattle.mg_check_parts.specs.Looks.{is_of_set};
 
 use mg_dev::{FileRef, Part, PartErr, Store};
 use mg_layout::{expect_bytes, expect_size};
@@ -44,13 +43,12 @@ impl<'a> Comparison<'a> {
     /// Compares the next bytes of the part with these.
     pub(crate) fn expect<S: Store>(&mut self, store: &mut S, wanted: &[u8]) -> Result<(), PartErr>
         requires place { self.old.at + length wanted.now ≤ 2 ^ 63 }
-        ensures begun { OnOk result (HasBegunMore S.files store.old store.new self.old self.new
-            wanted.now) }
-        ensures bad { IsSome (S.files store.old) →
-            WhereBad (GoesOnOtherwise self.old (S.files store.old) wanted.now) result }
+        ensures begun { Between S.files S.reads S.faults store.old store.new
+            (ComparesPart
+            (OnOk result (HasBegunMore S.files store.old store.new self.old self.new wanted.now))
+            (GoesOnOtherwise self.old (S.files store.old) wanted.now) result) }
         ensures at { OnOk result (self.new.at ≡ self.old.at + length wanted.now) }
         ensures name { self.new.name ≡ self.old.name }
-        ensures looks { Between S.files S.reads S.faults store.old store.new (LooksAtSet result) }
     {
         let file = FileRef {
             base: self.base,
@@ -66,11 +64,10 @@ impl<'a> Comparison<'a> {
 
     /// Refuses a part that has more bytes than were compared.
     pub(crate) fn finish<S: Store>(&self, store: &mut S) -> Result<(), PartErr>
-        ensures done { IsSome (S.files store.old) →
-            OnOk result (EndsThere self.now (S.files store.old)) }
-        ensures bad { IsSome (S.files store.old) →
-            WhereBad (EndsElsewhere self.now (S.files store.old)) result }
-        ensures looks { Between S.files S.reads S.faults store.old store.new (LooksAtSet result) }
+        ensures ended { Between S.files S.reads S.faults store.old store.new
+            (ComparesPart
+            (IsSome (S.files store.old) → OnOk result (EndsThere self.now (S.files store.old)))
+            (EndsElsewhere self.now (S.files store.old)) result) }
     {
         let file = FileRef {
             base: self.base,

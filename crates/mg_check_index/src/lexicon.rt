@@ -5,7 +5,8 @@ ghost use Rattle.std.specs.List.Sorted.{IsStrictlySortedBy};
 ghost use Rattle.std.specs.Ordering.{nat_cmp};
 ghost use Rattle.mg_dev.specs.Moments.{Between};
 ghost use Rattle.mg_lex.specs.Writing.{TookTerms};
-ghost use Rattle.mg_check_index.specs.Listing.{CanPush, TakesTerm, FindsLexicon, RefusesLexicon};
+ghost use Rattle.mg_check_index.specs.Anew.{FindsLexicon, RefusesLexicon, TakesTerm};
+ghost use Rattle.mg_check_index.specs.Listing.{CanPush};
 ghost use Rattle.mg_check_parts.specs.Looks.{LooksAtSet};
 
 use mg_check_parts::{expect_whole, wanted};

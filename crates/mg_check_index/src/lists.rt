@@ -11,7 +11,8 @@ ghost use Rattle.mg_defs.specs.declared.Posting.{Posting};
 ghost use Rattle.mg_defs.specs.Lists.{Rises};
 ghost use Rattle.mg_post.specs.Writing.{Pushed, PushedMore, Took};
 ghost use Rattle.mg_layout.specs.Infos.{info_of};
-ghost use Rattle.mg_check_index.specs.Listing.{AreBehind, ArePlaces, CanList, CanWrite, IsNewLists, IsStart, RangeCompared, WritesOn, WritesTerms, TookPosting, TookPostings, TookList, ForWritten, AreEndsOf, FindsFollowing, RefutesFollowing, CanPushIn, ForListed, ListsOn, CanCompareRange};
+ghost use Rattle.mg_check_index.specs.Anew.{AreEndsOf, CanListTerms, FindsFollowing, ForWritten, IsNewLists, ListsTerms, RefutesFollowing, TookList, TookPosting, TookPostings, WritesOn};
+ghost use Rattle.mg_check_index.specs.Listing.{AreBehind, ArePlaces, CanCompareRange, IsStart, RangeCompared};
 ghost use Rattle.mg_check_parts.specs.Looks.{LooksAtSet};
 
 use crate::indexed::Indexed;
@@ -195,21 +196,11 @@ impl<'a> NewLists<'a> {
         before: Places,
         lexicon: &mut Lexicon<'_>,
     ) -> Result<(), PartErr>
-        requires write { CanWrite self.old lists.now of.now before }
+        requires list { CanListTerms ⟦<SureStore as Store>⟧.files self.old lists.now of.now before
+            index lexicon.old }
         requires index { index < length lists.now.next }
-        requires can { CanList lists.now index self.old.writer
-            (⟦<SureStore as Store>⟧.files self.old.store) }
-        requires push { CanPushIn ⟦<SureStore as Store>⟧.files of.now.table.now.terms
-            (lists.now.first + index) lexicon.old }
-        ensures can { OnOk result (CanList lists.now (index + 1) self.new.writer
-            (⟦<SureStore as Store>⟧.files self.new.store)) }
-        ensures push { OnOk result (CanPushIn ⟦<SureStore as Store>⟧.files of.now.table.now.terms
-            (lists.now.first + (index + 1)) lexicon.new) }
-        ensures listed { ListsOn ⟦<SureStore as Store>⟧.files lists.now of.now.table.now before
-            index (index + 1) self.old self.new lexicon.old lexicon.new result }
-        ensures never_bad { ForListed ⟦<SureStore as Store>⟧.files lists.now of.now.table.now before
-            index self.old lexicon.old (IfErr result IsNotBad) }
-        ensures step { WritesTerms self.old self.new lexicon.old lexicon.new result }
+        ensures listed { ListsTerms ⟦<SureStore as Store>⟧.files lists.now of.now before index
+            (index + 1) self.old self.new lexicon.old lexicon.new result }
     {
         let list = lists.list(index);
         let at = match self.write(list.postings, list.docs, of.documents) {
@@ -234,20 +225,10 @@ impl<'a> NewLists<'a> {
         before: Places,
         lexicon: &mut Lexicon<'_>,
     ) -> Result<(), PartErr>
-        requires write { CanWrite self.old lists.now of.now before }
-        requires can { CanList lists.now 0 self.old.writer
-            (⟦<SureStore as Store>⟧.files self.old.store) }
-        requires push { CanPushIn ⟦<SureStore as Store>⟧.files of.now.table.now.terms
-            lists.now.first lexicon.old }
-        ensures can { OnOk result (CanList lists.now (length lists.now.next) self.new.writer
-            (⟦<SureStore as Store>⟧.files self.new.store)) }
-        ensures push { OnOk result (CanPushIn ⟦<SureStore as Store>⟧.files of.now.table.now.terms
-            (lists.now.first + length lists.now.next) lexicon.new) }
-        ensures listed { ListsOn ⟦<SureStore as Store>⟧.files lists.now of.now.table.now before
-            0 (length lists.now.next) self.old self.new lexicon.old lexicon.new result }
-        ensures never_bad { ForListed ⟦<SureStore as Store>⟧.files lists.now of.now.table.now before
-            0 self.old lexicon.old (IfErr result IsNotBad) }
-        ensures step { WritesTerms self.old self.new lexicon.old lexicon.new result }
+        requires list { CanListTerms ⟦<SureStore as Store>⟧.files self.old lists.now of.now before 0
+            lexicon.old }
+        ensures listed { ListsTerms ⟦<SureStore as Store>⟧.files lists.now of.now before 0
+            (length lists.now.next) self.old self.new lexicon.old lexicon.new result }
     {
         for index in 0..lists.count() {
             match self.push_term(lists, index, of, before, lexicon) {

@@ -7,11 +7,8 @@ ghost use Rattle.mg_dev.specs.Files.{Files};
 ghost use Rattle.mg_dev.specs.Names.{full_name};
 ghost use Rattle.mg_dev.specs.Moments.{Between};
 ghost use Rattle.mg_dev.specs.declared.part.Part.TheVariants as part;
-ghost use Rattle.mg_runs.specs.Bytes.{AreEntries};
 ghost use Rattle.mg_runs.specs.Fed.{cap_of};
-ghost use Rattle.mg_check_index.specs.Counting.{HasTaken, run_bytes, run_of_pool, HasBegunMore, GoesOnOtherwise, HasTakenOne, HasTakenAll, RunsOtherwise, RunsOtherwiseOn, HasBegunRuns, AreItsRuns, AreOtherRuns};
-ghost use Rattle.mg_check_parts.specs.Refusals.{WhereBad};
-ghost use Rattle.mg_check_parts.specs.Looks.{LooksAtSet};
+ghost use Rattle.mg_check_index.specs.Counting.{CanBeRun, ComparesPart, SameRun, HasTaken, IsRunOf, WritesRun, run_bytes, run_of_pool, HasBegunMore, GoesOnOtherwise, HasTakenOne, HasTakenAll, RunsOtherwise, RunsOtherwiseOn, HasBegunRuns, AreItsRuns, AreOtherRuns};
 
 use crate::comparison::Comparison;
 use mg_bits::BitWriter;
@@ -46,16 +43,10 @@ impl<'a> Model for RunPart<'a> {
 
 // Writes a pool's entries into an empty store as a run, and empties the pool.
 fn write_into<S: Store>(alloc: Global, store: &mut S, pool: &mut Pool) -> Result<(), PutErr>
-    requires some { 1 ≤ length pool.old.entries }
-    requires many { length pool.old.entries ≤ 2 ^ 32 }
-    requires entries { AreEntries pool.old.entries }
-    ensures bytes { IsSome (S.files store.old) →
-        OnOk result (run_bytes (S.files store.new) ≡ run_of_pool pool.old) }
-    ensures few { IsSome (S.files store.old) →
-        OnOk result (length (run_bytes (S.files store.new)) ≤ 16 + 32 * length pool.old.entries) }
-    ensures empty { OnOk result (pool.new.entries ≡ []) }
-    ensures slots { OnOk result (pool.old.slots ≡ [] → pool.new.slots ≡ []) }
-    ensures limit { pool.new.limit ≡ pool.old.limit }
+    requires run { CanBeRun pool.old }
+    ensures written { IsSome (S.files store.old) →
+        OnOk result (IsRunOf pool.old (run_bytes (S.files store.new))) }
+    ensures pool { WritesRun pool.old pool.new result }
 {
     let file = FileRef {
         base: BASE,
@@ -77,16 +68,10 @@ fn write_into<S: Store>(alloc: Global, store: &mut S, pool: &mut Pool) -> Result
 
 // The same into a store of its own.
 fn write_run(alloc: Global, pool: &mut Pool) -> Result<SureStore, AllocError>
-    requires some { 1 ≤ length pool.old.entries }
-    requires many { length pool.old.entries ≤ 2 ^ 32 }
-    requires entries { AreEntries pool.old.entries }
-    ensures bytes { IfOk result (λ store. run_bytes (⟦<SureStore as Store>⟧.files store)
-        ≡ run_of_pool pool.old) }
-    ensures few { IfOk result (λ store. length (run_bytes (⟦<SureStore as Store>⟧.files store))
-        ≤ 16 + 32 * length pool.old.entries) }
-    ensures empty { OnOk result (pool.new.entries ≡ []) }
-    ensures slots { OnOk result (pool.old.slots ≡ [] → pool.new.slots ≡ []) }
-    ensures limit { pool.new.limit ≡ pool.old.limit }
+    requires run { CanBeRun pool.old }
+    ensures run { IfOk result (λ store.
+        IsRunOf pool.old (run_bytes (⟦<SureStore as Store>⟧.files store))) }
+    ensures pool { WritesRun pool.old pool.new result }
 {
     let mut store = SureStore::new(alloc);
     match write_into(alloc, &mut store, pool) {
@@ -124,22 +109,17 @@ impl<'a> RunPart<'a> {
 
     // Writes the pool's entries as a run, compares it, and empties the pool.
     fn compare<S: Store>(&mut self, store: &mut S) -> Result<(), PartErr>
-        requires some { 1 ≤ length self.old.pool.entries }
-        requires many { length self.old.pool.entries ≤ 2 ^ 32 }
-        requires entries { AreEntries self.old.pool.entries }
+        requires run { CanBeRun self.old.pool }
         requires place { self.old.part.at ≤ 2 ^ 62 }
-        ensures begun { OnOk result (HasBegunMore S.files store.old store.new self.old.part
-            self.new.part (run_of_pool self.old.pool)) }
-        ensures bad { IsSome (S.files store.old) →
-            WhereBad (GoesOnOtherwise self.old.part (S.files store.old) (run_of_pool self.old.pool))
-            result }
+        ensures begun { Between S.files S.reads S.faults store.old store.new
+            (ComparesPart (OnOk result (HasBegunMore S.files store.old store.new self.old.part
+            self.new.part (run_of_pool self.old.pool)))
+            (GoesOnOtherwise self.old.part (S.files store.old) (run_of_pool self.old.pool))
+            result) }
         ensures place { OnOk result (self.new.part.at ≤ self.old.part.at + 16 + 32
             * length self.old.pool.entries) }
-        ensures empty { OnOk result (self.new.pool.entries ≡ []) }
-        ensures slots { OnOk result (self.old.pool.slots ≡ [] → self.new.pool.slots ≡ []) }
-        ensures limit { self.new.pool.limit ≡ self.old.pool.limit }
+        ensures pool { WritesRun self.old.pool self.new.pool result }
         ensures name { self.new.part.name ≡ self.old.part.name }
-        ensures looks { Between S.files S.reads S.faults store.old store.new (LooksAtSet result) }
     {
         let written = match write_run(self.alloc, &mut self.pool) {
             Ok(written) => written,
@@ -161,13 +141,11 @@ impl<'a> RunPart<'a> {
         requires taken { (fed : List (ℕ × ℕ)) × (length fed < 2 ^ 32 - 1)
             × HasTaken self.old (S.files store.old) fed }
         requires doc { 1 ≤ doc }
-        ensures taken { OnOk result (HasTakenOne S.files store.old store.new self.old self.new
-            (term, doc)) }
-        ensures bad { IsSome (S.files store.old) →
-            WhereBad (RunsOtherwise self.old (S.files store.old)) result }
-        ensures limit { self.new.pool.limit ≡ self.old.pool.limit }
-        ensures name { self.new.part.name ≡ self.old.part.name }
-        ensures looks { Between S.files S.reads S.faults store.old store.new (LooksAtSet result) }
+        ensures taken { Between S.files S.reads S.faults store.old store.new
+            (ComparesPart (OnOk result (HasTakenOne S.files store.old store.new self.old self.new
+            (term, doc)))
+            (RunsOtherwise self.old (S.files store.old)) result) }
+        ensures same { SameRun self.old self.new }
     {
         // By this law runs are bytes one after the other.
         ranges_join();
@@ -191,13 +169,11 @@ impl<'a> RunPart<'a> {
         requires taken { (fed : List (ℕ × ℕ)) × (length fed + length numbers.now < 2 ^ 32)
             × HasTaken self.old (S.files store.old) fed }
         requires doc { 1 ≤ doc }
-        ensures taken { OnOk result (HasTakenAll S.files store.old store.new self.old self.new doc
-            numbers.now) }
-        ensures bad { IsSome (S.files store.old) →
-            WhereBad (RunsOtherwiseOn self.old (S.files store.old) doc numbers.now) result }
-        ensures limit { self.new.pool.limit ≡ self.old.pool.limit }
-        ensures name { self.new.part.name ≡ self.old.part.name }
-        ensures looks { Between S.files S.reads S.faults store.old store.new (LooksAtSet result) }
+        ensures taken { Between S.files S.reads S.faults store.old store.new
+            (ComparesPart (OnOk result (HasTakenAll S.files store.old store.new self.old self.new
+            doc numbers.now))
+            (RunsOtherwiseOn self.old (S.files store.old) doc numbers.now) result) }
+        ensures same { SameRun self.old self.new }
     {
         for number in numbers {
             match self.push(store, *number, doc) {
@@ -211,12 +187,11 @@ impl<'a> RunPart<'a> {
     // Compares what is left in the pool as the last run.
     fn compare_rest<S: Store>(&mut self, store: &mut S) -> Result<(), PartErr>
         requires taken { (fed : List (ℕ × ℕ)) × HasTaken self.old (S.files store.old) fed }
-        ensures begun { OnOk result (HasBegunRuns S.files store.old store.new self.old
-            self.new.part) }
-        ensures bad { IsSome (S.files store.old) →
-            WhereBad (AreOtherRuns self.old (S.files store.old)) result }
+        ensures begun { Between S.files S.reads S.faults store.old store.new
+            (ComparesPart (OnOk result (HasBegunRuns S.files store.old store.new self.old
+            self.new.part))
+            (AreOtherRuns self.old (S.files store.old)) result) }
         ensures name { self.new.part.name ≡ self.old.part.name }
-        ensures looks { Between S.files S.reads S.faults store.old store.new (LooksAtSet result) }
     {
         // By this law runs are bytes one after the other.
         ranges_join();
@@ -232,11 +207,10 @@ impl<'a> RunPart<'a> {
     /// Compares what is left as the last run, and refuses a part with more bytes.
     pub(crate) fn finish<S: Store>(&mut self, store: &mut S) -> Result<(), PartErr>
         requires taken { (fed : List (ℕ × ℕ)) × HasTaken self.old (S.files store.old) fed }
-        ensures done { IsSome (S.files store.old) →
-            OnOk result (AreItsRuns self.old (S.files store.old)) }
-        ensures bad { IsSome (S.files store.old) →
-            WhereBad (AreOtherRuns self.old (S.files store.old)) result }
-        ensures looks { Between S.files S.reads S.faults store.old store.new (LooksAtSet result) }
+        ensures ended { Between S.files S.reads S.faults store.old store.new
+            (ComparesPart
+            (IsSome (S.files store.old) → OnOk result (AreItsRuns self.old (S.files store.old)))
+            (AreOtherRuns self.old (S.files store.old)) result) }
     {
         match self.compare_rest(store) {
             Ok(()) => {}

@@ -5,9 +5,7 @@ ghost use Rattle.mg_dev.specs.Names.{full_name};
 ghost use Rattle.mg_dev.specs.Moments.{Between};
 ghost use Rattle.mg_dev.specs.declared.part.Part.TheVariants as part;
 ghost use Rattle.mg_defs.specs.Numbers.{four};
-ghost use Rattle.mg_check_index.specs.Counting.{HasWeighed, HasWeighedMore, WeighsOtherwise, WeighsOtherwiseOn, AreItsWeights, AreOtherWeights};
-ghost use Rattle.mg_check_parts.specs.Refusals.{WhereBad};
-ghost use Rattle.mg_check_parts.specs.Looks.{LooksAtSet};
+ghost use Rattle.mg_check_index.specs.Counting.{ComparesPart, HasWeighed, HasWeighedMore, WeighsOtherwise, WeighsOtherwiseOn, AreItsWeights, AreOtherWeights};
 
 use crate::comparison::Comparison;
 use mg_dev::{Part, PartErr, Store};
@@ -49,14 +47,13 @@ impl<'a> Weights<'a> {
     /// Takes the weight of the next document.
     pub(crate) fn push<S: Store>(&mut self, store: &mut S, weight: u32) -> Result<(), PartErr>
         requires place { self.old.part.at + length self.old.held + 4 ≤ 2 ^ 63 }
-        ensures weighed { OnOk result
-            (HasWeighedMore S.files store.old store.new self.old self.new (four weight)) }
-        ensures bad { IsSome (S.files store.old) →
-            WhereBad (WeighsOtherwiseOn self.old (S.files store.old) (four weight)) result }
+        ensures weighed { Between S.files S.reads S.faults store.old store.new
+            (ComparesPart (OnOk result (HasWeighedMore S.files store.old store.new self.old self.new
+            (four weight)))
+            (WeighsOtherwiseOn self.old (S.files store.old) (four weight)) result) }
         ensures size { OnOk result (self.new.part.at + length self.new.held
             ≡ self.old.part.at + length self.old.held + 4) }
         ensures name { self.new.part.name ≡ self.old.part.name }
-        ensures looks { Between S.files S.reads S.faults store.old store.new (LooksAtSet result) }
     {
         match self.hold(weight) {
             Ok(()) => {}
@@ -80,16 +77,15 @@ impl<'a> Weights<'a> {
     // Compares what is held.
     fn compare<S: Store>(&mut self, store: &mut S) -> Result<(), PartErr>
         requires place { self.old.part.at + length self.old.held ≤ 2 ^ 63 }
-        ensures weighed { OnOk result ((bytes : List ℕ) →
+        ensures compared { Between S.files S.reads S.faults store.old store.new
+            (ComparesPart (OnOk result ((bytes : List ℕ) →
             HasWeighed self.old (S.files store.old) bytes →
-            HasWeighed self.new (S.files store.new) bytes) }
+            HasWeighed self.new (S.files store.new) bytes))
+            (WeighsOtherwise self.old (S.files store.old)) result) }
         ensures none { OnOk result (self.new.held ≡ []) }
-        ensures bad { IsSome (S.files store.old) →
-            WhereBad (WeighsOtherwise self.old (S.files store.old)) result }
         ensures size { OnOk result (self.new.part.at + length self.new.held
             ≡ self.old.part.at + length self.old.held) }
         ensures name { self.new.part.name ≡ self.old.part.name }
-        ensures looks { Between S.files S.reads S.faults store.old store.new (LooksAtSet result) }
     {
         match self.part.expect(store, &self.held) {
             Ok(()) => {}
@@ -102,11 +98,10 @@ impl<'a> Weights<'a> {
     /// Compares what is still held, and refuses a part with more bytes.
     pub(crate) fn finish<S: Store>(&mut self, store: &mut S) -> Result<(), PartErr>
         requires place { self.old.part.at + length self.old.held ≤ 2 ^ 63 }
-        ensures done { IsSome (S.files store.old) →
-            OnOk result (AreItsWeights self.old (S.files store.old)) }
-        ensures bad { IsSome (S.files store.old) →
-            WhereBad (AreOtherWeights self.old (S.files store.old)) result }
-        ensures looks { Between S.files S.reads S.faults store.old store.new (LooksAtSet result) }
+        ensures ended { Between S.files S.reads S.faults store.old store.new
+            (ComparesPart
+            (IsSome (S.files store.old) → OnOk result (AreItsWeights self.old (S.files store.old)))
+            (AreOtherWeights self.old (S.files store.old)) result) }
     {
         match self.compare(store) {
             Ok(()) => {}
