@@ -122,6 +122,14 @@ pub record IsNewLists (told : SureStore → Option Files) (all : ℕ) (lists : N
   pub post : lists.writer.post.name ≡ full_name (codes "new") part.Post
   pub skip : lists.writer.skip.name ≡ full_name (codes "new") part.Skip
 
+-- lists among so many documents were written, and none is begun
+pub record AreBetween (told : SureStore → Option Files) (lists : NewLists) (all : ℕ) : Type 0 where
+  pub done : List (List Posting)
+  pub took : Took lists.writer (told lists.store) done []
+  pub all_are : lists.writer.all ≡ all
+  -- no collection has more
+  pub few : all ≤ 2 ^ 24
+
 -- lists are written in memory, told of the moments before and after
 pub record WritesOn {T : Type 0} (old new : NewLists) (result : Result T PartErr) : Type 0 where
   -- the writer writes the same files, of lists among as many documents

@@ -11,7 +11,7 @@ ghost use Rattle.mg_defs.specs.declared.Posting.{Posting};
 ghost use Rattle.mg_defs.specs.Lists.{Rises};
 ghost use Rattle.mg_post.specs.Writing.{Pushed, PushedMore, Took};
 ghost use Rattle.mg_layout.specs.Infos.{info_of};
-ghost use Rattle.mg_check_index.specs.Anew.{AreEndsOf, CanListTerms, FindsFollowing, ForWritten, IsNewLists, ListsTerms, RefutesFollowing, TookList, TookPosting, TookPostings, WritesOn};
+ghost use Rattle.mg_check_index.specs.Anew.{AreBetween, AreEndsOf, CanListTerms, FindsFollowing, ForWritten, IsNewLists, ListsTerms, RefutesFollowing, TookList, TookPosting, TookPostings, WritesOn};
 ghost use Rattle.mg_check_index.specs.Listing.{AreBehind, ArePlaces, CanCompareRange, IsStart, RangeCompared};
 ghost use Rattle.mg_check_parts.specs.Looks.{LooksAtSet};
 
@@ -124,12 +124,9 @@ impl<'a> NewLists<'a> {
 
     // All postings of the list that was begun.
     fn push_all(&mut self, postings: &[Posting], all: u32) -> Result<(), PartErr>
-        requires took { (done : List (List Posting)) × Took self.old.writer
-            (⟦<SureStore as Store>⟧.files self.old.store) done [] }
+        requires between { AreBetween ⟦<SureStore as Store>⟧.files self.old all }
         requires none { self.old.writer.pushed ≡ 0 }
         requires last { self.old.writer.last ≡ 0 }
-        requires all { self.old.writer.all ≡ all }
-        requires few { all ≤ 2 ^ 24 }
         requires more { length postings.now ≤ self.old.writer.docs }
         requires total { self.old.writer.total + length postings.now ≤ 2 ^ 32 }
         ensures took { OnOk result (TookPostings ⟦<SureStore as Store>⟧.files self.old self.new
@@ -152,10 +149,7 @@ impl<'a> NewLists<'a> {
 
     // A whole list of so many postings. Answers the byte where it begins and the number of its first skip entry.
     fn write(&mut self, postings: &[Posting], count: u32, all: u32) -> Result<(u64, u32), PartErr>
-        requires took { (done : List (List Posting)) × Took self.old.writer
-            (⟦<SureStore as Store>⟧.files self.old.store) done [] }
-        requires all { self.old.writer.all ≡ all }
-        requires few { all ≤ 2 ^ 24 }
+        requires between { AreBetween ⟦<SureStore as Store>⟧.files self.old all }
         requires some { 1 ≤ count }
         requires within { count ≤ all }
         requires total { self.old.writer.total + count ≤ 2 ^ 32 }

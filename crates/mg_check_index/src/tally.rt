@@ -5,10 +5,8 @@ ghost use Rattle.mg_dev.specs.Names.{full_name};
 ghost use Rattle.mg_dev.specs.Moments.{Between};
 ghost use Rattle.mg_dev.specs.declared.part.Part.TheVariants as part;
 ghost use Rattle.mg_runs.specs.Fed.{cap_of};
-ghost use Rattle.mg_check_index.specs.Counting.{CanAdd, HasTallied, NoneGoesOn, NotTallied, SameParts, one_more_each, TalliedNext, AreTallied};
+ghost use Rattle.mg_check_index.specs.Counting.{CanAdd, ComparesPart, HasTallied, NoneGoesOn, NotTallied, SameParts, one_more_each, TalliedNext, AreTallied};
 ghost use Rattle.mg_check_parts.specs.TermsRead.{IsCounted};
-ghost use Rattle.mg_check_parts.specs.Refusals.{WhereBad};
-ghost use Rattle.mg_check_parts.specs.Looks.{LooksAtSet};
 
 use crate::run_part::RunPart;
 use crate::weights::Weights;
@@ -92,12 +90,11 @@ impl<'a> Tally<'a> {
         terms: &DocTerms,
     ) -> Result<(), PartErr>
         requires can { CanAdd self.old (S.files store.old) number terms.now }
-        ensures tallied { OnOk result
-            (TalliedNext S.files store.old store.new self.old self.new number terms.now) }
-        ensures bad { IsSome (S.files store.old) →
-            WhereBad (NoneGoesOn self.old (S.files store.old) number terms.now) result }
+        ensures tallied { Between S.files S.reads S.faults store.old store.new
+            (ComparesPart (OnOk result
+            (TalliedNext S.files store.old store.new self.old self.new number terms.now))
+            (NoneGoesOn self.old (S.files store.old) number terms.now) result) }
         ensures same { SameParts self.old self.new }
-        ensures looks { Between S.files S.reads S.faults store.old store.new (LooksAtSet result) }
     {
         // By this law there are no more occurrences than bytes.
         few_of_each();
@@ -122,13 +119,12 @@ impl<'a> Tally<'a> {
     pub fn finish<S: Store>(&mut self, store: &mut S) -> Result<(), PartErr>
         requires tallied { (words docs : List (List ℕ)) × (length docs < 2 ^ 32)
             × HasTallied self.old (S.files store.old) words docs }
-        ensures done { IsSome (S.files store.old) →
-            OnOk result (AreTallied self.old (S.files store.old)) }
-        ensures bad { IsSome (S.files store.old) →
-            WhereBad (NotTallied self.old (S.files store.old)) result }
+        ensures ended { Between S.files S.reads S.faults store.old store.new
+            (ComparesPart
+            (IsSome (S.files store.old) → OnOk result (AreTallied self.old (S.files store.old)))
+            (NotTallied self.old (S.files store.old)) result) }
         ensures docs { self.new.docs ≡ self.old.docs }
         ensures occurrences { self.new.occurrences ≡ self.old.occurrences }
-        ensures looks { Between S.files S.reads S.faults store.old store.new (LooksAtSet result) }
     {
         match self.weights.finish(store) {
             Ok(()) => {}

@@ -43,8 +43,8 @@ returns g c = record {
         (λ next.
         text_next c.args.tally.now c.add.new.self (g.S.Store.files c.args.store.now) (g.S.Store.files c.add.new.store) words c.args.before c.args.reader.now read.doc it
         (next words it.docs read.doc (omega (arith, it.count)) (terms_shown c.terms.ensures read.terms) was) c.requires.within
-        (λ collection stand. doc_of_reader collection c.args.before read.doc read.doc (read.own collection stand) refl) (c.add.ensures.looks.files ∙ files))
-        c.add.ensures.tallied;
+        (λ collection stand. doc_of_reader collection c.args.before read.doc read.doc (read.own collection stand) refl) (c.add.ensures.tallied.looks.files ∙ files))
+        c.add.ensures.tallied.done;
     parts = c.add.ensures.same;
     other = λ collection stand.
         let read = c.in-Ok.ensures.terms in
@@ -52,7 +52,7 @@ returns g c = record {
         next_bad c.add.result c.args.tally.now (g.S.Store.files c.args.store.now) (g.S.Store.files c.read.new.store) c.args.table.now c.args.before
         c.args.reader.now c.requires.tallied read.doc c.terms.result.now collection
         files c.requires.text.table_is c.requires.within stand (doc_of_reader collection c.args.before read.doc read.doc (read.own collection stand) refl) (terms_shown c.terms.ensures read.terms)
-        (c.add.ensures.bad (subst (λ f. IsSome f) (sym files) stand.told));
-    text = text_looks c.in-Ok.ensures.text c.add.ensures.looks;
+        (c.add.ensures.tallied.bad (subst (λ f. IsSome f) (sym files) stand.told));
+    text = text_looks c.in-Ok.ensures.text c.add.ensures.tallied.looks;
   };
 }

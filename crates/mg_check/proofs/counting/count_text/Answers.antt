@@ -24,7 +24,7 @@ returns-clause-tallied g c = λ text stand.
     tally_done c.finish.result c.args.tally.now c.count_documents.new.tally c.finish.new.self (g.S.Store.files c.args.store.now)
     (g.S.Store.files c.count_documents.new.store) c.args.table.now c.args.documents c.args.reader.now c.in-Ok-count_documents.ensures.tallied.taken text
     files c.in-Ok-count_documents.ensures.tallied.parts c.requires.text.all c.requires.text.table_is stand c.finish.ensures.docs c.finish.ensures.occurrences
-    (c.finish.ensures.done (subst (λ f. IsSome f) (sym files) stand.told))
+    (c.finish.ensures.ended.done (subst (λ f. IsSome f) (sym files) stand.told))
 
 pub returns-clause-other : goal.returns-clause-other
 returns-clause-other g c = λ text stand.
@@ -32,7 +32,7 @@ returns-clause-other g c = λ text stand.
     tally_other c.finish.result c.args.tally.now c.count_documents.new.tally (g.S.Store.files c.args.store.now) (g.S.Store.files c.count_documents.new.store)
     c.args.table.now c.args.documents c.args.reader.now c.in-Ok-count_documents.ensures.tallied.taken text
     files c.in-Ok-count_documents.ensures.tallied.parts c.requires.text.all c.requires.text.table_is stand
-    (c.finish.ensures.bad (subst (λ f. IsSome f) (sym files) stand.told))
+    (c.finish.ensures.ended.bad (subst (λ f. IsSome f) (sym files) stand.told))
 
 pub returns-clause-text : goal.returns-clause-text
-returns-clause-text g c = text_looks c.in-Ok-count_documents.ensures.tallied.text c.finish.ensures.looks
+returns-clause-text g c = text_looks c.in-Ok-count_documents.ensures.tallied.text c.finish.ensures.ended.looks

@@ -12,14 +12,10 @@ use Rattle.mg_check_index.proofs.lists.NewLists.push_term.Goals as goal
 pub list-list-requires-clause-few : goal.list-list-requires-clause-few
 list-list-requires-clause-few c = let range = c.requires.list.write.range in omega (arith, c.requires.index, range.range, range.few)
 
-pub write-requires-clause-took : goal.write-requires-clause-took
-write-requires-clause-took c = (c.requires.list.can.done, c.requires.list.can.took)
-
-pub write-requires-clause-all : goal.write-requires-clause-all
-write-requires-clause-all c = c.requires.list.write.all_are
-
-pub write-requires-clause-few : goal.write-requires-clause-few
-write-requires-clause-few c = c.requires.list.write.range.most
+pub write-requires-clause-between : goal.write-requires-clause-between
+write-requires-clause-between c =
+    let list = c.requires.list in
+    record { done = list.can.done; took = list.can.took; all_are = list.write.all_are; few = list.write.range.most }
 
 pub write-requires-clause-some : goal.write-requires-clause-some
 write-requires-clause-some c = subst (λ n. 1 ≤ n) (sym c.list-list.ensures.docs) (c.requires.list.write.range.rooms.some c.args.index c.requires.index)

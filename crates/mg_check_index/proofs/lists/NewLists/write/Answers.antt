@@ -1,5 +1,22 @@
+use Rattle.std.proofs.Common.{arith, ◌∙◌}
 use Rattle.mg_check_index.proofs.WrittenLaws.{names_more, names_same}
 use Rattle.mg_check_index.proofs.lists.NewLists.write.Goals as goal
+
+pub begin-requires-clause-took : goal.begin-requires-clause-took
+begin-requires-clause-took c = (c.requires.between.done, c.requires.between.took)
+
+pub begin-requires-clause-within : goal.begin-requires-clause-within
+begin-requires-clause-within c = omega (arith, c.requires.within, c.requires.between.all_are)
+
+pub push_all-requires-clause-between : goal.push_all-requires-clause-between
+push_all-requires-clause-between c =
+    let between = c.requires.between in
+    record { done = between.done; took = c.begin.ensures.took between.done between.took; all_are = c.begin.ensures.same.all ∙ between.all_are; few = between.few }
+
+pub end_list-requires-clause-took : goal.end_list-requires-clause-took
+end_list-requires-clause-took c =
+    let between = c.requires.between in
+    (between.done, c.args.postings.now, c.in-Ok-push_all.ensures.took between.done (c.begin.ensures.took between.done between.took))
 
 pub returns-then-postings-count-clause-step : goal.returns-then-postings-count-clause-step
 returns-then-postings-count-clause-step c = record { same = names_same c.args.self.now.writer; own = tt }
