@@ -1,5 +1,5 @@
 -- What stands where a block is entered.
-use Rattle.std.proofs.Common.{arith, suc, zero, ◌≡◌, ◌+◌, ◌*◌, ◌^◌, ◌≤◌, ◌<◌, ◌-◌, ℕ, List, [], ◌∷◌, ◌++◌, length, take, drop, min, Option, Some, None, Result, refl, sym, ◌∙◌, ap, subst, length-append}
+use Rattle.std.proofs.Common.{arith, suc, zero, ◌≡◌, ◌+◌, ◌*◌, ◌^◌, ◌≤◌, ◌<◌, ◌-◌, ℕ, List, [], ◌∷◌, ◌++◌, length, take, drop, min, Option, Some, None, Result, Ok, Err, refl, sym, ◌∙◌, ap, subst, length-append}
 use Rattle.std.proofs.lemmas.Grind.{common_steps}
 use Rattle.std.proofs.lemmas.List.{take-append-drop, drop-drop, length-drop}
 use Rattle.std.proofs.Math.Seq.{take-add}
@@ -9,8 +9,9 @@ use Rattle.mg_defs.specs.declared.Posting.{Posting}
 use Rattle.mg_defs.specs.Lists.{bits_after, last_doc, Rises, doc_before, bits_before, block_of, block_pages}
 use Rattle.mg_defs.specs.PagesOf.{pages}
 use Rattle.mg_defs.proofs.ListLaws.{bits_append, rises_left, rises_right, rest_stands, block_last}
-use Rattle.mg_bits.specs.Feed.{Feeding, Device as Seen, ReadsWithin, to_read}
+use Rattle.mg_bits.specs.Feed.{Feeding, Device as Seen, Read, ReadsWithin, to_read}
 use Rattle.mg_post.specs.declared.refusal.Refusal.{Refusal}
+use Rattle.mg_post.specs.PagesOnce.{ReadsOn}
 use Rattle.mg_post.specs.Stands.{BlockStands}
 use Rattle.mg_post.specs.Finding.{IsFoundAt}
 use Rattle.mg_post.specs.Cursor.{Entered, forward_to, head_of}
@@ -113,15 +114,29 @@ device_most f0 f1 d0 d1 part from to is own within =
     let some : d1.reads part ≤ d0.reads part + to_read 4096 f0.held from to = subst (λ n. d1.reads part ≤ d0.reads part + to_read n f0.held from to) is (within.device part own) in
     omega (arith, some, to_read_most f0.held from to)
 
+-- the bit behind a block, by the place where it was read from and to
+end_of : (b post_at place end k before : ℕ) (ps filled : List Posting) → filled ≡ block_of k ps → before ≡ doc_before (64 * k) ps →
+    place ≡ post_at + bits_before b (64 * k) ps → end ≡ place + length (bits_after b before filled) → end ≡ post_at + bits_before b (64 * (k + 1)) ps
+end_of b post_at place end k before ps filled is from at ends =
+    let e : length (bits_after b before filled) ≡ length (bits_after b (doc_before (64 * k) ps) (block_of k ps)) = ap (λ l. length (bits_after b before l)) is
+    ∙ ap (λ d. length (bits_after b d (block_of k ps))) from in
+    omega (arith, bits_next b k ps)
+
+-- a block that was read was read on from the page that was held
+pub read_on : {T : Type 0} (x : T) (b post_at place end k before : ℕ) (ps filled : List Posting) (f0 f1 : Feeding) (d0 d1 : Seen) → f0.page ≡ 4096 →
+    filled ≡ block_of k ps → before ≡ doc_before (64 * k) ps → place ≡ post_at + bits_before b (64 * k) ps → end ≡ place + length (bits_after b before filled) →
+    Read f0 f1 d0 d1 place end → ReadsOn (post_at + bits_before b (64 * k) ps) (post_at + bits_before b (64 * (k + 1)) ps) (Ok x) f0 f1
+read_on x b post_at place end k before ps filled f0 f1 d0 d1 page is from at ends read =
+    let end_is = end_of b post_at place end k before ps filled is from at ends in
+    record { count = rw (page, at, end_is) at read.pages.feed; held = rw (page, at, end_is) at read.held }
+
 -- the pages of a block, by the place where it was read from and to
 pub pages_is : (b post_at place end k before : ℕ) (ps filled : List Posting) → filled ≡ block_of k ps → before ≡ doc_before (64 * k) ps →
     place ≡ post_at + bits_before b (64 * k) ps → end ≡ place + length (bits_after b before filled) →
     pages place end ≡ block_pages b post_at k ps
 unfolding block_pages
 pages_is b post_at place end k before ps filled is from at ends =
-    let e : length (bits_after b before filled) ≡ length (bits_after b (doc_before (64 * k) ps) (block_of k ps)) = ap (λ l. length (bits_after b before l)) is
-    ∙ ap (λ d. length (bits_after b d (block_of k ps))) from in
-    let end_is : end ≡ post_at + bits_before b (64 * (k + 1)) ps = omega (arith, bits_next b k ps) in
+    let end_is = end_of b post_at place end k before ps filled is from at ends in
     ap (λ n. pages n end) at ∙ ap (λ n. pages (post_at + bits_before b (64 * k) ps) n) end_is
 
 pub entered : (b post_at place end block doc before counted : ℕ) (ps filled held : List Posting) (p : Posting) → filled ≡ block_of block ps → held ≡ forward_to doc filled → head_of held ≡ Some p →
@@ -139,15 +154,30 @@ pub block_within : (told : Option (List ℕ)) (f0 f1 : Feeding) (d0 d1 : Seen) (
     before ≡ doc_before (64 * k) ps → place ≡ post_at + bits_before b (64 * k) ps → Rises all 0 ps → Shows told post_at (bits_after b 0 ps) → post_at + length (bits_after b 0 ps) ≤ 2 ^ 63 →
     ((qs : List Posting) → Rises all before qs → count ≤ length qs → place + length (bits_after b before qs) ≤ 2 ^ 63 →
     Shows told place (bits_after b before qs) → ReadsWithin f0 f1 d0 d1 place (place + length (bits_after b before (take count qs)))) →
-    (to : ℕ) × ReadsWithin f0 f1 d0 d1 place to × (pages place to ≡ block_pages b post_at k ps)
+    (to : ℕ) × ReadsWithin f0 f1 d0 d1 place to × (to ≡ post_at + bits_before b (64 * (k + 1)) ps) × (pages place to ≡ block_pages b post_at k ps)
 block_within told f0 f1 d0 d1 post_at all b place before count docs k ps counted whole from at rises shows small answers =
     let within : ReadsWithin f0 f1 d0 d1 place (place + length (bits_after b before (take count (drop (64 * k) ps)))) =
     answers (drop (64 * k) ps) (rw from (rest_rises all (64 * k) ps rises)) (omega (arith, length-drop (64 * k) ps))
     (rw from (omega (arith, parted_length b (64 * k) ps))) (rw from (rest_shown told post_at place b (64 * k) ps at shows)) in (
       place + length (bits_after b before (take count (drop (64 * k) ps))),
       within,
+      end_of b post_at place (place + length (bits_after b before (take count (drop (64 * k) ps)))) k before ps (take count (drop (64 * k) ps)) (block_is count docs k ps counted whole) from at refl,
       pages_is b post_at place (place + length (bits_after b before (take count (drop (64 * k) ps)))) k before ps (take count (drop (64 * k) ps)) (block_is count docs k ps counted whole) from at refl,
     )
+
+-- and on from the page that was held
+pub refused_on : {T : Type 0} (refusal : Refusal) (told : Option (List ℕ)) (f0 f1 : Feeding) (d0 d1 : Seen) (post_at all b place before count docs k : ℕ) (ps : List Posting) →
+    f0.page ≡ 4096 → count ≡ min (docs - 64 * k) 64 → docs ≡ length ps →
+    before ≡ doc_before (64 * k) ps → place ≡ post_at + bits_before b (64 * k) ps → Rises all 0 ps → Shows told post_at (bits_after b 0 ps) → post_at + length (bits_after b 0 ps) ≤ 2 ^ 63 →
+    ((qs : List Posting) → Rises all before qs → count ≤ length qs → place + length (bits_after b before qs) ≤ 2 ^ 63 →
+    Shows told place (bits_after b before qs) → ReadsWithin f0 f1 d0 d1 place (place + length (bits_after b before (take count qs)))) →
+    ReadsOn {T = T} (post_at + bits_before b (64 * k) ps) (post_at + bits_before b (64 * (k + 1)) ps) (Err refusal) f0 f1
+refused_on refusal told f0 f1 d0 d1 post_at all b place before count docs k ps page counted whole from at rises shows small answers =
+    let w = block_within told f0 f1 d0 d1 post_at all b place before count docs k ps counted whole from at rises shows small answers in
+    let step : f1.count ≤ f0.count + to_read 4096 f0.held place w.0 = subst (λ n. f1.count ≤ f0.count + to_read n f0.held place w.0) page w.1.feed in
+    let from_it : f1.count ≤ f0.count + to_read 4096 f0.held (post_at + bits_before b (64 * k) ps) w.0 =
+    subst (λ n. f1.count ≤ f0.count + to_read 4096 f0.held n w.0) at step in
+    record { count = subst (λ n. f1.count ≤ f0.count + to_read 4096 f0.held (post_at + bits_before b (64 * k) ps) n) w.2 from_it; held = tt }
 
 pub refused_pages : (told : Option (List ℕ)) (f0 f1 : Feeding) (d0 d1 : Seen) (post_at all b place before count docs k : ℕ) (ps : List Posting) →
     f0.page ≡ 4096 → count ≡ min (docs - 64 * k) 64 → docs ≡ length ps →
@@ -157,7 +187,7 @@ pub refused_pages : (told : Option (List ℕ)) (f0 f1 : Feeding) (d0 d1 : Seen) 
     f1.count ≤ f0.count + block_pages b post_at k ps
 refused_pages told f0 f1 d0 d1 post_at all b place before count docs k ps page counted whole from at rises shows small answers =
     let w = block_within told f0 f1 d0 d1 post_at all b place before count docs k ps counted whole from at rises shows small answers in
-    omega (arith, count_most f0 f1 d0 d1 place w.0 page w.1, w.2)
+    omega (arith, count_most f0 f1 d0 d1 place w.0 page w.1, w.3)
 
 -- ---- one block alone
 

@@ -4,6 +4,7 @@ mod ReadLaws
 mod AheadLaws
 mod FindLaws
 mod ForwardLaws
+mod PagesOnceLaws
 mod EnterLaws
 mod CursorLaws
 mod StandLaws

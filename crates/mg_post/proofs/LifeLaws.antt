@@ -12,7 +12,7 @@ use Rattle.mg_defs.specs.PageBounds.{in_range, met_pages}
 use Rattle.mg_laws.proofs.BoundLaws.{range_true, met_rises, met_enters, met_whole, list_few}
 use Rattle.mg_laws.proofs.MetBlocks.{few_postings, met_all}
 use Rattle.mg_post.specs.Finding.{entries_pages}
-use Rattle.mg_post.specs.Cursor.{Cursoring, CursorStands, SameList, entered_pages, post_pages, Enters, EntersFor, ReadsBlock, ReadsTwo}
+use Rattle.mg_post.specs.Cursor.{Cursoring, CursorStands, SameList, entered_pages, post_pages, Enters, EntersFor, ReadsBlock, ReadsTwo, SkipRises, skip_pages}
 use Rattle.mg_post.specs.TermLists.{IsAmong, EnteredFor}
 
 -- in a call that was answered
@@ -90,6 +90,13 @@ pub reads_after : (c v : Cursoring) (before now : Reads) → ReadsTwo c v before
 reads_after c v before now two small =
     let few : post_pages v < 2 ^ 64 - 1 = omega (arith, two.first, small) in
     omega (arith, two.post few, two.post_later)
+
+-- and that of Skip, where the list has less than 2^32 postings
+pub skips_after : (c v : Cursoring) (before now : Reads) → v.docs < 2 ^ 32 → skip_pages v ≤ entries_pages v.skip_at (block_count v.docs) →
+    ReadsTwo c v before now → SkipRises c v before now
+skips_after c v before now small third two =
+    let few : skip_pages v < 2 ^ 64 - 1 = omega (arith, third, entries_few v.skip_at v.docs small) in
+    omega (arith, two.skip few, two.skip_later)
 
 -- a document that is one of those asked
 pub among : (asked : List ℕ) (ps : List Posting) (doc : ℕ) → Contains asked doc → IsAmong asked ps doc

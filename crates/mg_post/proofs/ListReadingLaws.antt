@@ -310,7 +310,7 @@ module _ {Dev : Type 0} {device : Dev → Seen} {r : ListReading} {d0 d1 : Dev} 
         count r.docs r.reached ps k.size f.docs f.before f.place l.rises l.bits l.small w.pages in
         let most = device_most (feeding_of 4096 r.post) (feeding_of 4096 post.feed) (device d0) (device d1) Post r.place within.0 refl (ap Some k.part) within.1 in
         let own = own_block collection t r.parameter r.reached f.parameter in
-        omega (arith, most, within.2, own, whole_more (parameter_of collection t) at r.reached ps, pages_read collection t (r.reached + 1) (omega (arith, k.more, f.docs)));
+        omega (arith, most, within.3, own, whole_more (parameter_of collection t) at r.reached ps, pages_read collection t (r.reached + 1) (omega (arith, k.more, f.docs)));
     sound = tt;
     current = tt;
     walk = tt;

@@ -244,13 +244,13 @@ next_bits told place all b before last i count ps out next same doc lt =
     omega (arith, one, more, ap (λ l. length (bits_after b before l)) same)
 
 -- the pages of a block of which some postings were read, and a part of the next
-pub block_pages_more : (told now : Option (List ℕ)) (f0 f1 f2 : Feeding) (d0 d1 d2 : Seen) (start place all b before last i count : ℕ) (ps out : List Posting) →
+pub block_pages_more : {told now : Option (List ℕ)} {f0 f1 f2 : Feeding} {d0 d1 d2 : Seen} (start place all b before last i count : ℕ) (ps out : List Posting) →
     0 < f0.page → now ≡ told → (next : NextHere told place all b last i ps) → take i out ≡ take i ps →
     last ≡ last_doc before (take i out) → i < count → place ≡ start + length (bits_after b before (take i out)) →
     Read f0 f1 d0 d1 start (start + length (bits_after b before (take i out))) →
     ((p : Posting) → Follows all last p → Shows now place (posting_bits b last p) → ReadsWithin f1 f2 d1 d2 place (place + length (posting_bits b last p))) →
     ReadsWithin f0 f2 d0 d2 start (start + length (bits_after b before (take count ps)))
-block_pages_more told now f0 f1 f2 d0 d1 d2 start place all b before last i count ps out some same next front doc lt at one pages =
+block_pages_more {told} {now} {f0} {f1} {f2} {d0} {d1} {d2} start place all b before last i count ps out some same next front doc lt at one pages =
     let m : ℕ = start + length (bits_after b before (take i out)) in
     let n : ℕ = length (posting_bits b last next.posting) in
     let two : ReadsWithin f1 f2 d1 d2 place (place + n) = pages next.posting next.follows (subst (λ t. Shows t place (posting_bits b last next.posting)) (sym same) next.shows) in

@@ -208,7 +208,8 @@ forward_none all last doc docs reached held now ended h none on some le went = r
 }
 
 -- the next posting of the block at hand
-pub step_none : (docs reached last : ℕ) (found : Option Posting) (held now : List Posting) (ended : Bool) → GoesOn found held now → HeldNone docs reached last held ended → HeldNone docs reached last now ended
+pub step_none : (docs reached last : ℕ) (found : Option Posting) (held now : List Posting) (ended : Bool) →
+    GoesOn found held now → HeldNone docs reached last held ended → HeldNone docs reached last now ended
 step_none docs reached last None held now ended went none = rw went.1 none
 step_none docs reached last (Some p) held now ended went none = record { first = λ not empty. absurd (omega (arith, empty, (head_some now p went.2).0)); all = none.all }
 

@@ -32,6 +32,8 @@ use Rattle.mg_post.specs.declared.refusal.Refusal.{Refusal}
 use Rattle.mg_post.specs.declared.refusal.Refusal.TheVariants.{Device, Damaged}
 use Rattle.mg_post.proofs.CursorLaws.{at_end, in_block, next_beyond, next_low, next_within, on_block, raised_by, raised_most, reads_two, refused_answer, same_file, walks_of}
 use Rattle.mg_post.proofs.FindLaws.{any_cause, reads_within}
+use Rattle.mg_post.proofs.LifeLaws.{skips_after}
+use Rattle.mg_post.proofs.PagesOnceLaws.{once_answered, once_past, once_read, once_refused}
 use Rattle.mg_post.proofs.ShownLaws.{forward_behind, next_some, shown_ended, shown_entered, shown_past, shown_within, walks_shown}
 use Rattle.mg_post.proofs.SoundLaws.{current_low, goes_next, in_held, names_none, names_own, names_post, names_skip, next_few, next_held, next_inside, next_is, next_sound, no_entry_cause, own_cause, post_cause, skip_cause, step_rises}
 
@@ -69,6 +71,7 @@ step_unread c held doc wanted rest found files reads faults fits first reached c
   answer = answer;
   entered = entered;
   first = first;
+  once = λ ps left stands at reads. once_answered (record c { held = held }) ps found reached reads;
   third = min_low c.skip.count (entries_pages c.skip_at (block_count c.docs)) (2 ^ 64 - 1) (reads_within c.skip_at c.reached (block_count c.docs) c.skip.count c.skip.held fits.entries reached);
   reads = record {
     later = λ p. omega arith;
@@ -79,6 +82,7 @@ step_unread c held doc wanted rest found files reads faults fits first reached c
     post = λ small. omega arith;
     skip = λ small. omega arith;
   };
+  skips = omega arith;
   current = current;
   sound = sound;
   next = next;
@@ -118,7 +122,8 @@ step_ended c doc wanted rest files reads faults fits first reached ended empty a
 
 -- the document lies in the block at hand
 pub step_within : (c : Cursoring) (held : List Posting) (doc : ℕ) (found : Option Posting) (files : Option Files) (reads : Reads) (faults : ℕ) →
-    CursorFits c files → post_pages c ≤ entered_pages c → c.reached ≤ block_count c.docs → HeldRises c.all c.last c.held → HeldNone c.docs c.reached c.last c.held c.ended → c.ended ≡ false → 1 ≤ doc → doc ≤ c.last →
+    CursorFits c files → post_pages c ≤ entered_pages c → c.reached ≤ block_count c.docs → HeldRises c.all c.last c.held →
+    HeldNone c.docs c.reached c.last c.held c.ended → c.ended ≡ false → 1 ≤ doc → doc ≤ c.last →
     held ≡ forward_to doc c.held → found ≡ head_of held → CursorStep c (record c { held = held }) doc doc (from_doc doc) (Ok found) files files reads reads faults faults
 step_within c held doc found files reads faults fits first reached rises none on some within went got =
     step_unread c held doc doc (from_doc doc) found files reads faults fits first reached got (in_held c.all c.last doc c.held held found rises went got)
@@ -153,7 +158,9 @@ step_next c held p files reads faults fits first reached rises on more went here
 
 -- where the block at hand has no next posting, the next is behind the block's last document
 pub step_beyond : (c v : Cursoring) (result : Result (Option Posting) PartErr) (f g : Option Files) (r s : Reads) (m n : ℕ) → c.ended ≡ false → HeldRises c.all c.last c.held →
-    HeldNone c.docs c.reached c.last c.held c.ended → length c.held ≤ 1 → CursorStep c v (c.last + 1) (c.last + 1) (from_doc (c.last + 1)) result f g r s m n → CursorStep c v (next_doc c.held) (c.last + 1) (after c.held) result f g r s m n
+    HeldNone c.docs c.reached c.last c.held c.ended → length c.held ≤ 1 →
+    CursorStep c v (c.last + 1) (c.last + 1) (from_doc (c.last + 1)) result f g r s m n →
+    CursorStep c v (next_doc c.held) (c.last + 1) (after c.held) result f g r s m n
 step_beyond c v result f g r s m n on rises none few step = record {
   fits = step.fits;
   same = step.same;
@@ -162,8 +169,10 @@ step_beyond c v result f g r s m n on rises none few step = record {
   entered = λ ps left stands at.
       subst (λ d. Enters result ps c d v) (next_beyond c.ended c.all ps c.reached c.last c.held left on stands.list.entries.rises few at.on).0 (step.entered ps left stands at);
   first = step.first;
+  once = step.once;
   third = step.third;
   reads = step.reads;
+  skips = step.skips;
   current = step.current;
   sound = next_sound c.all c.last c.held result rises few step.sound;
   next = λ is. step.next (next_is c.all c.last c.held rises (λ empty. (none.first on empty).1) few);
@@ -196,11 +205,12 @@ pub record MayGo (c : Cursoring) (files : Option Files) (doc blocks : ℕ) : Typ
   pub beyond : c.last < doc
   pub count : blocks ≡ block_count c.docs
   pub reached : c.reached ≤ blocks
+  pub few : c.docs < 2 ^ 32
 
 pub may_go : (c : Cursoring) (files : Option Files) (doc blocks : ℕ) → CursorFits c files → post_pages c ≤ entered_pages c → entered_pages c < 2 ^ 64 → c.post.part ≡ Post → c.skip.part ≡ Skip →
-    c.ended ≡ false → HeldRises c.all c.last c.held → HeldNone c.docs c.reached c.last c.held c.ended → c.last < doc → blocks ≡ block_count c.docs → c.reached ≤ block_count c.docs →
+    c.ended ≡ false → HeldRises c.all c.last c.held → HeldNone c.docs c.reached c.last c.held c.ended → c.last < doc → blocks ≡ block_count c.docs → c.reached ≤ block_count c.docs → c.docs < 2 ^ 32 →
     MayGo c files doc blocks
-may_go c files doc blocks fits first small post skip on rises none beyond count reached = record {
+may_go c files doc blocks fits first small post skip on rises none beyond count reached few = record {
   fits = fits;
   first = first;
   small = small;
@@ -212,6 +222,7 @@ may_go c files doc blocks fits first small post skip on rises none beyond count 
   beyond = beyond;
   count = count;
   reached = subst (λ n. c.reached ≤ n) (sym count) reached;
+  few = few;
 }
 
 -- where the next posting is asked for beyond the block at hand, at most one posting is at hand, and the next block is searched
@@ -219,6 +230,9 @@ goes_beyond : (c : Cursoring) (files : Option Files) (doc blocks : ℕ) → MayG
 goes_beyond c files doc blocks k is =
     let few = next_few c.all c.last doc c.held k.rises k.beyond is in
     (few, is ∙ sym (next_is c.all c.last c.held k.rises (λ empty. (k.none.first k.on empty).1) few))
+
+within_blocks : {c : Cursoring} {files : Option Files} {doc blocks : ℕ} → MayGo c files doc blocks → c.reached ≤ block_count c.docs
+within_blocks {c} k = subst (λ n. c.reached ≤ n) k.count k.reached
 
 abbrev pub search_of : Cursoring → ℕ → ℕ → SkipSearch
 search_of c doc blocks = record { skip_at = c.skip_at; blocks = blocks; reached = c.reached; last = c.last; all = c.all; doc = doc }
@@ -251,8 +265,13 @@ module _ {Dev : Type 0} {device : Dev → Seen} {c : Cursoring} {d0 d1 : Dev} {d
         (s.does.told ps c.parameter (at_blocks c (device d0).files blocks ps k.count stands.list.entries) (walks_of c.ended ps c.reached c.last c.held left k.on at.on).last_is);
     entered = λ ps left stands at. (omega arith, λ lt. absurd (omega arith));
     first = k.first;
+    once = λ ps left stands at reads.
+        let most = (once_answered c ps None (within_blocks k) reads).most in
+        record { again = tt; reached = tt; most = most };
     third = third_of c blocks skip.feed.count k.count s.does.most;
     reads = reads_two c (record c { skip = skip.feed }) (device d0) (device d1) (device d1) k.post k.skip s.calm (calm_none (feeding_of 4096 c.post) (device d1)) k.first;
+    skips = skips_after c (record c { skip = skip.feed }) _ _ k.few (third_of c blocks skip.feed.count k.count s.does.most)
+        (reads_two c (record c { skip = skip.feed }) (device d0) (device d1) (device d1) k.post k.skip s.calm (calm_none (feeding_of 4096 c.post) (device d1)) k.first);
     current = tt;
     sound = tt;
     next = λ next. tt;
@@ -284,9 +303,15 @@ module _ {Dev : Type 0} {device : Dev → Seen} {c : Cursoring} {d0 d1 : Dev} {d
         (r.0, record { on = r.1 });
     entered = λ ps left stands at. (λ le. refl, λ lt. refl);
     first = k.first;
+    once = λ ps left stands at reads.
+        once_answered (record c { skip = skip.feed; reached = blocks; held = held; ended = true }) ps None (omega (arith, k.count))
+        (once_past c blocks ps k.reached reads);
     third = third_of c blocks skip.feed.count k.count s.does.most;
     reads = reads_two c (record c { skip = skip.feed; reached = blocks; held = held; ended = true }) (device d0) (device d1) (device d1) k.post k.skip s.calm
         (calm_none (feeding_of 4096 c.post) (device d1)) k.first;
+    skips = skips_after c (record c { skip = skip.feed; reached = blocks; held = held; ended = true }) _ _ k.few (third_of c blocks skip.feed.count k.count s.does.most)
+        (reads_two c (record c { skip = skip.feed; reached = blocks; held = held; ended = true }) (device d0) (device d1) (device d1) k.post k.skip s.calm
+        (calm_none (feeding_of 4096 c.post) (device d1)) k.first);
     current = sym (ap head_of empty);
     sound = tt;
     next = λ next.
@@ -363,8 +388,15 @@ module _ {Dev : Type 0} {device : Dev → Seen} {c : Cursoring} {d0 d1 : Dev} {d
                 },
               );
           first = first;
+          once = λ ps left stands on reads.
+              let entries = at_blocks c (device d0).files blocks ps k.count stands.list.entries in
+              let read = w.does.once ps blocks entries.rises stands.list.whole (shows_at s ps stands.list) stands.list.small (found_at s ps left entries on) in
+              let most = once_refused refusal c post.feed found.block ps s.does.found.from (omega (arith, s.does.found.there, k.count)) read reads in
+              record { again = tt; reached = tt; most = most };
           third = third_of c blocks skip.feed.count k.count s.does.most;
           reads = reads_two c (record c { skip = skip.feed; post = post.feed; entered = entered }) (device d0) (device d1) (device d2) k.post k.skip s.calm w.calm first;
+          skips = skips_after c (record c { skip = skip.feed; post = post.feed; entered = entered }) _ _ k.few (third_of c blocks skip.feed.count k.count s.does.most)
+              (reads_two c (record c { skip = skip.feed; post = post.feed; entered = entered }) (device d0) (device d1) (device d2) k.post k.skip s.calm w.calm first);
           current = tt;
           sound = tt;
           next = λ next. tt;
@@ -443,9 +475,18 @@ module _ {Dev : Type 0} {device : Dev → Seen} {c : Cursoring} {d0 d1 : Dev} {d
                 },
               );
           first = first;
+          once = λ ps left stands on reads.
+              let entries = at_blocks c (device d0).files blocks ps k.count stands.list.entries in
+              let read = w.does.once ps blocks entries.rises stands.list.whole (shows_at s ps stands.list) stands.list.small (found_at s ps left entries on) in
+              let v : Cursoring = record c { skip = skip.feed; post = post.feed; reached = found.block + 1; last = found.last; held = held; entered = entered } in
+              once_answered v ps (Some inside.posting) (omega (arith, s.does.found.there, k.count)) (once_read inside c post.feed found.block ps s.does.found.from read reads);
           third = third_of c blocks skip.feed.count k.count s.does.most;
           reads = reads_two c (record c { skip = skip.feed; post = post.feed; reached = found.block + 1; last = found.last; held = held; entered = entered })
               (device d0) (device d1) (device d2) k.post k.skip s.calm w.calm first;
+          skips = skips_after c (record c { skip = skip.feed; post = post.feed; reached = found.block + 1; last = found.last; held = held; entered = entered })
+              _ _ k.few (third_of c blocks skip.feed.count k.count s.does.most)
+              (reads_two c (record c { skip = skip.feed; post = post.feed; reached = found.block + 1; last = found.last; held = held; entered = entered })
+              (device d0) (device d1) (device d2) k.post k.skip s.calm w.calm first);
           current = sym (ap head_of swapped ∙ w.does.current);
           sound = w.does.from;
           next = λ next.

@@ -18,7 +18,9 @@ use Rattle.mg_laws.proofs.MetBlocks.{from_zero, from_from, met_all, number_is, t
 use Rattle.mg_layout.specs.Infos.{IsInfoOf}
 use Rattle.mg_layout.specs.declared.term_info.TermInfo.{TermInfo}
 use Rattle.mg_post.specs.Answers.{AnswersList}
-use Rattle.mg_post.specs.Cursor.{Cursoring, CursorStands, IsOver, SameList, StandsAt, head_of, entered_pages, post_pages, Enters, ReadsTwo}
+use Rattle.mg_post.specs.Cursor.{AnswersRest, Cursoring, CursorStands, IsOver, SameList, StandsAt, head_of, entered_pages, post_pages, Enters, ReadsTwo}
+use Rattle.mg_post.specs.CursorSteps.{CursorStep}
+use Rattle.mg_post.specs.PagesOnce.{PostReads, ReadsOnce}
 use Rattle.mg_post.specs.TermLists.{AnswersAsk, CursorFor, IsAmong, ListsStand, MayAsk, PagesWithin}
 use Rattle.mg_bits.proofs.CallerLemmas.{is_told}
 use Rattle.mg_post.proofs.StandLaws.{term_stands}
@@ -27,8 +29,8 @@ use Rattle.mg_post.proofs.LifeLaws.{entered_more, entered_most, pages_few, reads
 pub term_starts : (base collection asked t : List ℕ) (n all : ℕ) (info : TermInfo) (c : Cursoring) → IsInfoOf collection t info →
     all ≡ length (documents collection) → IsOver c (full_name base Post) (full_name base Skip) info.post_at info.skip_at info.docs all →
     (1 ≤ info.docs → c.parameter ≡ golomb_parameter all info.docs) → ((ps : List Posting) → StandsAt c ps ps) → entered_pages c ≡ 0 →
-    post_pages c ≤ entered_pages c → CursorFor base collection asked t n c
-term_starts base collection asked t n all info c told all_is over parameter at none first =
+    post_pages c ≤ entered_pages c → ((ps : List Posting) → PostReads c ps) → CursorFor base collection asked t n c
+term_starts base collection asked t n all info c told all_is over parameter at none first once =
     let docs_is : info.docs ≡ length (postings collection t) = ap (λ (i : defs.TermInfo). i.docs) told.is ∙ sym (length_postings collection t) in
     let some : 1 ≤ info.docs = omega (arith, ap (λ (i : defs.TermInfo). i.docs) told.is, term_some collection info.number t told.number) in
     record {
@@ -48,6 +50,7 @@ term_starts base collection asked t n all info c told all_is over parameter at n
       at = subst (StandsAt c (postings collection t)) (sym (from_zero (postings collection t))) (at (postings collection t));
       first = first;
       within = omega (arith, none);
+      once = once (postings collection t);
     }
 
 pub cursor_stands : (base collection asked t : List ℕ) (n : ℕ) (files : Option Files) (c : Cursoring) → ListsStand base files collection →
@@ -63,8 +66,8 @@ after_posting : (base collection asked t : List ℕ) (doc : ℕ) (c v : Cursorin
     IsAmong asked (postings collection t) doc → SameList c v → c.reached ≤ v.reached → post_pages v ≤ entered_pages v →
     (found ≡ head_of (from_doc doc (from_doc f.reached_doc (postings collection t)))) × StandsAt v (postings collection t)
     (from_doc doc (from_doc f.reached_doc (postings collection t))) → Enters (Ok found) (postings collection t) c doc v →
-    AnswersAsk base collection asked t doc found v
-after_posting base collection asked t doc c v found f may same forward first answer enters =
+    PostReads v (postings collection t) → AnswersAsk base collection asked t doc found v
+after_posting base collection asked t doc c v found f may same forward first answer enters once =
     let ps = postings collection t in
     let left_is : from_doc doc (from_doc f.reached_doc ps) ≡ from_doc doc ps = from_from f.reached_doc doc ps f.early in
     record {
@@ -86,32 +89,36 @@ after_posting base collection asked t doc c v found f may same forward first ans
         at = subst (StandsAt v ps) left_is answer.1;
         first = first;
         within = entered_more asked ps c v doc found may same forward enters f.within;
+        once = once;
       };
     }
 
--- what a call answers wherever the cursor stands, and which block it enters
-abbrev Answered : Option Files → Cursoring → ℕ → Result (Option Posting) PartErr → Cursoring → Type 0
-Answered files c doc r v = (ps left : List Posting) → CursorStands c files ps → StandsAt c ps left → AnswersList r (λ found. (found ≡ head_of (from_doc doc left)) × StandsAt v ps (from_doc doc left))
-
+-- which block a call enters wherever the cursor stands
 abbrev Entered : Option Files → Cursoring → ℕ → Result (Option Posting) PartErr → Cursoring → Type 0
 Entered files c doc r v = (ps left : List Posting) → CursorStands c files ps → StandsAt c ps left → Enters r ps c doc v
 
-pub asked_answer : (base collection asked t : List ℕ) (doc : ℕ) (files : Option Files) (c v : Cursoring) (r : Result (Option Posting) PartErr) →
-    MayAsk base collection asked t doc files c → SameList c v → c.reached ≤ v.reached → post_pages v ≤ entered_pages v → Answered files c doc r v →
-    Entered files c doc r v →
-    AnswersList r (λ found. AnswersAsk base collection asked t doc found v)
-asked_answer base collection asked t doc files c v (Ok found) m same forward first answer enters =
-    let ps = postings collection t in
-    let left = from_doc m.cursor.reached_doc ps in
-    let stands = cursor_stands base collection asked t doc files c m.stand m.cursor in
-    after_posting base collection asked t doc c v found m.cursor m.among same forward first
-    (answer (postings collection t) (from_doc m.cursor.reached_doc (postings collection t)) stands m.cursor.at)
-    (enters (postings collection t) (from_doc m.cursor.reached_doc (postings collection t)) stands m.cursor.at)
-asked_answer base collection asked t doc files c v (Err err.Device) m same forward first answer enters = tt
-asked_answer base collection asked t doc files c v (Err err.Memory) m same forward first answer enters =
-    absurd (answer (postings collection t) (from_doc m.cursor.reached_doc (postings collection t)) (cursor_stands base collection asked t doc files c m.stand m.cursor) m.cursor.at)
-asked_answer base collection asked t doc files c v (Err (err.Bad bad)) m same forward first answer enters =
-    absurd (answer (postings collection t) (from_doc m.cursor.reached_doc (postings collection t)) (cursor_stands base collection asked t doc files c m.stand m.cursor) m.cursor.at)
+-- a call for a document, of a cursor over the list of a term
+module _ {base collection asked t : List ℕ} {doc wanted : ℕ} {c v : Cursoring} {r : Result (Option Posting) PartErr} {f g : Option Files} {before now : Reads} {m n : ℕ}
+    (may : MayAsk base collection asked t doc f c) (step : CursorStep c v doc wanted (from_doc doc) r f g before now m n) where
+  -- the postings of the list that are left
+  abbrev left : List Posting
+  left = from_doc may.cursor.reached_doc (postings collection t)
+
+  stands : CursorStands c f (postings collection t)
+  stands = cursor_stands base collection asked t doc f c may.stand may.cursor
+
+  pub asked_once : ReadsOnce (postings collection t) v r
+  asked_once = step.once (postings collection t) left stands may.cursor.at may.cursor.once
+
+  pub asked_answer : AnswersList r (λ found. AnswersAsk base collection asked t doc found v)
+  asked_answer = by_result r (step.answer (postings collection t) left stands may.cursor.at) (step.entered (postings collection t) left stands may.cursor.at) asked_once
+    where
+      by_result : (x : Result (Option Posting) PartErr) → AnswersRest x v (postings collection t) (from_doc doc left) → Enters x (postings collection t) c doc v →
+          ReadsOnce (postings collection t) v x → AnswersList x (λ found. AnswersAsk base collection asked t doc found v)
+      by_result (Ok found) answer enters once = after_posting base collection asked t doc c v found may.cursor may.among step.same step.forward step.first answer enters once.again
+      by_result (Err err.Device) answer enters once = tt
+      by_result (Err err.Memory) answer enters once = answer
+      by_result (Err (err.Bad bad)) answer enters once = answer
 
 -- ---- how many pages
 
@@ -149,4 +156,5 @@ cursor_later base collection asked t m n c le f = record {
   at = f.at;
   first = f.first;
   within = f.within;
+  once = f.once;
 }

@@ -124,12 +124,12 @@ took_posting w q f g r s lists ps p wrote to holds short within few part took =
       total = omega (arith, few);
     }
 
-pub took_entry : (w : Listing) (q : BitWriting) (k : Writing) (f g h : Option Files) (r s t : Reads) (lists : List (List Posting)) (ps : List Posting) (p : Posting) (at : ℕ) →
+pub took_entry : {w : Listing} {q : BitWriting} {k : Writing} {f g h : Option Files} {r s t : Reads} (lists : List (List Posting)) (ps : List Posting) (p : Posting) (at : ℕ) →
     WroteBits w.post q f g (posting_bits w.parameter w.last p) → WroteTo w.post.name f g r s → Holds q g → q.place ≤ w.post.place + (p.doc - w.last) + 256 → p.doc ≤ w.all → w.total < 2 ^ 32 →
     Wrote w.skip k g h (entry_bytes (skip_entry p.doc w.block_at)) → WroteTo w.skip.name g h s t →
     (w.pushed + 1) % 64 ≡ 0 → at ≡ q.place - w.start → Took w f lists ps →
     Took (record w { post = q; skip = k; pushed = w.pushed + 1; last = p.doc; total = w.total + 1; full = w.full + 1; block_at = at }) h lists (ps ++ p ∷ [])
-took_entry w q k f g h r s t lists ps p at wrote to holds short within few entry entry_to whole at_is took =
+took_entry {w} {q} {k} {f} {g} {h} {r} {s} {t} lists ps p at wrote to holds short within few entry entry_to whole at_is took =
     let long : length (ps ++ p ∷ []) ≡ length ps + 1 = length-append ps (p ∷ []) in
     let all : 64 * (w.full + 1) ≡ length (ps ++ p ∷ []) = omega (arith, took.rest, took.full, took.pushed, long) in
     let place_is : q.place ≡ w.start + length (bits_after w.parameter 0 (ps ++ p ∷ [])) = omega (arith, wrote.place, took.place, length_one w.parameter w.last ps p took.last) in
@@ -261,11 +261,11 @@ no_last : 0 ≡ last_doc 0 []
 unfolding last_doc
 no_last = refl
 
-pub took_ended : (w : Listing) (q : BitWriting) (k : Writing) (f g h : Option Files) (r s t : Reads) (lists : List (List Posting)) (ps : List Posting) (blocks : ℕ) →
+pub took_ended : {w : Listing} {q : BitWriting} {k : Writing} {f g h : Option Files} {r s t : Reads} (lists : List (List Posting)) (ps : List Posting) (blocks : ℕ) →
     SkipEnded w k g lists ps blocks → WroteTo w.skip.name f g r s → WroteBits w.post q g h (digits (to_byte w.post.place) 0) → WroteTo w.post.name g h s t →
     Holds q h → w.pushed ≡ w.docs → Took w f lists ps →
     Took (record w { post = q; skip = k; start = q.place; first = w.first + blocks; pushed = 0; last = 0; full = 0; block_at = 0 }) h (lists ++ ps ∷ []) []
-took_ended w q k f g h r s t lists ps blocks ended to align align_to align_holds whole took =
+took_ended {w} {q} {k} {f} {g} {h} {r} {s} {t} lists ps blocks ended to align align_to align_holds whole took =
     let apart_k : k.name ≢ w.post.name = λ same. took.apart (sym same ∙ ended.name) in
     let b_is : w.parameter ≡ golomb_parameter w.all (length ps) = took.parameter ∙ ap (golomb_parameter w.all) (sym whole ∙ took.pushed) in
     let full : bits_after w.parameter 0 ps ++ digits (to_byte w.post.place) 0 ≡ filled (bits_of_list w.all ps) =
@@ -389,10 +389,10 @@ skip_written w k f g h r s lists told same to wrote nothing took =
     ∙ ap (λ l. flat_map entry_bytes (lists_entries w.all lists ++ l)) (ap (λ n. entries_to w.parameter n []) none ∙ no_entries w.parameter)
     ∙ ap (flat_map entry_bytes) (append-nil (lists_entries w.all lists))
 
-pub finished : (w : Listing) (k : Writing) (f g h : Option Files) (r s t : Reads) (lists : List (List Posting)) → IsSome f → is_some g ≡ is_some f →
+pub finished : {w : Listing} {k : Writing} {f g h : Option Files} {r s t : Reads} (lists : List (List Posting)) → IsSome f → is_some g ≡ is_some f →
     (IsSome f → bits_of (bytes_at g w.post.name) ≡ bits_put w.post f ++ digits (to_byte w.post.place) 0) → WroteTo w.post.name f g r s →
     Wrote w.skip k g h [] → k.buffered ≡ [] → WroteTo w.skip.name g h s t → Took w f lists [] → Finished w h lists
-finished w k f g h r s t lists told same post to wrote nothing skip_to took = record {
+finished {w} {k} {f} {g} {h} {r} {s} {t} lists told same post to wrote nothing skip_to took = record {
   post = ap (λ o. bits_of (unwrap_or o [])) (skip_to.others w.post.name took.apart) ∙ post told ∙ ap (λ l. bits_put w.post f ++ l) (whole_place w f lists took)
       ∙ append-nil (bits_put w.post f) ∙ took.post_bits told
       ∙ ap (λ l. lists_bits w.all lists ++ l) (nothing_after w.parameter) ∙ append-nil (lists_bits w.all lists);
@@ -403,10 +403,10 @@ finished w k f g h r s t lists told same post to wrote nothing skip_to took = re
 made_of : (bytes : List ℕ) (bits : Bits) → AreBytes bytes → bits_of bytes ≡ bits → bytes ≡ as_bytes bits
 made_of bytes bits small is = sym (bytes_again bytes small) ∙ ap as_bytes is
 
-pub finished_bytes : (w : Listing) (q : BitWriting) (k : Writing) (f g h : Option Files) (r s t : Reads) (lists : List (List Posting)) → IsSome f →
+pub finished_bytes : {w : Listing} {q : BitWriting} {k : Writing} {f g h : Option Files} {r s t : Reads} (lists : List (List Posting)) → IsSome f →
     is_some g ≡ is_some f → is_some h ≡ is_some g → q.name ≡ w.post.name → Holds q g → WroteTo w.post.name f g r s →
     Wrote w.skip k g h [] → k.buffered ≡ [] → WroteTo w.skip.name g h s t → Took w f lists [] → Finished w h lists → InBytes w h lists
-finished_bytes w q k f g h r s t lists told same too post post_holds to wrote nothing skip_to took is =
+finished_bytes {w} {q} {k} {f} {g} {h} {r} {s} {t} lists told same too post post_holds to wrote nothing skip_to took is =
     let still : Holds q h = holds_stays q w.skip.name g h s t skip_to (λ e. took.apart (sym post ∙ e)) post_holds in
     let skip : bytes_at h w.skip.name ≡ flat_map entry_bytes (lists_entries w.all lists) = skip_written w k f g h r s lists told same to wrote nothing took in
     record {

@@ -178,7 +178,8 @@ pub record HeldNone (docs reached last : ℕ) (held : List Posting) (ended : Boo
 abbrev pub count_behind : Cursoring → ℕ
 count_behind c = (length c.held - 1) + (c.docs - 64 * c.reached)
 
--- the posting behind the current one was asked for: it is one of those that were left, and none is answered only where none was left and all blocks were reached
+-- the posting behind the current one was asked for: it is one of those that were left, and none is answered only
+-- where none was left and all blocks were reached
 abbrev pub GoesToNext : Cursoring → Cursoring → Option Posting → Type 0
 GoesToNext c v None = (count_behind c ≡ 0) × (v.reached ≡ block_count v.docs)
 GoesToNext c v (Some p) = (count_behind c ≡ count_behind v + 1) × (next_doc v.held ≡ p.doc + 1)
@@ -191,7 +192,8 @@ NamesItsPart (err.Bad bad) = ((bad.part ≡ part.Post) ⊎ (bad.part ≡ part.Sk
 
 -- ---- what a call reads
 
--- the counts of Post and Skip rise by as much as the first and the third number, unless these stand at their end; no other count rises, and the first number does not pass the second
+-- the counts of Post and Skip rise by as much as the first and the third number, unless these stand at their end; no
+-- other count rises, and the first number does not pass the second
 pub record ReadsTwo (old new : Cursoring) (before now : Reads) : Type 0 where
   pub later : (p : Part) → before p ≤ now p
   pub others : (p : Part) → p ≢ part.Post → p ≢ part.Skip → now p ≡ before p
@@ -200,6 +202,10 @@ pub record ReadsTwo (old new : Cursoring) (before now : Reads) : Type 0 where
   pub skip_later : skip_pages old ≤ skip_pages new
   pub post : post_pages new < 2 ^ 64 - 1 → now part.Post ≡ raised (before part.Post) (post_pages new - post_pages old)
   pub skip : skip_pages new < 2 ^ 64 - 1 → now part.Skip ≡ raised (before part.Skip) (skip_pages new - skip_pages old)
+
+-- the store's count of Skip rose by no more than the pages of it that the cursor read
+abbrev pub SkipRises : Cursoring → Cursoring → Reads → Reads → Type 0
+SkipRises old new before now = now part.Skip + skip_pages old ≤ before part.Skip + skip_pages new
 
 -- the block whose range holds the document was entered, and is the last that was reached; the cursor stood before it
 pub record EntersBlock (ps : List Posting) (c : Cursoring) (doc : ℕ) (v : Cursoring) : Type 0 where
@@ -224,7 +230,8 @@ EntersFor (Some p) ps c doc v = EntersBlock ps c doc v
 abbrev pub MayRead : List Posting → Cursoring → ℕ → Cursoring → Type 0
 MayRead ps c doc v = entered_pages c < entered_pages v → ReadsBlock ps c doc v
 
--- how the second number rises in a call that asks for a document: not within the block at hand; else by the pages of the block whose range holds the document, or not at all where no block's does
+-- how the second number rises in a call that asks for a document: not within the block at hand; else by the pages of
+-- the block whose range holds the document, or not at all where no block's does
 abbrev pub Enters : Result (Option Posting) PartErr → List Posting → Cursoring → ℕ → Cursoring → Type 0
 Enters (Ok found) ps c doc v = (doc ≤ c.last → entered_pages v ≡ entered_pages c)
     × (c.last < doc → EntersFor found ps c doc v)

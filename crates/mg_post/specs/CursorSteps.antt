@@ -8,7 +8,8 @@ use Rattle.mg_dev.specs.declared.part_err.PartErr.TheVariants as err
 use Rattle.mg_defs.specs.declared.Posting.{Posting}
 use Rattle.mg_defs.specs.Lists.{block_count}
 use Rattle.mg_post.specs.Finding.{entries_pages}
-use Rattle.mg_post.specs.Cursor.{AnswersRest, CursorFits, Cursoring, Enters, ForList, GoesToNext, IsFrom, NamesItsPart, ReadsTwo, SameList, SamePlace, StandsAt, entered_pages, head_of, next_doc, post_pages, skip_pages}
+use Rattle.mg_post.specs.Cursor.{AnswersRest, CursorFits, Cursoring, Enters, ForList, GoesToNext, IsFrom, NamesItsPart, ReadsTwo, SameList, SamePlace, SkipRises, StandsAt, entered_pages, head_of, next_doc, post_pages, skip_pages}
+use Rattle.mg_post.specs.PagesOnce.{PostReads, ReadsOnce}
 use Rattle.mg_post.specs.Shown.{AnswersShown, StandsShown}
 use Rattle.mg_post.specs.Damages.{EntriesStand, HasPostCause, HasSkipCause, NamesPart}
 
@@ -26,17 +27,23 @@ pub record CursorStep (c v : Cursoring) (doc wanted : ℕ) (rest : List Posting 
   pub entered : ForList c files_before (λ ps left. Enters result ps c doc v)
   -- the pages of Post that were read are within those of the blocks that were entered
   pub first : post_pages v ≤ entered_pages v
+  -- where the list stands, and each page of Post was read at most once since the cursor began, it is so again
+  pub once : ForList c files_before (λ ps left. PostReads c ps → ReadsOnce ps v result)
   -- the pages of Skip that were read are within those of the list's entries
   pub third : skip_pages v ≤ entries_pages v.skip_at (block_count v.docs)
   -- no other part is read, and each number rises with its count
   pub reads : ReadsTwo c v reads_before reads_now
+  -- whatever the parts have, the count of Skip rises by no more than the third number
+  pub skips : SkipRises c v reads_before reads_now
   -- the posting that is answered is the current one
   pub current : IfOk result (λ found. found ≡ head_of v.held)
   -- whatever the parts have, it is one from the document on
   pub sound : IfOk result (λ found. IfSome found (IsFrom doc c.all))
-  -- whatever the parts have, where the posting behind the current one is asked for, none is passed over: a walk ends only behind the last posting of the list's last block
+  -- whatever the parts have, where the posting behind the current one is asked for, none is passed over: a walk ends
+  -- only behind the last posting of the list's last block
   pub next : doc ≡ next_doc c.held → IfOk result (GoesToNext c v)
-  -- whatever the parts have, a posting is answered only from a block that stands and to which the entries lead, and none only where these tell that the list ends before the document
+  -- whatever the parts have, a posting is answered only from a block that stands and to which the entries lead, and
+  -- none only where these tell that the list ends before the document
   pub shows : (n : ℕ) → n ≤ doc → StandsShown c files_before n → IfOk result (AnswersShown c v files_before files_now doc)
   -- no block is gone back
   pub forward : c.reached ≤ v.reached

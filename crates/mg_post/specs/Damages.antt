@@ -31,7 +31,8 @@ pub record EntriesStand (c : Cursoring) (files : Option Files) (ps : List Postin
   pub entries : SkipStands c.all c.parameter (told_at files c.skip.name) c.skip_at (block_count c.docs) ps
   pub few : c.all < 2 ^ 32 - 1
 
--- the skip entries lead from where the cursor stands to a block whose range holds the document, and no such block stands in Post; this bit is the first of what is missing
+-- the skip entries lead from where the cursor stands to a block whose range holds the document, and no such block
+-- stands in Post; this bit is the first of what is missing
 pub record BlockIsMissing (c : Cursoring) (files : Option Files) (doc at : ℕ) : Type 0 where
   pub block : ℕ
   pub before : ℕ
@@ -52,7 +53,8 @@ pub record BlockIsMissing (c : Cursoring) (files : Option Files) (doc at : ℕ) 
 abbrev pub HasPostCause : Cursoring → Option Files → ℕ → PartErr → Type 0
 HasPostCause c files doc refusal = IfNames Post refusal (BlockIsMissing c files doc)
 
--- a damage of Skip has a cause: of a block from where the cursor stands on, no entry stands, and at the bit where it is told a number of it is missing, or is a last document that does not rise
+-- a damage of Skip has a cause: of a block from where the cursor stands on, no entry stands, and at the bit where it
+-- is told a number of it is missing, or is a last document that does not rise
 abbrev pub HasSkipCause : Cursoring → Option Files → PartErr → Type 0
 HasSkipCause c files refusal = IfNames Skip refusal
     (LacksAnEntry (told_at files c.skip.name) c.skip_at c.all c.last c.reached (block_count c.docs))

@@ -3,11 +3,12 @@ use Rattle.std.specs.Prelude.{◌≡◌, ℕ, ◌+◌, ◌-◌, ◌*◌, ◌^◌
 use Rattle.mg_bits.specs.Feed.{Feeding}
 use Rattle.mg_defs.specs.Bits.{Shows}
 use Rattle.mg_defs.specs.declared.Posting.{Posting}
-use Rattle.mg_defs.specs.Lists.{bits_after, Rises, block_pages}
+use Rattle.mg_defs.specs.Lists.{bits_after, bits_before, Rises, block_pages}
 use Rattle.mg_post.specs.Answers.{IfDamaged, OrDevice}
 use Rattle.mg_post.specs.Cursor.{Entered, HeldRises, IsFrom, forward_to, head_of}
 use Rattle.mg_post.specs.Finding.{IsFoundAt}
 use Rattle.mg_post.specs.Missing.{LacksBlock}
+use Rattle.mg_post.specs.PagesOnce.{ReadsOn}
 use Rattle.mg_post.specs.Stands.{BlockStands, IsBlockAt}
 use Rattle.mg_post.specs.declared.enter.Inside.{Inside}
 use Rattle.mg_post.specs.declared.enter.ListPlace.{ListPlace}
@@ -60,6 +61,10 @@ pub record EntersFound (list : ListPlace) (found : Found) (doc : ℕ) (held : Li
   -- and no more pages are read than the block has
   pub most : WhereFound post list doc found (λ ps. new.count ≤ old.count
       + block_pages list.parameter (8 * list.post_at) found.block ps)
+  -- and none of them again that is held
+  pub once : WhereFound post list doc found (λ ps. ReadsOn
+      (8 * list.post_at + bits_before list.parameter (64 * found.block) ps)
+      (8 * list.post_at + bits_before list.parameter (64 * (found.block + 1)) ps) result old new)
   -- where the block alone stands, only the device may fail
   pub block : WhereBlockStands post list doc found (OrDevice result (λ _. Unit {0}))
   -- a damage is told at the first bit of what is missing

@@ -55,7 +55,8 @@ pub record TellsBlock (skip : Option (List ℕ)) (skip_at reached known block be
 abbrev pub TellsFound : Option (List ℕ) → ℕ → ℕ → ℕ → Found → Type 0
 TellsFound skip skip_at reached known f = TellsBlock skip skip_at reached known f.block f.before f.last f.at
 
--- where no block was found for a document, the last document of the last block is before it; it is told by its entry, or known where the search began behind all blocks
+-- where no block was found for a document, the last document of the last block is before it; it is told by its entry,
+-- or known where the search began behind all blocks
 abbrev pub EndsBefore : Option (List ℕ) → ℕ → ℕ → ℕ → ℕ → ℕ → Option Found → Type 0
 EndsBefore skip skip_at reached known blocks doc None = (last : ℕ)
     × TellsBefore skip skip_at reached known blocks last × (last < doc)
@@ -75,7 +76,8 @@ TellsOnPage skip skip_at low high before last result = TellsLast skip skip_at hi
 abbrev pub LacksNumber : Option (List ℕ) → ℕ → Type 0
 LacksNumber skip at = FromPlace skip at (λ bits. length bits < 64)
 
--- in the entry of a block no last document stands that is behind one and at most another: Skip ends before its end, or it tells one beyond these; this bit is its first
+-- in the entry of a block no last document stands that is behind one and at most another: Skip ends before its end,
+-- or it tells one beyond these; this bit is its first
 pub record LacksLast (skip : Option (List ℕ)) (skip_at block after most at : ℕ) : Type 0 where
   pub at_is : at ≡ 128 * (skip_at + block)
   pub missing : LacksNumber skip at
@@ -104,7 +106,8 @@ pub record LacksBits (skip : Option (List ℕ)) (skip_at block at : ℕ) : Type 
   pub at_is : at ≡ 128 * (skip_at + block) + 64
   pub missing : LacksNumber skip at
 
--- an entry does not stand of one of the blocks from a first one to before a last one, where the last document before them is known; this bit is the first of the number in it that does not
+-- an entry does not stand of one of the blocks from a first one to before a last one, where the last document before
+-- them is known; this bit is the first of the number in it that does not
 abbrev pub LacksAnEntry : Option (List ℕ) → ℕ → ℕ → ℕ → ℕ → ℕ → ℕ → Type 0
 LacksAnEntry skip skip_at all known low high at = (block : ℕ) × (low ≤ block) × (block < high)
     × (LacksRise skip skip_at all known low high block at ⊎ LacksBits skip skip_at block at)
@@ -136,14 +139,16 @@ blocks_after blocks (Some f) = f.block + 1
 
 -- ---- what a search answers where the entries stand
 
--- among the blocks from one to another, whose entries lie on one page, the block whose range holds the document is found; the last documents before and of these blocks are known
+-- among the blocks from one to another, whose entries lie on one page, the block whose range holds the document is
+-- found; the last documents before and of these blocks are known
 abbrev pub FindsOnPage : Option (List ℕ) → ℕ → ℕ → ℕ → ℕ → ℕ → ℕ → ℕ → Result Found Refusal → Type 0
 FindsOnPage skip skip_at all low high before last doc result = (ps : List Posting) (b blocks : ℕ) →
     SkipStands all b skip skip_at blocks ps → high < blocks →
     before ≡ doc_before (64 * low) ps → last ≡ doc_before (64 * (high + 1)) ps →
     OrDevice result (λ f. IsFoundAt b ps blocks doc f.block f.before f.last f.at)
 
--- of so many blocks the one whose range holds the document is found, or none where all end before it; the last document before the blocks that are left is known
+-- of so many blocks the one whose range holds the document is found, or none where all end before it; the last
+-- document before the blocks that are left is known
 abbrev pub FindsBlock : Option (List ℕ) → ℕ → ℕ → ℕ → ℕ → ℕ → ℕ → Result (Option Found) Refusal → Type 0
 FindsBlock skip skip_at all blocks reached last doc result = (ps : List Posting) (b : ℕ) →
     SkipStands all b skip skip_at blocks ps →

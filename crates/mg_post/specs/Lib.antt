@@ -6,6 +6,7 @@ pub mod Reading
 pub mod Finding
 pub mod Searching
 pub mod Cursor
+pub mod PagesOnce
 pub mod Entering
 pub mod Shown
 pub mod Damages

@@ -28,7 +28,8 @@ HasNoPosting all b post before place =
     (p : Posting) → Follows all before p → place + length (posting_bits b before p) ≤ 2 ^ 63 →
     Shows post place (posting_bits b before p) → ⊥
 
--- of so many postings after a document, from a place on, the first ones stand and the next one does not; this bit is the first of the gap of the next one, or of its count where the gap stands
+-- of so many postings after a document, from a place on, the first ones stand and the next one does not; this bit is
+-- the first of the gap of the next one, or of its count where the gap stands
 pub record LacksPosting (all b : ℕ) (post : Option (List ℕ)) (before place count at : ℕ) : Type 0 where
   pub first : List Posting
   pub few : length first < count
@@ -55,7 +56,8 @@ pub record IsTooFar (place at : ℕ) : Type 0 where
   pub far : 2 ^ 63 < place
   pub at_is : at ≡ min place (2 ^ 64 - 1)
 
--- a block of so many postings does not stand from a place on, after a document and up to a last one; this bit is the first of what is missing: of a gap or a count, or of the whole block where it ends otherwise or is too far
+-- a block of so many postings does not stand from a place on, after a document and up to a last one; this bit is the
+-- first of what is missing: of a gap or a count, or of the whole block where it ends otherwise or is too far
 abbrev pub LacksBlock : ℕ → ℕ → Option (List ℕ) → ℕ → ℕ → ℕ → ℕ → ℕ → Type 0
 LacksBlock all b post place count before last at =
     LacksPosting all b post before place count at

@@ -58,7 +58,8 @@ pub record FeedsPages {Fed Dev : Type 0} (agrees : Fed → Option Files → Type
   pub fits : agrees r.feed (device d).files
   pub page : (feeding r.feed).page ≡ 4096
 
--- a call does this, by the bytes that are told and the feed before and after it; the feed agrees with its device, nothing is read but its own part, and a device's failure has a cause
+-- a call does this, by the bytes that are told and the feed before and after it; the feed agrees with its device,
+-- nothing is read but its own part, and a device's failure has a cause
 pub record ReadsFeed {Fed Dev T : Type 0} (promise : Result T Refusal → Option (List ℕ) → Feeding → Feeding → Type 0)
     (agrees : Fed → Option Files → Type 0) (feeding : Fed → Feeding) (device : Dev → Device) (old new : Reading Fed)
     (dev now : Dev) (result : Result T Refusal) : Type 0 where

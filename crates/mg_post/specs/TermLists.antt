@@ -17,6 +17,7 @@ use Rattle.mg_layout.specs.declared.term_info.TermInfo.{TermInfo}
 use Rattle.mg_dev.specs.declared.part_err.PartErr.{PartErr}
 use Rattle.mg_post.specs.Answers.{AnswersList}
 use Rattle.mg_post.specs.Cursor.{Cursoring, Enters, SameList, IsOver, StandsAt, entered_pages, head_of, post_pages}
+use Rattle.mg_post.specs.PagesOnce.{PostReads, ReadsOnce}
 
 -- ---- the pages that are entered over a cursor's life
 
@@ -58,7 +59,8 @@ pub record ListsStand (base : List ℕ) (files : Option Files) (collection : Lis
   pub few : length (documents collection) < 2 ^ 32 - 1
   pub small : length (post_bits collection) ≤ 2 ^ 63
 
--- a cursor over the list of a term, which was asked for no document past n, and entered no blocks but those whose range holds one of the documents that are asked
+-- a cursor over the list of a term, which was asked for no document past n, entered no blocks but those whose range
+-- holds one of the documents that are asked, and read no page of Post twice
 pub record CursorFor (base collection asked t : List ℕ) (n : ℕ) (c : Cursoring) : Type 0 where
   pub number : ℕ
   pub term : slice_get (dictionary collection) number ≡ Some t
@@ -70,6 +72,7 @@ pub record CursorFor (base collection asked t : List ℕ) (n : ℕ) (c : Cursori
   pub at : StandsAt c (postings collection t) (from_doc reached_doc (postings collection t))
   pub first : post_pages c ≤ entered_pages c
   pub within : EnteredFor asked (postings collection t) c
+  pub once : PostReads c (postings collection t)
 
 -- a cursor over the list that the lexicon tells of, of a base
 abbrev pub IsOverInfo : Cursoring → List ℕ → TermInfo → ℕ → Type 0
@@ -120,6 +123,10 @@ pub record PagesWithin (bound old new : ℕ) (before now : Reads) : Type 0 where
 abbrev pub TermPages : Cursoring → Cursoring → Reads → Reads → List ℕ → List ℕ → List ℕ → List ℕ → Type 0
 TermPages old new before now base collection asked t = PagesWithin (pages_for collection asked t) (post_pages old)
     (post_pages new) before now
+
+-- and the cursor read no page of Post of the list twice
+abbrev pub TermOnce : Result (Option Posting) PartErr → Cursoring → List ℕ → List ℕ → List ℕ → List ℕ → Type 0
+TermOnce result v base collection asked t = ReadsOnce (postings collection t) v result
 
 -- the store's count of Post rose by no more than the pages of it that the cursor read
 abbrev pub PostRises : Cursoring → Cursoring → Reads → Reads → Type 0

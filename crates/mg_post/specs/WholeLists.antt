@@ -5,10 +5,12 @@ use Rattle.mg_dev.specs.PartCauses.{HasPartCause}
 use Rattle.mg_dev.specs.declared.part_err.PartErr.{PartErr}
 use Rattle.mg_dev.specs.declared.part_err.PartErr.TheVariants as err
 use Rattle.mg_defs.specs.declared.Posting.{Posting}
-use Rattle.mg_defs.specs.Lists.{postings}
+use Rattle.mg_defs.specs.Lists.{block_count, postings}
 use Rattle.mg_defs.specs.PageBounds.{list_pages, numbers_in}
 use Rattle.mg_post.specs.Answers.{AnswersList}
-use Rattle.mg_post.specs.Cursor.{CursorFits, Cursoring, GoesToNext, IsFrom, SameList, next_doc, post_pages}
+use Rattle.mg_post.specs.Cursor.{CursorFits, Cursoring, GoesToNext, IsFrom, SameList, SkipRises, next_doc, post_pages, skip_pages}
+use Rattle.mg_post.specs.Finding.{entries_pages}
+use Rattle.mg_post.specs.PagesOnce.{ReadsOnce}
 use Rattle.mg_post.specs.Shown.{AnswersShown, StandsShown}
 use Rattle.mg_post.specs.TermLists.{AnswersAsk, CursorFor, ListsStand, PostRises, ReadsLists}
 
@@ -38,6 +40,11 @@ pub record WalkStep (c v : Cursoring) (last : ℕ) (result : Result (Option Post
     -- no more pages of Post were read than the list has, and the store's count rose by no more than the cursor's
     pub within : ForList files_before last c (λ _ collection t. post_pages v ≤ list_pages collection t)
     pub post : ForList files_before last c (λ _ _ _. PostRises c v reads_before reads_now)
+    -- and each page of Post was read at most once since the cursor began
+    pub once : ForList files_before last c (λ _ collection t. ReadsOnce (postings collection t) v result)
+    -- whatever the parts have, no more pages of Skip were read than the list's entries lie on, and the store's count rose by no more than the cursor's
+    pub third : skip_pages v ≤ entries_pages v.skip_at (block_count v.docs)
+    pub skips : SkipRises c v reads_before reads_now
     -- whatever the parts have, what is answered is behind the document
     pub sound : IfOk result (λ found. IfSome found (IsFrom (last + 1) c.all))
     -- and behind the current posting none is passed over: a walk ends only behind the last posting of the list's last block

@@ -9,10 +9,11 @@ ghost use Rattle.mg_defs.specs.Codes.{golomb_parameter};
 ghost use Rattle.mg_defs.specs.Lists.{block_count, from_doc};
 ghost use Rattle.mg_post.specs.Damages.{EntriesStand, HasPostCause, HasSkipCause, NamesPart};
 ghost use Rattle.mg_post.specs.Finding.{entries_pages};
-ghost use Rattle.mg_post.specs.Cursor.{head_of, after, count_behind, next_doc, post_pages, entered_pages, skip_pages, CursorFits, GoesToNext, SameList, SamePlace, StandsAt, IsFrom, NamesItsPart};
+ghost use Rattle.mg_post.specs.Cursor.{head_of, after, count_behind, next_doc, post_pages, entered_pages, skip_pages, CursorFits, GoesToNext, SameList, SamePlace, SkipRises, StandsAt, IsFrom, NamesItsPart};
 ghost use Rattle.mg_post.specs.CursorSteps.{CursorStep};
+ghost use Rattle.mg_post.specs.PagesOnce.{PostReads};
 ghost use Rattle.mg_post.specs.Shown.{AnswersShown, StandsShown};
-ghost use Rattle.mg_post.specs.TermLists.{AnswersForTerm, ReadsLists, CursorForInfo, TermPages, IsOverInfo, ForTerm};
+ghost use Rattle.mg_post.specs.TermLists.{AnswersForTerm, ReadsLists, CursorForInfo, TermPages, IsOverInfo, ForTerm, TermOnce};
 ghost use Rattle.mg_post.specs.WholeLists.{WalkStep};
 
 use crate::block::Block;
@@ -95,7 +96,7 @@ impl<'a, S: Store> Model for Cursor<'a, S> {
 
     ghost invariant = { λ c. (1 ≤ c.parameter) × (c.parameter < 2 ^ 48) × (c.last ≤ c.all) × (c.reached ≤ block_count c.docs) × (c.post.feed.part ≡ part.Post) ×
         (c.skip.feed.part ≡ part.Skip) × (c.entered < 2 ^ 64) × (c.ended ≡ true → c.block ≡ []) × HeldRises c.all c.last c.block ×
-        (min c.post.feed.count (2 ^ 64 - 1) ≤ c.entered) × HeldNone c.docs c.reached c.last c.block c.ended };
+        (min c.post.feed.count (2 ^ 64 - 1) ≤ c.entered) × HeldNone c.docs c.reached c.last c.block c.ended × (c.docs < 2 ^ 32) };
 }
 
 /// How many blocks so many postings have.
@@ -142,6 +143,7 @@ impl<'a, S: Store> Cursor<'a, S> {
         ensures before { IfOk result (λ c. c.held ≡ []) }
         ensures shown { IfOk result (λ c. (files : Option Files) (n : ℕ) → StandsShown c files n) }
         ensures whole { IfOk result (λ c. count_behind c ≡ info.entry.now.docs) }
+        ensures once { IfOk result (λ c. (ps : List Posting) → PostReads c ps) }
         ensures nothing { IfOk result
             (λ c. (post_pages c ≡ 0) × (entered_pages c ≡ 0) × (skip_pages c ≡ 0)) }
     {
@@ -302,8 +304,10 @@ impl<'a, S: Store> Cursor<'a, S> {
             (AnswersForTerm result doc self.new) }
         ensures pages { ForTerm doc (S.files store.old) self.old
             (TermPages self.old self.new (S.reads store.old) (S.reads store.new)) }
+        ensures once { ForTerm doc (S.files store.old) self.old (TermOnce result self.new) }
         ensures third { skip_pages self.new ≤ entries_pages self.new.skip_at
             (block_count self.new.docs) }
+        ensures skips { SkipRises self.old self.new (S.reads store.old) (S.reads store.new) }
         ensures reads { ReadsLists (S.reads store.old) (S.reads store.new) }
         ensures sound { IfOk result (λ found. IfSome found (IsFrom doc self.old.all)) }
         ensures next { doc ≡ next_doc self.old.held →

@@ -3,13 +3,14 @@ ghost use Rattle.std.specs.Prelude.{◌≡◌, ◌≢◌, ◌-◌, ◌^◌, ◌<
 ghost use Rattle.mg_defs.specs.declared.Posting.{Posting};
 ghost use Rattle.mg_defs.specs.Split.{documents};
 ghost use Rattle.mg_defs.specs.Terms.{docs};
-ghost use Rattle.mg_defs.specs.Lists.{block_count, post_bits, list_byte, first_entry};
+ghost use Rattle.mg_defs.specs.Lists.{block_count, post_bits, postings, list_byte, first_entry};
 ghost use Rattle.std.specs.declared.option.Option.{Option};
 ghost use Rattle.mg_dev.specs.Files.{Files};
 ghost use Rattle.mg_dev.specs.Files.{Reads};
 ghost use Rattle.mg_defs.specs.PageBounds.{pages_for};
 ghost use Rattle.mg_post.specs.Cursor.{CursorFits, Cursoring, CursorStands, ReadsTwo, SameList, StandsAt, entered_pages, post_pages, WhereSameLists};
 ghost use Rattle.mg_post.specs.Finding.{entries_pages};
+ghost use Rattle.mg_post.specs.PagesOnce.{front_pages};
 ghost use Rattle.mg_post.specs.TermLists.{CursorFor, EnteredFor, ForCalls, IsAmong, KeepsEntered, MostEntered, all_met, PostRises};
 ghost use Rattle.mg_post.specs.Writing.{Listing, Took, WhereSameFiles};
 ghost use Rattle.mg_post.specs.Laws.{ForHeld, WhereFew, WhereListsHeld, TermListStands, StandsAmong};
@@ -99,6 +100,14 @@ pub fn cursor_for_later()
 pub fn cursor_pages_are_within()
     ensures { (base collection asked t : List ℕ) (n : ℕ) (c : Cursoring) →
         CursorFor base collection asked t n c → post_pages c ≤ pages_for collection asked t }
+{}
+
+/// A cursor over the list of a term has read no page of Post twice: no more pages than lie from the
+/// list's first bit to the last bit of the blocks that it reached.
+pub fn each_page_is_read_once()
+    ensures { (base collection asked t : List ℕ) (n : ℕ) (c : Cursoring) →
+        CursorFor base collection asked t n c →
+        post_pages c ≤ front_pages c c.reached (postings collection t) }
 {}
 
 /// What a writer took stays, and it may write on, as long as its two files do: calls that write

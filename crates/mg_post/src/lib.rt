@@ -24,8 +24,8 @@ mod writer;
 pub use cursor::Cursor;
 pub use laws::{
     after_the_last, blocks_are_entered_once, cursor_for_later, cursor_pages_are_within,
-    cursor_still_fits, documents_are_among, infos_fit, list_of_a_term_stands, list_still_stands,
-    lists_stand, lists_stay, post_is_short,
+    cursor_still_fits, documents_are_among, each_page_is_read_once, infos_fit,
+    list_of_a_term_stands, list_still_stands, lists_stand, lists_stay, post_is_short,
 };
 pub use list_reader::ListReader;
 pub use mg_defs::Posting;

@@ -2,10 +2,11 @@ use Rattle.std.proofs.Common.{arith, ◌≡◌, ◌+◌, ◌*◌, ◌≤◌, len
 use Rattle.mg_bits.proofs.CallerLemmas.{calm_none}
 use Rattle.mg_defs.specs.Lists.{block_of, bits_before, last_doc}
 use Rattle.mg_post.specs.Cursor.{HeldRises, forward_to}
+use Rattle.mg_post.specs.declared.enter.Inside.{Inside}
 use Rattle.mg_post.proofs.ForwardLaws.{forward_all, forward_some}
 use Rattle.mg_post.proofs.FindLaws.{bits_fit, damaged_weaker}
 use Rattle.mg_post.proofs.ReadLaws.{any_refused}
-use Rattle.mg_post.proofs.EnterLaws.{block_answer, block_ends, block_filled, filled_some, head_none, found_some, entered, count_most, refused_pages}
+use Rattle.mg_post.proofs.EnterLaws.{block_answer, block_ends, block_filled, filled_some, head_none, found_some, entered, count_most, read_on, refused_on, refused_pages}
 use Rattle.mg_post.proofs.SoundLaws.{block_held, from_held}
 use Rattle.mg_post.proofs.enter.enter.Goals as goal
 
@@ -24,6 +25,7 @@ returns-in_default g c =
         count = tt;
         told = λ ps blocks rises whole shows small found. absurd (omega (arith, bits_fit list.parameter (64 * c.args.found.block) ps, found.bits, far, small));
         most = λ ps blocks rises whole shows small found. absurd (omega (arith, bits_fit list.parameter (64 * c.args.found.block) ps, found.bits, far, small));
+        once = λ ps blocks rises whole shows small found. absurd (omega (arith, bits_fit list.parameter (64 * c.args.found.block) ps, found.bits, far, small));
         block = λ ps after within stands. absurd (omega (arith, stands.small, far));
         lacks = λ after within. inr (inr record { far = far; at_is = c.place_or_most.ensures });
       };
@@ -54,6 +56,12 @@ returns-then-last-found g c =
             c.min.ensures whole found.from at rises (rw (← c.seek.ensures.feed) at shows) small e.told in
             absurd (c.if-last-found.true (block_ends list.parameter blocks c.args.doc f.block f.before f.last f.at c.in-Ok.last ps c.fill.new.self found got e.last));
         most = λ ps blocks rises whole shows small found.
+            let at : c.seek.new.self.place ≡ 8 * list.post_at + bits_before list.parameter (64 * f.block) ps = place ∙ ap (λ n. 8 * list.post_at + n) found.bits in
+            let got : c.fill.new.self ≡ block_of f.block ps =
+            block_answer _ (8 * list.post_at) list.all list.parameter c.seek.new.self.place f.before _ list.docs f.block ps c.fill.new.self (Ok c.in-Ok.last)
+            c.min.ensures whole found.from at rises (rw (← c.seek.ensures.feed) at shows) small e.told in
+            absurd (c.if-last-found.true (block_ends list.parameter blocks c.args.doc f.block f.before f.last f.at c.in-Ok.last ps c.fill.new.self found got e.last));
+        once = λ ps blocks rises whole shows small found.
             let at : c.seek.new.self.place ≡ 8 * list.post_at + bits_before list.parameter (64 * f.block) ps = place ∙ ap (λ n. 8 * list.post_at + n) found.bits in
             let got : c.fill.new.self ≡ block_of f.block ps =
             block_answer _ (8 * list.post_at) list.all list.parameter c.seek.new.self.place f.before _ list.docs f.block ps c.fill.new.self (Ok c.in-Ok.last)
@@ -127,6 +135,14 @@ returns-in-Some-current g c =
             c.fill.new.self c.forward.new.self c.in-Some-current.posting got c.forward.ensures (sym c.in-Some-current.ensures) found.from at e.place
             (rw (c.place.ensures, ← c.seek.ensures.place) at c.pages_of-pages.ensures) in
             rw (← told.pages, c.pages_of-pages.ensures, c.place.ensures, ← c.seek.ensures.place, ← c.seek.ensures.feed) most;
+        once = λ ps blocks rises whole shows small found.
+            let at : c.seek.new.self.place ≡ 8 * list.post_at + bits_before list.parameter (64 * f.block) ps = place ∙ ap (λ n. 8 * list.post_at + n) found.bits in
+            let got : c.fill.new.self ≡ block_of f.block ps =
+            block_answer _ (8 * list.post_at) list.all list.parameter c.seek.new.self.place f.before _ list.docs f.block ps c.fill.new.self (Ok c.in-Ok.last)
+            c.min.ensures whole found.from at rises (rw (← c.seek.ensures.feed) at shows) small e.told in
+            let on = read_on {T = Inside} _ list.parameter (8 * list.post_at) c.seek.new.self.place c.fill.new.r.place f.block f.before ps c.fill.new.self _ _ _ _
+            (rw c.seek.ensures.feed c.requires.feed.page) got found.from at e.place read in
+            rw (← c.seek.ensures.feed) on;
         block = λ ps after within stands. tt;
         lacks = tt;
       };
@@ -159,6 +175,13 @@ returns-in-None g c =
             let same : length c.forward.new.self ≡ length (forward_to c.args.doc (block_of f.block ps)) = ap length (c.forward.ensures ∙ ap (forward_to c.args.doc) got) in
             absurd (omega (arith, none, same, found_some list.all list.parameter blocks c.args.doc f.block f.before f.last f.at ps rises found));
         most = λ ps blocks rises whole shows small found.
+            let at : c.seek.new.self.place ≡ 8 * list.post_at + bits_before list.parameter (64 * f.block) ps = place ∙ ap (λ n. 8 * list.post_at + n) found.bits in
+            let got : c.fill.new.self ≡ block_of f.block ps =
+            block_answer _ (8 * list.post_at) list.all list.parameter c.seek.new.self.place f.before _ list.docs f.block ps c.fill.new.self (Ok c.in-Ok.last)
+            c.min.ensures whole found.from at rises (rw (← c.seek.ensures.feed) at shows) small e.told in
+            let same : length c.forward.new.self ≡ length (forward_to c.args.doc (block_of f.block ps)) = ap length (c.forward.ensures ∙ ap (forward_to c.args.doc) got) in
+            absurd (omega (arith, none, same, found_some list.all list.parameter blocks c.args.doc f.block f.before f.last f.at ps rises found));
+        once = λ ps blocks rises whole shows small found.
             let at : c.seek.new.self.place ≡ 8 * list.post_at + bits_before list.parameter (64 * f.block) ps = place ∙ ap (λ n. 8 * list.post_at + n) found.bits in
             let got : c.fill.new.self ≡ block_of f.block ps =
             block_answer _ (8 * list.post_at) list.all list.parameter c.seek.new.self.place f.before _ list.docs f.block ps c.fill.new.self (Ok c.in-Ok.last)
@@ -205,6 +228,11 @@ returns-in-Err g c =
             let most = refused_pages _ _ _ _ _ (8 * list.post_at) list.all list.parameter c.seek.new.self.place f.before _ list.docs f.block ps
             (rw c.seek.ensures.feed c.requires.feed.page) c.min.ensures whole found.from at rises (rw (← c.seek.ensures.feed) at shows) small e.pages in
             rw (← c.seek.ensures.feed) most;
+        once = λ ps blocks rises whole shows small found.
+            let at : c.seek.new.self.place ≡ 8 * list.post_at + bits_before list.parameter (64 * f.block) ps = place ∙ ap (λ n. 8 * list.post_at + n) found.bits in
+            let on = refused_on {T = Inside} c.in-Err.refusal _ _ _ _ _ (8 * list.post_at) list.all list.parameter c.seek.new.self.place f.before _ list.docs f.block ps
+            (rw c.seek.ensures.feed c.requires.feed.page) c.min.ensures whole found.from at rises (rw (← c.seek.ensures.feed) at shows) small e.pages in
+            rw (← c.seek.ensures.feed) on;
         block = λ ps after within stands.
             any_refused c.in-Err.refusal _ _ (block_filled _ list.all list.parameter (8 * list.post_at + f.at) c.min.result f.before f.last
             c.seek.new.self.place ps c.fill.new.self (Err c.in-Err.refusal) (rw (c.min.ensures, c.seek.ensures.feed) stands) place e.told);

@@ -153,7 +153,12 @@ returns g c =
         most = reads_within s.skip_at c.loop-low.low s.blocks _ _ i.reads i.there;
         found = tt;
         tells = tt;
-        past = (c.loop-low.before, subst (λ n. TellsBefore ((g.F.Feed.feeding c.args.r.now.feed).source (g.F.Feed.device c.args.dev.now).files) s.skip_at s.reached s.last n c.loop-low.before) all i.before_is, i.below);
+        past = (
+          c.loop-low.before,
+          subst (λ n. TellsBefore ((g.F.Feed.feeding c.args.r.now.feed).source (g.F.Feed.device c.args.dev.now).files)
+              s.skip_at s.reached s.last n c.loop-low.before) all i.before_is,
+          i.below,
+        );
         lacks = tt;
         next = λ is. omega (arith, (i.next is).0, all);
         told = λ ps b stands last. omega (arith, i.below, i.told ps b stands last, ap (λ n. doc_before (64 * n) ps) all);

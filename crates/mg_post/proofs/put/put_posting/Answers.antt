@@ -1,4 +1,6 @@
-use Rattle.std.proofs.Common.{arith}
+use Rattle.std.proofs.Common.{arith, ◌-◌}
+use Rattle.mg_defs.specs.Bits.{Bits}
+use Rattle.mg_defs.specs.Codes.{golomb}
 use Rattle.mg_defs.specs.Lists.{posting_bits}
 use Rattle.mg_bits.proofs.CallerLemmas.{bits_more}
 use Rattle.mg_defs.proofs.StandLists.{golomb_short, gamma_short}
@@ -11,7 +13,8 @@ put_gamma-requires-clause-place g c =
 pub returns-clause-bits : goal.returns-clause-bits
 unfolding posting_bits
 returns-clause-bits g c =
-    bits_more _ _ _ _ _ _ _ _ c.in_ok-put_golomb.ensures.wrote.told (rw c.from.ensures at c.in_ok-put_golomb.ensures.bits) (rw c.from-2.ensures at c.in_ok-put_gamma.ensures.bits)
+    let gap : Bits = golomb c.args.parameter (c.args.doc - c.args.before) in
+    bits_more _ _ _ _ _ _ gap _ c.in_ok-put_golomb.ensures.wrote.told (rw c.from.ensures at c.in_ok-put_golomb.ensures.bits) (rw c.from-2.ensures at c.in_ok-put_gamma.ensures.bits)
 
 pub returns-clause-short : goal.returns-clause-short
 returns-clause-short g c =

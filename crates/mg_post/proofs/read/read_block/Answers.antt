@@ -38,7 +38,7 @@ returns-in-Err-clause-pages g c = λ ps rises le small shows.
     let next = next_here _ c.args.r.now.place c.loop-i.r.place c.args.all c.args.parameter c.args.before c.loop-i.last c.loop-i.i c.loop-i.out.items ps
     (omega arith) same c.loop-i.invariant.last at rises small shows in
     rw c.seek.ensures.feed
-    (block_pages_more _ _ _ _ _ _ _ _ c.args.r.now.place c.loop-i.r.place c.args.all c.args.parameter c.args.before c.loop-i.last c.loop-i.i c.args.count ps
+    (block_pages_more c.args.r.now.place c.loop-i.r.place c.args.all c.args.parameter c.args.before c.loop-i.last c.loop-i.i c.args.count ps
     c.loop-i.out.items (g.met.F.Feed.whole_pages c.args.r.now.feed).some (same_told _ _ _ _ c.loop-i.invariant.read.calm) next same c.loop-i.invariant.last
     c.loop-i-test.true at
     (rw c.place-start.ensures at c.loop-i.invariant.read) c.in-Err.ensures.posting.pages)

@@ -34,6 +34,7 @@ invariant_of-self g c =
       i.9,
       forward_none c.self.inside.all c.self.inside.last c.args.doc c.self.inside.docs c.self.inside.reached c.self.inside.block c.forward.new.self c.self.inside.ended i.8 i.10 c.if-self.false
           c.requires.some c.if-doc-self.true c.forward.ensures,
+      i.11,
     )
 
 pub returns-then-doc-self-clause-stays : goal.returns-then-doc-self-clause-stays

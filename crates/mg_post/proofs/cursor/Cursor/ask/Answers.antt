@@ -1,10 +1,11 @@
-use Rattle.mg_post.proofs.TermLaws.{asked_answer, asked_pages}
+use Rattle.mg_post.proofs.TermLaws.{asked_answer, asked_once, asked_pages}
 use Rattle.mg_post.proofs.cursor.Cursor.ask.Goals as goal
 
 pub returns-clause-answer : goal.returns-clause-answer
-returns-clause-answer g c = λ base collection asked t may.
-    let e = c.advance_to.ensures.step in
-    asked_answer base collection asked t c.args.doc _ _ _ _ may e.same e.forward e.first e.answer e.entered
+returns-clause-answer g c = λ base collection asked t may. asked_answer may c.advance_to.ensures.step
+
+pub returns-clause-once : goal.returns-clause-once
+returns-clause-once g c = λ base collection asked t may. asked_once may c.advance_to.ensures.step
 
 pub returns-clause-pages : goal.returns-clause-pages
 returns-clause-pages g c = λ base collection asked t may.
@@ -22,6 +23,9 @@ returns-clause-same g c = c.advance_to.ensures.step.same
 
 pub returns-clause-third : goal.returns-clause-third
 returns-clause-third g c = c.advance_to.ensures.step.third
+
+pub returns-clause-skips : goal.returns-clause-skips
+returns-clause-skips g c = c.advance_to.ensures.step.skips
 
 pub returns-clause-sound : goal.returns-clause-sound
 returns-clause-sound g c = c.advance_to.ensures.step.sound

@@ -38,4 +38,5 @@ invariant_of-self g c =
       step_rises c.self.inside.all c.self.inside.last c.step.result c.self.inside.block c.step.new.self c.step.ensures i.8,
       i.9,
       step_none c.self.inside.docs c.self.inside.reached c.self.inside.last c.step.result c.self.inside.block c.step.new.self c.self.inside.ended c.step.ensures i.10,
+      i.11,
     )

@@ -15,6 +15,9 @@ returns g c =
           let asked = numbers_in (postings collection t) in
           omega (arith, pages_in_list collection asked t, (e.pages base collection asked t (list_may_ask base collection t c.args.last _ _ stand f)).within);
       post = λ base collection t stand f. (e.pages base collection (numbers_in (postings collection t)) t (list_may_ask base collection t c.args.last _ _ stand f)).post;
+      once = λ base collection t stand f. e.once base collection (numbers_in (postings collection t)) t (list_may_ask base collection t c.args.last _ _ stand f);
+      third = e.third;
+      skips = e.skips;
       sound = e.sound;
       next = e.next;
       shows = e.shows;

@@ -3,6 +3,7 @@ use Rattle.std.proofs.lemmas.Bool.{false≢true}
 use Rattle.mg_bits.specs.Pages.{Paging}
 use Rattle.mg_post.specs.Cursor.{Cursoring}
 use Rattle.mg_post.proofs.CursorLaws.{starts}
+use Rattle.mg_post.proofs.PagesOnceLaws.{starts_once}
 use Rattle.mg_post.proofs.ShownLaws.{shown_start}
 use Rattle.mg_post.proofs.SoundLaws.{nothing_held}
 use Rattle.mg_post.proofs.TermLaws.{term_starts}
@@ -10,6 +11,11 @@ use Rattle.mg_post.proofs.cursor.Cursor.start.Goals as goal
 
 pub returns-clause-at : goal.returns-clause-at
 returns-clause-at g c = λ ps. record { on = rw c.in_ok-block.ensures (starts ps) }
+
+pub returns-clause-once : goal.returns-clause-once
+returns-clause-once g c = λ ps.
+    starts_once _ _ ps _ _ (ap (λ (p : Paging). p.held) c.new-5.ensures.feed ∙ c.in_ok-post.ensures.held)
+    (ap (λ (p : Paging). p.count) c.new-5.ensures.feed ∙ c.in_ok-post.ensures.count)
 
 pub returns-clause-term : goal.returns-clause-term
 returns-clause-term g c = λ collection asked t n told all.
@@ -40,6 +46,8 @@ returns-clause-term g c = λ collection asked t n told all.
     (λ ps. record { on = rw c.in_ok-block.ensures (starts ps) })
     refl
     (omega (arith, ap (λ (p : Paging). p.count) c.new-5.ensures.feed, c.in_ok-post.ensures.count))
+    (λ ps. starts_once _ _ ps _ _ (ap (λ (p : Paging). p.held) c.new-5.ensures.feed ∙ c.in_ok-post.ensures.held)
+    (ap (λ (p : Paging). p.count) c.new-5.ensures.feed ∙ c.in_ok-post.ensures.count))
 
 pub returns-clause-shown : goal.returns-clause-shown
 returns-clause-shown g c = shown_start refl refl refl c.in_ok-block.ensures
@@ -60,4 +68,5 @@ invariant_of-result g c = (
   nothing_held c.args.all 0 c.in_ok-block.block c.in_ok-block.ensures,
   omega (arith, ap (λ (p : Paging). p.count) c.new-5.ensures.feed, c.in_ok-post.ensures.count),
   record { first = λ on none. (refl, refl); all = λ off. absurd (false≢true off) },
+  omega arith,
 )
