@@ -1,20 +1,18 @@
 -- Each page of Post is read at most once over a cursor's life.
-use Rattle.std.proofs.Common.{arith, ◌≡◌, ◌+◌, ◌*◌, ◌-◌, ◌/◌, ◌^◌, ◌≤◌, ◌<◌, ℕ, List, take, drop, length, min, Option, Some, None, Ok, Err, refl, sym, ◌∙◌, ap, subst, length-append, ◌⊎◌, inl, inr}
-use Rattle.std.specs.Prelude.{Result}
+use Rattle.std.proofs.Common.{arith, ◌≡◌, ◌+◌, ◌*◌, ◌-◌, ◌^◌, ◌≤◌, ◌<◌, ℕ, List, take, drop, length, min, Option, Some, None, Ok, Err, refl, sym, ◌∙◌, ap, subst, length-append, inl, inr}
 use Rattle.std.proofs.Math.Seq.{take-add}
 use Rattle.std.proofs.lemmas.Bool.{cases_lt}
-use Rattle.mg_bits.specs.Feed.{Feeding, held_after, lacks, to_read}
+use Rattle.std.proofs.lemmas.List.{take_all}
+use Rattle.mg_bits.specs.Feed.{held_after, lacks, to_read}
 use Rattle.mg_bits.specs.Pages.{Paging, feeding_of}
 use Rattle.mg_defs.specs.declared.Posting.{Posting}
-use Rattle.mg_defs.specs.Lists.{bits_after, bits_before, block_count, last_doc, postings}
+use Rattle.mg_defs.specs.Lists.{bits_after, bits_before, block_count, last_doc}
 use Rattle.mg_defs.specs.PagesOf.{page_at, pages}
 use Rattle.mg_defs.proofs.ListLaws.{bits_append}
-use Rattle.mg_defs.proofs.PageLaws.{pages_none, pages_some, pages_within}
-use Rattle.mg_dev.specs.declared.part_err.PartErr.{PartErr}
-use Rattle.mg_post.specs.Cursor.{Cursoring, post_pages}
+use Rattle.mg_defs.proofs.PageLaws.{pages_some, pages_within}
+use Rattle.mg_post.specs.Cursor.{Cursoring}
 use Rattle.mg_post.specs.Finding.{ReadTo}
 use Rattle.mg_post.specs.PagesOnce.{PostReads, ReadsBlocks, ReadsOn, ReadsOnce, front_pages}
-use Rattle.mg_post.specs.TermLists.{CursorFor}
 use Rattle.mg_post.specs.declared.refusal.Refusal.{Refusal}
 use Rattle.mg_post.proofs.FindLaws.{read_next}
 
@@ -32,9 +30,22 @@ bits_rise b m n ps le =
       length-append (bits_after b 0 (take m ps)) (bits_after b (last_doc 0 (take m ps)) (take more (drop m ps))),
     )
 
-blocks_rise : (at b m n : ℕ) (ps : List Posting) → m ≤ n →
+pub blocks_rise : (at b m n : ℕ) (ps : List Posting) → m ≤ n →
     at + bits_before b (64 * m) ps ≤ at + bits_before b (64 * n) ps
 blocks_rise at b m n ps le = omega (arith, bits_rise b (64 * m) (64 * n) ps (omega (arith, le)))
+
+-- no blocks have more bits than those of the whole list
+pub whole_rises : (at b n docs : ℕ) (ps : List Posting) → docs ≡ length ps → at + bits_before b (64 * n) ps ≤ at + bits_before b (64 * block_count docs) ps
+unfolding bits_before
+whole_rises at b n docs ps is =
+    elim (cases_lt (block_count docs) n) [
+      | inl past ↦ (let whole : bits_before b (64 * n) ps ≡ bits_before b (64 * block_count docs) ps = all_bits b (64 * n) (64 * block_count docs) ps
+          (omega (arith, is, past)) (omega (arith, is)) in omega (arith, whole))
+      | inr within ↦ blocks_rise at b n (block_count docs) ps within
+    ]
+  where
+    all_bits : (b m n : ℕ) (ps : List Posting) → length ps ≤ m → length ps ≤ n → bits_before b m ps ≡ bits_before b n ps
+    all_bits b m n ps some more = ap (λ l. length (bits_after b 0 l)) (take_all m ps some ∙ sym (take_all n ps more))
 
 page_rise : (a b : ℕ) → a ≤ b → page_at a ≤ page_at b
 page_rise a b le = omega (arith, le)
@@ -72,7 +83,7 @@ blocks_later at b m n ps held count now le few reads = record {
 }
 
 -- no more pages than the blocks lie on
-blocks_pages : (at b n : ℕ) (ps : List Posting) (held : Option ℕ) (count : ℕ) → ReadsBlocks at b n ps held count →
+pub blocks_pages : (at b n : ℕ) (ps : List Posting) (held : Option ℕ) (count : ℕ) → ReadsBlocks at b n ps held count →
     count ≤ pages at (at + bits_before b (64 * n) ps)
 blocks_pages at b n ps held count reads =
     elim (cases_lt 0 (bits_before b (64 * n) ps)) [
@@ -139,11 +150,6 @@ pub once_answered : (c : Cursoring) (ps : List Posting) (found : Option Posting)
 once_answered c ps found le reads =
     let most : c.post.count ≤ front_pages c c.reached ps = blocks_pages (8 * c.post_at) c.parameter c.reached ps c.post.held c.post.count reads in
     record { again = reads; reached = omega (arith, most); most = omega (arith, most, front_rises c c.reached (block_count c.docs) ps le) }
-
-pub once_for : (base collection asked t : List ℕ) (n : ℕ) (c : Cursoring) → CursorFor base collection asked t n c →
-    post_pages c ≤ front_pages c c.reached (postings collection t)
-once_for base collection asked t n c f =
-    omega (arith, blocks_pages (8 * c.post_at) c.parameter c.reached (postings collection t) c.post.held c.post.count f.once)
 
 -- a block was entered
 pub once_read : {T : Type 0} (x : T) (c : Cursoring) (post : Paging) (k : ℕ) (ps : List Posting) → c.reached ≤ k →

@@ -1,5 +1,6 @@
 -- What stands where a posting is read.
-use Rattle.std.proofs.Common.{arith, ◌≡◌, ◌+◌, ◌^◌, ◌≤◌, ◌<◌, ◌-◌, ℕ, List, [], ◌∷◌, ◌++◌, length, take, drop, Option, Some, None, Result, Ok, Err, inl, refl, sym, ◌∙◌, ap, subst, length-append, length-take, append-nil, get_or, drop-cons, add-one}
+use Rattle.std.proofs.Common.{arith, ◌≡◌, ◌+◌, ◌^◌, ◌≤◌, ◌<◌, ◌-◌, ℕ, List, [], ◌∷◌, ◌++◌, length, take, drop, Option, Some}
+use Rattle.std.proofs.Common.{None, Result, Ok, Err, inl, refl, sym, ◌∙◌, ap, subst, length-append, length-take, append-nil, get_or, drop-cons, add-one}
 use Rattle.std.proofs.lemmas.List.{take-append-drop, drop-drop, take_more}
 use Rattle.std.proofs.Math.Seq.{take-add}
 use Rattle.mg_defs.specs.declared.Posting.{Posting}

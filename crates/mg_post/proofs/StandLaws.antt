@@ -1,5 +1,6 @@
 -- What was written stands.
-use Rattle.std.proofs.Common.{arith, suc, zero, ◌≡◌, ◌≢◌, ◌+◌, ◌*◌, ◌/◌, ◌^◌, ◌≤◌, ◌<◌, ◌-◌, ℕ, true, List, [], ◌∷◌, ◌++◌, length, take, drop, Some, None, is_some, unwrap_or, refl, sym, ◌∙◌, ap, subst, ◌⊎◌, inl, inr, length-append, append_assoc, map}
+use Rattle.std.proofs.Common.{arith, suc, zero, ◌≡◌, ◌≢◌, ◌+◌, ◌*◌, ◌/◌, ◌^◌, ◌≤◌, ◌<◌, ◌-◌, ℕ, true, List, [], ◌∷◌, ◌++◌}
+use Rattle.std.proofs.Common.{length, take, drop, Some, None, is_some, unwrap_or, refl, sym, ◌∙◌, ap, subst, ◌⊎◌, inl, inr, length-append, append_assoc, map}
 use Rattle.std.specs.Prelude.{flat_map, slice_get}
 use Rattle.std.proofs.lemmas.Grind.{flat_map-append}
 use Rattle.std.proofs.lemmas.List.{drop-drop}
@@ -8,7 +9,8 @@ use Rattle.mg_defs.specs.Bits.{Bits, digits, bits_of, filled, Begins, to_byte}
 use Rattle.mg_defs.specs.Codes.{golomb_parameter}
 use Rattle.mg_defs.specs.Split.{documents}
 use Rattle.mg_defs.specs.Terms.{dictionary}
-use Rattle.mg_defs.specs.Lists.{SkipEntry, Rises, entry_of, entries_to, entry_bits, entries_of_list, bits_of_list, block_count, lists_bits, lists_entries, postings, inverted, post_bits, skip_bits, list_byte, first_entry}
+use Rattle.mg_defs.specs.Lists.{SkipEntry, Rises, entry_of, entries_to, entry_bits, entries_of_list, bits_of_list, block_count}
+use Rattle.mg_defs.specs.Lists.{lists_bits, lists_entries, postings, inverted, post_bits, skip_bits, list_byte, first_entry}
 use Rattle.mg_defs.proofs.FrontLaws.{begins_first, begins_second, begins_self}
 use Rattle.mg_defs.proofs.BitLaws.{length_digits}
 use Rattle.mg_defs.proofs.ListLaws.{entries_next, length_entries_to, list_rises}

@@ -16,7 +16,8 @@ use Rattle.mg_defs.specs.Bits.{Shows}
 use Rattle.mg_defs.specs.declared.Posting.{Posting}
 use Rattle.mg_defs.specs.Lists.{bits_after, block_count, block_pages, from_doc}
 use Rattle.mg_post.specs.Answers.{IsRefused, OnDamage, RefusalCause}
-use Rattle.mg_post.specs.Cursor.{AnswersRest, CursorFits, Cursoring, Enters, ForList, GoesToNext, HeldNone, HeldRises, IsFrom, SameList, StandsAt, StandsOn, after, entered_pages, forward_to, head_of, next_doc, post_pages}
+use Rattle.mg_post.specs.Cursor.{AnswersRest, CursorFits, Cursoring, Enters, ForList, GoesToNext, HeldNone, HeldRises, IsFrom}
+use Rattle.mg_post.specs.Cursor.{SameList, StandsAt, StandsOn, after, entered_pages, forward_to, head_of, next_doc, post_pages}
 use Rattle.mg_post.specs.CursorSteps.{CursorStep}
 use Rattle.mg_post.specs.Entering.{EntersFound, HoldsFound}
 use Rattle.mg_post.specs.Shown.{AnswersShown, StandsShown}
@@ -35,7 +36,8 @@ use Rattle.mg_post.proofs.FindLaws.{any_cause, reads_within}
 use Rattle.mg_post.proofs.LifeLaws.{skips_after}
 use Rattle.mg_post.proofs.PagesOnceLaws.{once_answered, once_past, once_read, once_refused}
 use Rattle.mg_post.proofs.ShownLaws.{forward_behind, next_some, shown_ended, shown_entered, shown_past, shown_within, walks_shown}
-use Rattle.mg_post.proofs.SoundLaws.{current_low, goes_next, in_held, names_none, names_own, names_post, names_skip, next_few, next_held, next_inside, next_is, next_sound, no_entry_cause, own_cause, post_cause, skip_cause, step_rises}
+use Rattle.mg_post.proofs.SoundLaws.{current_low, goes_next, in_held, names_none, names_own, names_post, names_skip, next_few, next_held}
+use Rattle.mg_post.proofs.SoundLaws.{next_inside, next_is, next_sound, no_entry_cause, own_cause, post_cause, skip_cause, step_rises}
 
 -- ---- refusals
 

@@ -1,5 +1,5 @@
 -- A cursor over the list of a term of a collection.
-use Rattle.std.proofs.Common.{arith, ◌≡◌, ◌*◌, ◌≤◌, ℕ, List, length, sym, ap, subst, ◌∙◌, Option, Some, Ok, Err}
+use Rattle.std.proofs.Common.{arith, ◌≡◌, ◌+◌, ◌*◌, ◌≤◌, ℕ, List, length, refl, sym, ap, subst, ◌∙◌, Option, Some, Ok, Err}
 use Rattle.std.specs.Prelude.{Result}
 use Rattle.mg_dev.specs.Files.{Files, Reads, bytes_at}
 use Rattle.mg_dev.specs.Names.{full_name}
@@ -10,7 +10,9 @@ use Rattle.mg_bits.specs.Feed.{told_at}
 use Rattle.mg_defs.specs.declared.Posting.{Posting}
 use Rattle.mg_defs.specs.Codes.{golomb_parameter}
 use Rattle.mg_defs.specs.Split.{documents}
-use Rattle.mg_defs.specs.Lists.{postings, from_doc, block_count, list_byte}
+use Rattle.mg_defs.specs.Lists.{postings, from_doc, bits_before, block_count, list_byte}
+use Rattle.mg_defs.specs.PagesOf.{pages}
+use Rattle.mg_defs.proofs.PageLaws.{pages_within}
 use Rattle.mg_defs.specs.Lexicon as defs
 use Rattle.mg_defs.specs.PageBounds.{met_pages, pages_for, parameter_of, list_bit}
 use Rattle.mg_laws.proofs.LedLists.{length_postings}
@@ -20,7 +22,8 @@ use Rattle.mg_layout.specs.declared.term_info.TermInfo.{TermInfo}
 use Rattle.mg_post.specs.Answers.{AnswersList}
 use Rattle.mg_post.specs.Cursor.{AnswersRest, Cursoring, CursorStands, IsOver, SameList, StandsAt, head_of, entered_pages, post_pages, Enters, ReadsTwo}
 use Rattle.mg_post.specs.CursorSteps.{CursorStep}
-use Rattle.mg_post.specs.PagesOnce.{PostReads, ReadsOnce}
+use Rattle.mg_post.specs.PagesOnce.{PostReads, ReadsOnce, front_pages, span_pages}
+use Rattle.mg_post.proofs.PagesOnceLaws.{blocks_pages, whole_rises}
 use Rattle.mg_post.specs.TermLists.{AnswersAsk, CursorFor, IsAmong, ListsStand, MayAsk, PagesWithin}
 use Rattle.mg_bits.proofs.CallerLemmas.{is_told}
 use Rattle.mg_post.proofs.StandLaws.{term_stands}
@@ -142,8 +145,36 @@ asked_pages base collection asked t doc files c v r before now m two enters =
     let same = pages_are base collection asked t doc c m.cursor in
     record { within = omega (arith, two.first, most, same); post = reads_after c v before now two (omega (arith, most, few)) }
 
-pub pages_within : (base collection asked t : List ℕ) (n : ℕ) (c : Cursoring) → CursorFor base collection asked t n c → post_pages c ≤ pages_for collection asked t
-pages_within base collection asked t n c f = omega (arith, f.first, f.within, met_all asked c.parameter (8 * c.post_at) c.reached (postings collection t), pages_are base collection asked t n c f)
+pub pages_few_for : (base collection asked t : List ℕ) (n : ℕ) (c : Cursoring) → CursorFor base collection asked t n c → post_pages c ≤ pages_for collection asked t
+pages_few_for base collection asked t n c f = omega (arith, f.first, f.within, met_all asked c.parameter (8 * c.post_at) c.reached (postings collection t), pages_are base collection asked t n c f)
+
+-- ---- each page once
+
+pub once_for : (base collection asked t : List ℕ) (n : ℕ) (c : Cursoring) → CursorFor base collection asked t n c →
+    post_pages c ≤ front_pages c c.reached (postings collection t)
+once_for base collection asked t n c f =
+    omega (arith, blocks_pages (8 * c.post_at) c.parameter c.reached (postings collection t) c.post.held c.post.count f.once)
+
+-- the pages of all blocks are those of the list
+pub span_is : (base collection asked t : List ℕ) (n : ℕ) (c v : Cursoring) → CursorFor base collection asked t n c → SameList c v →
+    front_pages v (block_count v.docs) (postings collection t) ≡ span_pages collection t
+span_is base collection asked t n c v f same =
+    let ps = postings collection t in
+    let at : 8 * v.post_at ≡ list_bit collection t = ap (λ x. 8 * x) (same.post_at ∙ f.over.post_at_is)
+    ∙ ap (λ k. 8 * list_byte collection k) (sym (number_is collection f.number t f.term)) in
+    let bits : bits_before v.parameter (64 * block_count v.docs) ps ≡ bits_before (parameter_of collection t) (64 * block_count (length ps)) ps =
+    ap (λ b. bits_before b (64 * block_count v.docs) ps) (same.parameter ∙ f.parameter)
+    ∙ ap (λ d. bits_before (parameter_of collection t) (64 * block_count d) ps) (same.docs ∙ f.over.docs_is) in
+    ap (λ x. pages x (x + bits_before v.parameter (64 * block_count v.docs) ps)) at ∙ ap (λ b. pages (list_bit collection t) (list_bit collection t + b)) bits
+
+pub span_for : (base collection asked t : List ℕ) (n : ℕ) (c : Cursoring) → CursorFor base collection asked t n c → post_pages c ≤ span_pages collection t
+span_for base collection asked t n c f =
+    omega (
+      arith,
+      once_for base collection asked t n c f,
+      pages_within (8 * c.post_at) (8 * c.post_at) _ _ (omega arith) (whole_rises (8 * c.post_at) c.parameter c.reached c.docs (postings collection t) f.over.docs_is),
+      span_is base collection asked t n c c f (record { post = refl; skip = refl; post_at = refl; skip_at = refl; docs = refl; all = refl; parameter = refl }),
+    )
 
 pub cursor_later : (base collection asked t : List ℕ) (m n : ℕ) (c : Cursoring) → m ≤ n → CursorFor base collection asked t m c → CursorFor base collection asked t n c
 cursor_later base collection asked t m n c le f = record {

@@ -1,5 +1,6 @@
 -- What the calls of a writer do to the lists that it was handed.
-use Rattle.std.proofs.Common.{arith, zero, suc, ◌≡◌, ◌≢◌, ◌+◌, ◌-◌, ◌*◌, ◌/◌, ◌%◌, ◌^◌, ◌≤◌, ◌<◌, ◌++◌, ℕ, List, [], ◌∷◌, length, refl, sym, ◌∙◌, ap, subst, ◌⊎◌, inl, inr, IsSome, is_some, unwrap_or, length-append, append_assoc, append-nil}
+use Rattle.std.proofs.Common.{arith, zero, suc, ◌≡◌, ◌≢◌, ◌+◌, ◌-◌, ◌*◌, ◌/◌, ◌%◌, ◌^◌, ◌≤◌, ◌<◌, ◌++◌, ℕ, List, []}
+use Rattle.std.proofs.Common.{◌∷◌, length, refl, sym, ◌∙◌, ap, subst, ◌⊎◌, inl, inr, IsSome, is_some, unwrap_or, length-append, append_assoc, append-nil}
 use Rattle.std.specs.Prelude.{flat_map}
 use Rattle.std.specs.declared.option.Option.{Option}
 use Rattle.std.proofs.lemmas.Grind.{flat_map-append}
@@ -11,7 +12,8 @@ use Rattle.mg_bits.proofs.CallerLemmas.{bits_stay, holds_stay, bytes_again}
 use Rattle.mg_defs.specs.declared.Posting.{Posting}
 use Rattle.mg_defs.specs.Bits.{Bits, bits_of, digits, filled, to_byte, as_bytes}
 use Rattle.mg_defs.specs.Codes.{golomb_parameter}
-use Rattle.mg_defs.specs.Lists.{SkipEntry, posting_bits, bits_after, last_doc, doc_before, bits_before, block_count, entry_of, entries_to, entry_bits, bits_of_list, entries_of_list, lists_bits, lists_entries}
+use Rattle.mg_defs.specs.Lists.{SkipEntry, posting_bits, bits_after, last_doc, doc_before, bits_before, block_count}
+use Rattle.mg_defs.specs.Lists.{entry_of, entries_to, entry_bits, bits_of_list, entries_of_list, lists_bits, lists_entries}
 use Rattle.mg_defs.proofs.BitLaws.{length_digits}
 use Rattle.mg_defs.proofs.ListLaws.{bits_append, entries_next, last_append, length_entries_to}
 use Rattle.mg_post.specs.Writing.{Listing, Took, Finished, InBytes, entry_bytes, skip_entry}

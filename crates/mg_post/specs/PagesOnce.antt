@@ -1,8 +1,9 @@
 -- Each page of Post is read at most once over a cursor's life.
-use Rattle.std.specs.Prelude.{◌≡◌, ℕ, ◌+◌, ◌-◌, ◌*◌, ◌≤◌, List, Option, Result, OnOk}
+use Rattle.std.specs.Prelude.{◌≡◌, ℕ, ◌+◌, ◌-◌, ◌*◌, ◌≤◌, List, length, Option, Result, OnOk}
 use Rattle.mg_bits.specs.Feed.{Feeding, held_after, to_read}
 use Rattle.mg_defs.specs.declared.Posting.{Posting}
-use Rattle.mg_defs.specs.Lists.{bits_before, block_count}
+use Rattle.mg_defs.specs.Lists.{bits_before, block_count, postings}
+use Rattle.mg_defs.specs.PageBounds.{list_bit, parameter_of}
 use Rattle.mg_defs.specs.PagesOf.{page_at, pages}
 use Rattle.mg_dev.specs.declared.part_err.PartErr.{PartErr}
 use Rattle.mg_post.specs.Cursor.{Cursoring, post_pages}
@@ -27,6 +28,12 @@ PostReads c ps = ReadsBlocks (8 * c.post_at) c.parameter c.reached ps c.post.hel
 -- the pages of Post from the first bit of a cursor's list to the last bit of its first blocks
 abbrev pub front_pages : Cursoring → ℕ → List Posting → ℕ
 front_pages c blocks ps = pages (8 * c.post_at) (8 * c.post_at + bits_before c.parameter (64 * blocks) ps)
+
+-- the pages of Post on which the list of a term lies
+abbrev pub span_pages : List ℕ → List ℕ → ℕ
+span_pages collection t = pages (list_bit collection t)
+    (list_bit collection t + bits_before (parameter_of collection t) (64 * block_count (length (postings collection t)))
+    (postings collection t))
 
 -- after a call each page of Post was read at most once since the cursor began
 pub record ReadsOnce (ps : List Posting) (v : Cursoring) (result : Result (Option Posting) PartErr) : Type 0 where

@@ -10,7 +10,7 @@ use Rattle.mg_defs.specs.PageBounds.{list_pages, numbers_in}
 use Rattle.mg_post.specs.Answers.{AnswersList}
 use Rattle.mg_post.specs.Cursor.{CursorFits, Cursoring, GoesToNext, IsFrom, SameList, SkipRises, next_doc, post_pages, skip_pages}
 use Rattle.mg_post.specs.Finding.{entries_pages}
-use Rattle.mg_post.specs.PagesOnce.{ReadsOnce}
+use Rattle.mg_post.specs.PagesOnce.{ReadsOnce, span_pages}
 use Rattle.mg_post.specs.Shown.{AnswersShown, StandsShown}
 use Rattle.mg_post.specs.TermLists.{AnswersAsk, CursorFor, ListsStand, PostRises, ReadsLists}
 
@@ -42,6 +42,8 @@ pub record WalkStep (c v : Cursoring) (last : ℕ) (result : Result (Option Post
     pub post : ForList files_before last c (λ _ _ _. PostRises c v reads_before reads_now)
     -- and each page of Post was read at most once since the cursor began
     pub once : ForList files_before last c (λ _ collection t. ReadsOnce (postings collection t) v result)
+    -- so that no more of them were read than the list lies on
+    pub span : ForList files_before last c (λ _ collection t. post_pages v ≤ span_pages collection t)
     -- whatever the parts have, no more pages of Skip were read than the list's entries lie on, and the store's count rose by no more than the cursor's
     pub third : skip_pages v ≤ entries_pages v.skip_at (block_count v.docs)
     pub skips : SkipRises c v reads_before reads_now

@@ -10,7 +10,7 @@ ghost use Rattle.mg_dev.specs.Files.{Reads};
 ghost use Rattle.mg_defs.specs.PageBounds.{pages_for};
 ghost use Rattle.mg_post.specs.Cursor.{CursorFits, Cursoring, CursorStands, ReadsTwo, SameList, StandsAt, entered_pages, post_pages, WhereSameLists};
 ghost use Rattle.mg_post.specs.Finding.{entries_pages};
-ghost use Rattle.mg_post.specs.PagesOnce.{front_pages};
+ghost use Rattle.mg_post.specs.PagesOnce.{front_pages, span_pages};
 ghost use Rattle.mg_post.specs.TermLists.{CursorFor, EnteredFor, ForCalls, IsAmong, KeepsEntered, MostEntered, all_met, PostRises};
 ghost use Rattle.mg_post.specs.Writing.{Listing, Took, WhereSameFiles};
 ghost use Rattle.mg_post.specs.Laws.{ForHeld, WhereFew, WhereListsHeld, TermListStands, StandsAmong};
@@ -103,11 +103,13 @@ pub fn cursor_pages_are_within()
 {}
 
 /// A cursor over the list of a term has read no page of Post twice: no more pages than lie from the
-/// list's first bit to the last bit of the blocks that it reached.
+/// list's first bit to the last bit of the blocks that it reached, and so no more than the list lies on.
 pub fn each_page_is_read_once()
-    ensures { (base collection asked t : List ℕ) (n : ℕ) (c : Cursoring) →
+    ensures reached { (base collection asked t : List ℕ) (n : ℕ) (c : Cursoring) →
         CursorFor base collection asked t n c →
         post_pages c ≤ front_pages c c.reached (postings collection t) }
+    ensures span { (base collection asked t : List ℕ) (n : ℕ) (c : Cursoring) →
+        CursorFor base collection asked t n c → post_pages c ≤ span_pages collection t }
 {}
 
 /// What a writer took stays, and it may write on, as long as its two files do: calls that write

@@ -5,7 +5,8 @@ use Rattle.mg_post.specs.Stands.{SkipStands}
 use Rattle.mg_post.specs.Finding.{LacksAnEntry, LacksLast, TellsBefore, TellsBlock, TellsLast}
 use Rattle.mg_post.specs.declared.find.Found.{Found}
 use Rattle.mg_post.proofs.ReadLaws.{any_refused}
-use Rattle.mg_post.proofs.FindLaws.{any_cause, damaged_weaker, lacks_on, lacks_wider, page_answer, page_between, reads_now, reads_to, reads_same, tells_next, tells_on, within_entries, reads_at, reads_within}
+use Rattle.mg_post.proofs.FindLaws.{any_cause, damaged_weaker, lacks_on, lacks_wider, page_answer, page_between, reads_now}
+use Rattle.mg_post.proofs.FindLaws.{reads_to, reads_same, tells_next, tells_on, within_entries, reads_at, reads_within}
 use Rattle.mg_post.proofs.find.find_block.Goals as goal
 
 pub loop-low-preserved : goal.loop-low-preserved

@@ -3,7 +3,8 @@ use Rattle.mg_bits.proofs.CallerLemmas.{read_more, same_told}
 use Rattle.mg_defs.specs.Answers.{UpTo}
 use Rattle.mg_defs.specs.Codes.{gamma, golomb}
 use Rattle.mg_defs.proofs.StandLists.{length_posting}
-use Rattle.mg_post.proofs.ReadLaws.{code_stands, code_told, posting_stands, gap_got, gap_refused, freq_got, gap_pages, freq_pages, posting_pages, posting_pages_more, same_posting, posting_length, refused_posting}
+use Rattle.mg_post.proofs.ReadLaws.{code_stands, code_told, posting_stands, gap_got, gap_refused, freq_got, gap_pages}
+use Rattle.mg_post.proofs.ReadLaws.{freq_pages, posting_pages, posting_pages_more, same_posting, posting_length, refused_posting}
 use Rattle.mg_post.proofs.read.read_posting.Goals as goal
 use Rattle.mg_post.proofs.read.read_posting.Goals.{then-before-all-via-then-before-all, then-before-all-via-else-before-all+then-start-gt-LAST}
 
