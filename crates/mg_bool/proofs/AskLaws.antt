@@ -16,10 +16,14 @@ use Rattle.mg_defs.specs.Weights.{has_term}
 use Rattle.mg_defs.specs.Lists.{postings, from_doc}
 use Rattle.mg_defs.specs.PageBounds.{pages_for}
 use Rattle.mg_laws.proofs.LedLists.{first_of, is_number, length_postings, posting_is}
+use Rattle.mg_post.proofs.CallerLemmas.{cursor_later}
+use Rattle.mg_post.specs.PagesOnce.{span_pages}
 use Rattle.mg_post.specs.Answers.{AnswersList}
 use Rattle.mg_post.specs.Cursor.{Cursoring, head_of, post_pages}
 use Rattle.mg_post.specs.TermLists.{CursorFor, ListsStand, PagesWithin}
-use Rattle.mg_bool.specs.Places.{AnswersAll, AnswersPlace, AreInfos, AsksAll, AsksPlace, Asking, IsToldOf, Place, PlaceFits, PlaceFor, PlaceOn, PlacesFit, PlacesFor, PlacesOn, SamePlace, SamePlaces, number_in, pages_read, place_pages, is_first}
+use Rattle.mg_bool.specs.Places.{AnswersAll, AnswersPlace, AreInfos, AsksAll, AsksPlace, Asking, IsToldOf, Place, PlaceFits, PlaceFor}
+use Rattle.mg_bool.specs.Places.{PlaceOn, PlacesFit, PlacesFor, PlacesOn, SamePlace, SamePlaces, number_in, pages_read, place_pages, is_first}
+use Rattle.mg_bool.specs.Calls.{SkipsWithin, place_skips, skips_read}
 use Rattle.mg_bool.specs.Shown.{IsListOf, PlaceStands}
 
 -- a refusal is a device's, whatever the answer is about
@@ -130,17 +134,7 @@ on_still base all xs ys same on = record { each = λ k. on_same base all (slice_
 
 place_later : (base collection asked t : List ℕ) (m n : ℕ) (p : Place) → m ≤ n → PlaceFor base collection asked t m p → PlaceFor base collection asked t n p
 place_later base collection asked t m n None le f = f
-place_later base collection asked t m n (Some c) le f = record {
-  number = f.number;
-  term = f.term;
-  over = f.over;
-  parameter = f.parameter;
-  reached_doc = f.reached_doc;
-  early = omega (arith, f.early, le);
-  at = f.at;
-  first = f.first;
-  within = f.within;
-}
+place_later base collection asked t m n (Some c) le f = cursor_later base collection asked t m n c le f
 
 pub places_later : (base collection asked : List ℕ) (ts : List (List ℕ)) (m n : ℕ) (places : List Place) → m ≤ n → PlacesFor base collection asked ts m places →
     PlacesFor base collection asked ts n places
@@ -221,6 +215,18 @@ sums_within f (p ∷ places) [] size each = absurd (omega (arith, size))
 sums_within f (p ∷ places) (t ∷ ts) size each =
     omega (arith, sum_by-cons place_pages p places, sum_by-cons f t ts, each 0 (omega arith), sums_within f places ts (omega (arith, size)) (λ k lt. each (suc k) (omega (arith, lt))))
 
+place_span : (base collection asked t : List ℕ) (n : ℕ) (p : Place) → PlaceFor base collection asked t n p →
+    ((c : Cursoring) → CursorFor base collection asked t n c → post_pages c ≤ span_pages collection t) → place_pages p ≤ span_pages collection t
+place_span base collection asked t n None f law = omega arith
+place_span base collection asked t n (Some c) f law = law c f
+
+-- the pages on which their lists lie, where mg_post says so of one cursor
+pub places_span : (base collection asked : List ℕ) (ts : List (List ℕ)) (n : ℕ) (places : List Place) →
+    ((base collection asked t : List ℕ) (n : ℕ) (c : Cursoring) → CursorFor base collection asked t n c → post_pages c ≤ span_pages collection t) →
+    PlacesFor base collection asked ts n places → pages_read places ≤ sum_by (span_pages collection) ts
+places_span base collection asked ts n places law f = sums_within (span_pages collection) places ts f.size
+    (λ k lt. place_span base collection asked (get_or ts k []) n (slice_index_or places k None) (f.each k lt) (law base collection asked (get_or ts k []) n))
+
 -- what mg_post says of the pages of one cursor
 abbrev pub CursorsWithin : Type 0
 CursorsWithin = (base collection asked t : List ℕ) (n : ℕ) (c : Cursoring) → CursorFor base collection asked t n c → post_pages c ≤ pages_for collection asked t
@@ -280,6 +286,7 @@ pub record PlaceMade (base : List ℕ) (all : ℕ) (info : Option TermInfo) (p :
   pub list : IsListOf base info all p
   pub stands : (files : Option Files) (n : ℕ) → PlaceStands p files n
   pub nothing : place_pages p ≡ 0
+  pub unread : place_skips p ≡ 0
 
 pub record PlacesMade (base : List ℕ) (all : ℕ) (infos : List (Option TermInfo)) (count : ℕ) (places : List Place) : Type 0 where
   pub size : length places ≡ count
@@ -320,6 +327,16 @@ made_on base all infos count places m = record { each = at }
 none_read : (places : List Place) → ((k : ℕ) → k < length places → place_pages (slice_index_or places k None) ≡ 0) → pages_read places ≡ 0
 none_read [] none = refl
 none_read (p ∷ places) none = omega (arith, sum_by-cons place_pages p places, none 0 (omega arith), none_read places (λ k lt. none (suc k) (omega (arith, lt))))
+
+pub made_unread : (base : List ℕ) (all : ℕ) (infos : List (Option TermInfo)) (count : ℕ) (places : List Place) → PlacesMade base all infos count places → skips_read places ≡ 0
+made_unread base all infos count places m = none_skipped places (λ k lt. (m.each k (omega (arith, lt, m.size))).unread)
+  where
+    none_skipped : (ps : List Place) → ((k : ℕ) → k < length ps → place_skips (slice_index_or ps k None) ≡ 0) → skips_read ps ≡ 0
+    none_skipped [] none = refl
+    none_skipped (p ∷ ps) none = omega (arith, sum_by-cons place_skips p ps, none 0 (omega arith), none_skipped ps (λ k lt. none (suc k) (omega (arith, lt))))
+
+pub made_within : (base : List ℕ) (all : ℕ) (infos : List (Option TermInfo)) (count : ℕ) (places : List Place) → PlacesMade base all infos count places → SkipsWithin places
+made_within base all infos count places m = λ k lt. omega (arith, (m.each k (omega (arith, lt, m.size))).unread)
 
 pub made_nothing : (base : List ℕ) (all : ℕ) (infos : List (Option TermInfo)) (count : ℕ) (places : List Place) → PlacesMade base all infos count places → pages_read places ≡ 0
 made_nothing base all infos count places m = none_read places (λ k lt. (m.each k (omega (arith, lt, m.size))).nothing)

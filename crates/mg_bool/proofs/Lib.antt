@@ -1,5 +1,6 @@
 mod LeadLaws
 mod AskLaws
+mod CallLaws
 mod AnyLaws
 mod FirstLaws
 mod NextLaws

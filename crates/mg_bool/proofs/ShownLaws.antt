@@ -1,5 +1,6 @@
 -- What a walk decides is shown by the parts of its lists.
-use Rattle.std.proofs.Common.{arith, ◌≡◌, ◌+◌, ◌≤◌, ◌<◌, ℕ, zero, suc, Bool, true, false, not, ◌&&◌, ◌||◌, List, [], ◌∷◌, length, drop, get_or, refl, sym, ap, subst, ◌∙◌, inl, inr, Option, Some, None, Ok, Err}
+use Rattle.std.proofs.Common.{arith, ◌≡◌, ◌+◌, ◌≤◌, ◌<◌, ℕ, zero, suc, Bool, true, false, not, ◌&&◌, ◌||◌, List, []}
+use Rattle.std.proofs.Common.{◌∷◌, length, drop, get_or, refl, sym, ap, subst, ◌∙◌, inl, inr, Option, Some, None, Ok, Err}
 use Rattle.std.specs.Prelude.{IfOk, IfSome, Result, ◌==◌, if◌then◌else◌, slice_index_or, slice_set, unwrap_or}
 use Rattle.std.proofs.Math.Seq.{drop-nil}
 use Rattle.std.proofs.lemmas.Bool.{cases_lt, cases_eq, eq-eqb, ne_eqb}
@@ -15,7 +16,8 @@ use Rattle.mg_post.specs.Cursor.{Cursoring, SameList}
 use Rattle.mg_post.proofs.CallerLemmas.{first_low, first_same, stands_later}
 use Rattle.mg_bool.specs.Places.{FirstOf, IsInRange, IsNoLater, Place, SamePlace, SamePlaces, TakesFound, is_first, nth_place, number_in}
 use Rattle.mg_bool.specs.Matches.{Matching}
-use Rattle.mg_bool.specs.Shown.{AllAsked, AnswersShown, AreLists, DecidesShown, FirstAsked, IsPassed, IsShown, PlaceAsked, PlaceShows, PlaceStands, PlacesStand, ShowsCandidate, ShowsFirstOf, ShowsWhether, WalkStands}
+use Rattle.mg_bool.specs.Shown.{AllAsked, AnswersShown, AreLists, DecidesShown, FirstAsked, IsPassed, IsShown, PlaceAsked}
+use Rattle.mg_bool.specs.Shown.{PlaceShows, PlaceStands, PlacesStand, ShowsCandidate, ShowsFirstOf, ShowsWhether, WalkStands}
 use Rattle.mg_bool.proofs.AskLaws.{PlacesMade, old_is, set_self}
 
 -- ---- one place

@@ -11,42 +11,14 @@ use Rattle.mg_defs.specs.PageBounds.{asked_of, boolean_bound}
 use Rattle.mg_query.specs.Holds.{AreThere, holds}
 use Rattle.mg_post.specs.Answers.{AnswersList}
 use Rattle.mg_post.specs.Cursor.{NamesItsPart}
-use Rattle.mg_post.specs.TermLists.{ReadsLists}
-use Rattle.mg_bool.specs.Places.{AnswersFirst, AsksAll, FindsFirst, Place, PlacesAnswer, PlacesFit, PlacesFor, PlacesRead, SamePlaces, pages_read}
+use Rattle.mg_bool.specs.Places.{AnswersFirst, AsksAll, FindsFirst, Place, PlacesAnswer, PlacesFit, PlacesFor, PlacesRead, pages_read}
 use Rattle.mg_bool.specs.Matches.{FindsCandidate, GoesOver, IsNext, IsNextDoc, Leads, ReadsBetween, left_in}
 use Rattle.mg_bool.specs.Walked.{IsReady, Spot, Walked}
 use Rattle.mg_bool.proofs.ShownLaws.{NextShown, Passes, passes_miss, passes_on, passes_start, shown_end, shown_hit}
-use Rattle.mg_bool.proofs.AskLaws.{CursorsWithin, err_answer, places_later, same_all, same_then}
+use Rattle.mg_bool.proofs.AskLaws.{CursorsWithin, err_answer, places_later, same_then}
+use Rattle.mg_bool.proofs.CallLaws.{Stepped, caused_at, lists_on, skips_on, stepped_none, stepped_on}
 use Rattle.mg_bool.proofs.AnyLaws.{any_asks, first_is_next}
 use Rattle.mg_bool.proofs.NextLaws.{Going, going_end, going_hit, going_miss, going_none, going_pages, going_start, goes_now, next_asks, pages_more, stands_now, sum_pages}
-
--- ---- one call after another
-
-lists_on : {a b c : Reads} → ReadsLists a b → ReadsLists b c → ReadsLists a c
-lists_on one two = record {
-  later = λ p. omega (arith, one.later p, two.later p);
-  others = λ p a b. two.others p a b ∙ one.others p a b;
-}
-
-caused_at : {T V : Type 0} (a b c : ℕ) (e : PartErr) → a ≤ b → HasPartCause {T = T} b c (Err e) → HasPartCause {T = V} a c (Err e)
-caused_at a b c err.Device le is = record { later = omega (arith, le, is.later); device = omega (arith, le, is.device) }
-caused_at a b c err.Memory le is = record { later = omega (arith, le, is.later); device = tt }
-caused_at a b c (err.Bad bad) le is = record { later = omega (arith, le, is.later); device = tt }
-
--- what the calls that ask the places do to them and to the store
-pub record Stepped (old now : List Place) (files_before files_now : Option Files) (reads_before reads_now : Reads) (faults_before faults_now : ℕ) : Type 0 where
-  pub same : SamePlaces old now
-  pub files : files_now ≡ files_before
-  pub reads : ReadsLists reads_before reads_now
-  pub faults : faults_before ≤ faults_now
-
-pub stepped_on : {a b c : List Place} {f g h : Option Files} {r s t : Reads} {l m n : ℕ} → Stepped a b f g r s l m → Stepped b c g h s t m n → Stepped a c f h r t l n
-stepped_on {a} {b} {c} one two = record {
-  same = same_then a b c one.same two.same;
-  files = two.files ∙ one.files;
-  reads = lists_on one.reads two.reads;
-  faults = omega (arith, one.faults, two.faults);
-}
 
 -- ---- as far as it has come
 
@@ -63,7 +35,7 @@ pub record Under (q : Query) (led : Option ℕ) (all : ℕ) (old now : Spot) (fi
 pub under_start : (q : Query) (led : Option ℕ) (all : ℕ) (old : Spot) (files : Option Files) (reads : Reads) (faults : ℕ) → IsReady files led all old →
     Under q led all old old files files reads reads faults faults
 under_start q led all old files reads faults ready = record {
-  step = record { same = same_all old.places; files = refl; reads = record { later = λ p. omega arith; others = λ p a b. refl }; faults = omega arith };
+  step = stepped_none old.places files reads faults;
   fits = ready.fits;
   there = refl;
   most = ready.most;
@@ -100,6 +72,7 @@ module _ {q : Query} {led : Option ℕ} {all : ℕ} {old mid : Spot} {f g : Opti
     shows = shown_end le u.shows;
     part = tt;
     reads = u.step.reads;
+    skips = u.step.skips;
     files = u.step.files;
     memory = λ e. cc;
     cause = record { later = u.step.faults; device = tt };
@@ -129,6 +102,7 @@ module _ {q : Query} {led : Option ℕ} {all : ℕ} {old mid : Spot} {f g : Opti
       shows = λ stands. tt;
       part = part;
       reads = lists_on u.step.reads step.reads;
+      skips = skips_on u.step.skips step.skips;
       files = step.files ∙ u.step.files;
       memory = λ is. memory cc;
       cause = caused_at l k n e le cause;
@@ -154,6 +128,7 @@ module _ {q : Query} {led : Option ℕ} {all : ℕ} {old mid : Spot} {f g : Opti
       shows = shown_end (omega arith) (passes_on u.step.same u.step.files u.shows passes);
       part = tt;
       reads = lists_on u.step.reads step.reads;
+      skips = skips_on u.step.skips step.skips;
       files = step.files ∙ u.step.files;
       memory = λ is. cc;
       cause = record { later = omega (arith, u.step.faults, step.faults); device = tt };
@@ -178,6 +153,7 @@ module _ {q : Query} {led : Option ℕ} {all : ℕ} {old mid : Spot} {f g : Opti
         shows = shown_hit u.step.same u.step.files u.shows next hit;
         part = tt;
         reads = lists_on u.step.reads step.reads;
+        skips = skips_on u.step.skips step.skips;
         files = step.files ∙ u.step.files;
         memory = λ is. cc;
         cause = record { later = omega (arith, u.step.faults, step.faults); device = tt };

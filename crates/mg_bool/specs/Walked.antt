@@ -8,6 +8,7 @@ use Rattle.mg_defs.specs.Sat.{Query}
 use Rattle.mg_post.specs.Cursor.{NamesItsPart}
 use Rattle.mg_post.specs.TermLists.{ReadsLists}
 use Rattle.mg_bool.specs.Places.{Place, PlacesFit, PlacesOn, SamePlaces}
+use Rattle.mg_bool.specs.Calls.{PlacesSkip}
 use Rattle.mg_bool.specs.Matches.{FindsNext, IsWithin, ReadsBetween}
 use Rattle.mg_bool.specs.Shown.{DecidesShown, WalkStands}
 use Rattle.mg_bool.specs.declared.walk.Walk.{Walk}
@@ -48,6 +49,8 @@ pub record Walked (q : Query) (led : Option ℕ) (all : ℕ) (old now : Spot) (r
         × WalkStands q files_now now.places now.decided)
     pub part : IfErr result NamesItsPart
     pub reads : ReadsLists reads_before reads_now
+    -- and of Skip no more than the entries of the lists lie on
+    pub skips : PlacesSkip old.places now.places reads_before reads_now
     pub files : files_now ≡ files_before
     pub memory : result ≢ Err err.Memory
     pub cause : HasPartCause faults_before faults_now result

@@ -1,16 +1,35 @@
 //! The laws of the documents that satisfy a query.
-ghost use Rattle.std.specs.Prelude.{◌≡◌, ℕ, List, Option};
+ghost use Rattle.std.specs.Prelude.{◌≡◌, ◌≤◌, ℕ, List, Option, sum_by};
 ghost use Rattle.mg_dev.specs.Files.{Files};
 ghost use Rattle.mg_query.specs.QueryOf.{query_of};
+ghost use Rattle.mg_post.specs.PagesOnce.{span_pages};
+ghost use Rattle.mg_defs.specs.QueryTerms.{query_terms};
 ghost use Rattle.mg_defs.specs.ShownAnswers.{satisfying};
-ghost use Rattle.mg_bool.specs.Matches.{MatchesFit, Matching, left_of, WhereListsStay};
+ghost use Rattle.mg_bool.specs.Calls.{SkipsWithin, entries_of, skips_read};
+ghost use Rattle.mg_bool.specs.Places.{Place, pages_read};
+ghost use Rattle.mg_bool.specs.Matches.{MatchesFit, MatchesOver, Matching, left_of, WhereListsStay};
 
-use mg_post::cursor_still_fits;
+use mg_post::{cursor_still_fits, each_page_is_read_once};
 
 /// Before the first document is answered, all that satisfy the query are to come.
 pub fn all_are_to_come()
     ensures { (collection : List ℕ) (m : Matching) → m.decided ≡ 0 →
         left_of collection m ≡ satisfying collection (query_of m.asks) }
+{}
+
+/// At each place of a query no page of Post was read twice: no more pages than the lists of the
+/// query's terms lie on.
+pub fn matches_read_each_page_once()
+    ensures { (base collection : List ℕ) (m : Matching) → MatchesOver base collection m →
+        pages_read m.places ≤ sum_by (span_pages collection) (query_terms (query_of m.asks)) }
+{
+    each_page_is_read_once();
+}
+
+/// Where each cursor has read no more of Skip than the entries of its list lie on, all have read no
+/// more than the sum of these.
+pub fn skips_are_within()
+    ensures { (places : List Place) → SkipsWithin places → skips_read places ≤ entries_of places }
 {}
 
 /// What was kept agrees with the two parts as long as these stay as they are: other files may change.

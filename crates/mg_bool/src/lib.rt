@@ -19,5 +19,5 @@ mod places;
 mod walk;
 mod word;
 
-pub use laws::{all_are_to_come, matches_still_fit};
+pub use laws::{all_are_to_come, matches_read_each_page_once, matches_still_fit, skips_are_within};
 pub use matches::Matches;

@@ -7,6 +7,7 @@ ghost use Rattle.mg_query.specs.QueryOf.{query_of};
 ghost use Rattle.mg_post.specs.Answers.{AnswersList};
 ghost use Rattle.mg_post.specs.Cursor.{NamesItsPart};
 ghost use Rattle.mg_post.specs.TermLists.{ReadsLists};
+ghost use Rattle.mg_bool.specs.Calls.{PlacesSkip, SkipsWithin, skips_read};
 ghost use Rattle.mg_bool.specs.Places.{pages_read};
 ghost use Rattle.mg_bool.specs.Matches.{MatchesFit, SameMatches, StartsMatches, ForMatches, MatchesGoOn, MatchesRead};
 ghost use Rattle.mg_bool.specs.Leads.{NeedsPlace};
@@ -85,6 +86,8 @@ impl<'a, S: Store> Matches<'a, S> {
         ensures needs { IfOk result (λ m. IfSome m.lead (NeedsPlace (query_of query.entry.now))) }
         ensures stands { IfOk result (λ m. (files : Option Files) → MatchesStand files m) }
         ensures nothing { IfOk result (λ m. pages_read m.places ≡ 0) }
+        ensures unread { IfOk result (λ m. skips_read m.places ≡ 0) }
+        ensures within { IfOk result (λ m. SkipsWithin m.places) }
     {
         let places = start_all(alloc, base, infos, all)?;
         let there = none_there(alloc, infos.len())?;
@@ -114,6 +117,9 @@ impl<'a, S: Store> Matches<'a, S> {
         ensures pages { ForMatches (S.files store.old) self.old
             (λ _ collection. MatchesRead collection self.old self.new (S.reads store.old)
             (S.reads store.new)) }
+        // Whatever the parts have, of Skip no more is read than the lists' entries lie on.
+        ensures skips { PlacesSkip self.old.places self.new.places (S.reads store.old)
+            (S.reads store.new) }
         // Whatever the parts have, each document is decided by blocks that stand.
         ensures shows { AnswersShown (S.files store.old) (S.files store.new) self.old self.new
             result }

@@ -1,12 +1,10 @@
 //! The next document that satisfies a query.
-ghost use Rattle.std.specs.Prelude.{◌≡◌, ◌≢◌, ℕ, ◌+◌, ◌<◌, List, Err, IfErr, IfOk, IfSome, OnOk, length};
+ghost use Rattle.std.specs.Prelude.{◌≡◌, ℕ, ◌+◌, ◌<◌, List, IfOk, IfSome, length};
 ghost use Rattle.mg_dev.specs.Moments.{Between};
-ghost use Rattle.mg_dev.specs.PartCauses.{HasPartCause};
 ghost use Rattle.mg_defs.specs.Sat.{Query as Meant};
 ghost use Rattle.mg_query.specs.QueryOf.{query_of};
-ghost use Rattle.mg_post.specs.Cursor.{NamesItsPart};
-ghost use Rattle.mg_post.specs.TermLists.{ReadsLists};
-ghost use Rattle.mg_bool.specs.Places.{IsInRange, PlacesFit, PlacesOn, SamePlaces};
+ghost use Rattle.mg_bool.specs.Calls.{PlacesCall};
+ghost use Rattle.mg_bool.specs.Places.{IsInRange, PlacesFit, PlacesOn};
 ghost use Rattle.mg_bool.specs.Matches.{IsWithin, FindsCandidate, ReadsNext};
 ghost use Rattle.mg_bool.specs.Shown.{PlacesStand, ShowsCandidate};
 ghost use Rattle.mg_bool.specs.Walked.{IsReady, Walked, spot};
@@ -33,8 +31,8 @@ fn candidate<S: Store>(
     requires lead { IsWithin lead (length places.old.items) }
     requires more { decided < all }
     ensures range { IfOk result (λ found. IfSome found (IsInRange (decided + 1) all)) }
-    ensures same { SamePlaces places.old.items places.new.items }
-    ensures fits { OnOk result (PlacesFit (S.files store.new) places.new.items) }
+    ensures call { Between S.files S.reads S.faults store.old store.new
+        (PlacesCall places.old.items places.new.items result) }
     ensures answer { (q : Meant) → FindsCandidate q (S.files store.old) lead all places.old.items
         places.new.items decided result }
     ensures pages { (q : Meant) → ReadsNext q S.files S.reads store.old store.new lead all
@@ -42,11 +40,6 @@ fn candidate<S: Store>(
     ensures shows { PlacesStand (S.files store.old) places.old.items (decided + 1) →
         IfOk result (λ found. ShowsCandidate (S.files store.old) places.old.items lead decided found
         × PlacesStand (S.files store.new) places.new.items (decided + 1)) }
-    ensures part { IfErr result NamesItsPart }
-    ensures reads { ReadsLists (S.reads store.old) (S.reads store.new) }
-    ensures files { S.files store.new ≡ S.files store.old }
-    ensures memory { result ≢ Err PartErr.Memory }
-    ensures cause { HasPartCause (S.faults store.old) (S.faults store.new) result }
 {
     cursor_pages_are_within();
     let Some(place) = lead else {

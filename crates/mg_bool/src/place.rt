@@ -1,10 +1,10 @@
 //! The place of a term in a query.
-ghost use Rattle.std.specs.Prelude.{◌≡◌, ◌≢◌, ℕ, ◌≤◌, List, Option, Some, Err, IfErr, IfOk, IfSome, OnOk};
+ghost use Rattle.std.specs.Prelude.{◌≡◌, ℕ, ◌≤◌, List, Option, Some, IfOk, IfSome};
 ghost use Rattle.mg_dev.specs.Files.{Files};
-ghost use Rattle.mg_dev.specs.PartCauses.{HasPartCause};
-ghost use Rattle.mg_post.specs.Cursor.{CursorFits, NamesItsPart, SameList};
-ghost use Rattle.mg_post.specs.TermLists.{ReadsLists};
-ghost use Rattle.mg_bool.specs.Places.{IsInRange, PlaceFits, PlaceOn, SamePlace, place_pages};
+ghost use Rattle.mg_dev.specs.Moments.{Between};
+ghost use Rattle.mg_post.specs.Cursor.{CursorFits};
+ghost use Rattle.mg_bool.specs.Calls.{PlaceCall, place_skips};
+ghost use Rattle.mg_bool.specs.Places.{IsInRange, PlaceFits, PlaceOn, place_pages};
 ghost use Rattle.mg_bool.specs.Places.{StartsPlace, CursorAnswers, CursorReads, PlaceAnswers, PlaceReads};
 ghost use Rattle.mg_bool.specs.Shown.{IsListOf, PlaceAsked, PlaceStands};
 
@@ -38,19 +38,14 @@ fn ask_cursor<S: Store>(
 ) -> Result<Option<u32>, PartErr>
     requires fits { CursorFits cursor.old (S.files store.old) }
     requires some { 1 ≤ doc }
-    ensures fits { OnOk result (CursorFits cursor.new (S.files store.new)) }
-    ensures same { SameList cursor.old cursor.new }
+    ensures call { Between S.files S.reads S.faults store.old store.new
+        (PlaceCall (Some cursor.old) (Some cursor.new) result) }
     ensures answer { CursorAnswers doc (S.files store.old) cursor.old cursor.new result }
     ensures pages { CursorReads doc (S.files store.old) cursor.old cursor.new (S.reads store.old)
         (S.reads store.new) }
     ensures shows { PlaceAsked (Some cursor.old) (Some cursor.new) (S.files store.old)
         (S.files store.new) doc result }
     ensures range { IfOk result (λ found. IfSome found (IsInRange doc cursor.old.all)) }
-    ensures part { IfErr result NamesItsPart }
-    ensures reads { ReadsLists (S.reads store.old) (S.reads store.new) }
-    ensures files { S.files store.new ≡ S.files store.old }
-    ensures memory { result ≢ Err PartErr.Memory }
-    ensures cause { HasPartCause (S.faults store.old) (S.faults store.new) result }
 {
     match cursor.ask(store, doc) {
         Ok(Some(posting)) => Ok(Some(posting.doc)),
@@ -73,6 +68,7 @@ impl<'a, S: Store> Place<'a, S> {
         ensures list { IfOk result (IsListOf base.entry.now info.now all) }
         ensures stands { IfOk result (λ p. (files : Option Files) (n : ℕ) → PlaceStands p files n) }
         ensures nothing { IfOk result (λ p. place_pages p ≡ 0) }
+        ensures unread { IfOk result (λ p. place_skips p ≡ 0) }
     {
         match info {
             Some(info) => match Cursor::start(alloc, base, info, all) {
@@ -90,8 +86,8 @@ impl<'a, S: Store> Place<'a, S> {
     pub(crate) fn ask(&mut self, store: &mut S, doc: u32) -> Result<Option<u32>, PartErr>
         requires fits { PlaceFits (S.files store.old) self.old }
         requires some { 1 ≤ doc }
-        ensures fits { OnOk result (PlaceFits (S.files store.new) self.new) }
-        ensures same { SamePlace self.old self.new }
+        ensures call { Between S.files S.reads S.faults store.old store.new
+            (PlaceCall self.old self.new result) }
         ensures answer { PlaceAnswers doc (S.files store.old) self.old self.new result }
         ensures pages { PlaceReads doc (S.files store.old) self.old self.new (S.reads store.old)
             (S.reads store.new) }
@@ -99,11 +95,6 @@ impl<'a, S: Store> Place<'a, S> {
             result }
         ensures range { (base : List ℕ) (all : ℕ) → PlaceOn base all self.old →
             IfOk result (λ found. IfSome found (IsInRange doc all)) }
-        ensures part { IfErr result NamesItsPart }
-        ensures reads { ReadsLists (S.reads store.old) (S.reads store.new) }
-        ensures files { S.files store.new ≡ S.files store.old }
-        ensures memory { result ≢ Err PartErr.Memory }
-        ensures cause { HasPartCause (S.faults store.old) (S.faults store.new) result }
     {
         let Some(cursor) = &mut self.cursor else {
             return Ok(None);

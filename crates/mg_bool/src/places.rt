@@ -1,11 +1,10 @@
 //! All places of a query.
-ghost use Rattle.std.specs.Prelude.{◌≡◌, ◌≢◌, ℕ, ◌≤◌, ◌<◌, true, false, List, Option, None, Err, IfErr, IfOk, IfSome, OnOk};
+ghost use Rattle.std.specs.Prelude.{◌≡◌, ℕ, ◌≤◌, ◌<◌, true, false, List, Option, None, IfOk, IfSome};
 ghost use Rattle.std.specs.Prelude.{get_or, length, slice_index_or, slice_set};
 ghost use Rattle.mg_dev.specs.Files.{Files};
-ghost use Rattle.mg_dev.specs.PartCauses.{HasPartCause};
-ghost use Rattle.mg_post.specs.Cursor.{NamesItsPart};
-ghost use Rattle.mg_post.specs.TermLists.{ReadsLists};
-ghost use Rattle.mg_bool.specs.Places.{IsInRange, PlaceOn, PlacesFit, PlacesOn, SamePlaces, pages_read, PlaceAnswers, PlaceReads, nth_place};
+ghost use Rattle.mg_dev.specs.Moments.{Between};
+ghost use Rattle.mg_bool.specs.Calls.{PlacesCall, SkipsWithin, skips_read};
+ghost use Rattle.mg_bool.specs.Places.{IsInRange, PlaceOn, PlacesFit, PlacesOn, pages_read, PlaceAnswers, PlaceReads, nth_place};
 ghost use Rattle.mg_bool.specs.Places.{StartPlaces, PlacesAnswer, PlacesRead, FindsFirst, TakesFound, comes_sooner, is_first};
 ghost use Rattle.mg_bool.specs.Shown.{AllAsked, AreLists, FirstAsked, PlaceAsked, PlacesStand};
 
@@ -38,8 +37,8 @@ pub(crate) fn ask_at<S: Store>(
     requires some { 1 ≤ doc }
     ensures places { places.new.items ≡ slice_set places.old.items i
         (slice_index_or places.new.items i None) }
-    ensures same { SamePlaces places.old.items places.new.items }
-    ensures fits { OnOk result (PlacesFit (S.files store.new) places.new.items) }
+    ensures call { Between S.files S.reads S.faults store.old store.new
+        (PlacesCall places.old.items places.new.items result) }
     ensures answer { PlaceAnswers doc (S.files store.old) (nth_place places.old.items i)
         (nth_place places.new.items i) result }
     ensures pages { PlaceReads doc (S.files store.old) (nth_place places.old.items i)
@@ -48,11 +47,6 @@ pub(crate) fn ask_at<S: Store>(
         (S.files store.old) (S.files store.new) doc result }
     ensures range { (base : List ℕ) (all : ℕ) → PlaceOn base all (nth_place places.old.items i) →
         IfOk result (λ found. IfSome found (IsInRange doc all)) }
-    ensures part { IfErr result NamesItsPart }
-    ensures reads { ReadsLists (S.reads store.old) (S.reads store.new) }
-    ensures files { S.files store.new ≡ S.files store.old }
-    ensures memory { result ≢ Err PartErr.Memory }
-    ensures cause { HasPartCause (S.faults store.old) (S.faults store.new) result }
 {
     let place = &mut places[i];
     place.ask(store, doc)
@@ -69,19 +63,14 @@ pub(crate) fn ask_all<S: Store>(
     requires fits { PlacesFit (S.files store.old) places.old.items }
     requires some { 1 ≤ doc }
     ensures size { length there.new.items ≡ length there.old.items }
-    ensures same { SamePlaces places.old.items places.new.items }
-    ensures fits { OnOk result (PlacesFit (S.files store.new) places.new.items) }
+    ensures call { Between S.files S.reads S.faults store.old store.new
+        (PlacesCall places.old.items places.new.items result) }
     ensures answer { PlacesAnswer doc (S.files store.old) places.old.items places.new.items
         there.new.items result }
     ensures pages { PlacesRead doc (S.files store.old) places.old.items places.new.items
         (S.reads store.old) (S.reads store.new) }
     ensures shows { AllAsked places.old.items places.new.items (S.files store.old)
         (S.files store.new) doc there.new.items result }
-    ensures part { IfErr result NamesItsPart }
-    ensures reads { ReadsLists (S.reads store.old) (S.reads store.new) }
-    ensures files { S.files store.new ≡ S.files store.old }
-    ensures memory { result ≢ Err PartErr.Memory }
-    ensures cause { HasPartCause (S.faults store.old) (S.faults store.new) result }
 {
     cursor_pages_are_within();
     for i in 0..places.len() {
@@ -161,8 +150,8 @@ pub(crate) fn ask_first<S: Store>(
     requires fits { PlacesFit (S.files store.old) places.old.items }
     requires some { 1 ≤ from }
     ensures size { length there.new.items ≡ length there.old.items }
-    ensures same { SamePlaces places.old.items places.new.items }
-    ensures fits { OnOk result (PlacesFit (S.files store.new) places.new.items) }
+    ensures call { Between S.files S.reads S.faults store.old store.new
+        (PlacesCall places.old.items places.new.items result) }
     ensures range { (base : List ℕ) (all : ℕ) → PlacesOn base all places.old.items →
         IfOk result (λ first. IfSome first (IsInRange from all)) }
     ensures answer { FindsFirst from (S.files store.old) places.old.items places.new.items
@@ -171,11 +160,6 @@ pub(crate) fn ask_first<S: Store>(
         (S.reads store.old) (S.reads store.new) }
     ensures shows { FirstAsked places.old.items places.new.items (S.files store.old)
         (S.files store.new) from there.new.items result }
-    ensures part { IfErr result NamesItsPart }
-    ensures reads { ReadsLists (S.reads store.old) (S.reads store.new) }
-    ensures files { S.files store.new ≡ S.files store.old }
-    ensures memory { result ≢ Err PartErr.Memory }
-    ensures cause { HasPartCause (S.faults store.old) (S.faults store.new) result }
 {
     cursor_pages_are_within();
     let mut first = None;
@@ -203,6 +187,8 @@ pub(crate) fn start_all<'a, S: Store>(
     ensures stands { IfOk result (λ places. (files : Option Files) (n : ℕ) →
         PlacesStand files places.items n) }
     ensures nothing { IfOk result (λ places. pages_read places.items ≡ 0) }
+    ensures unread { IfOk result (λ places. skips_read places.items ≡ 0) }
+    ensures within { IfOk result (λ places. SkipsWithin places.items) }
 {
     let mut places = Vec::new(alloc);
     for info in infos {

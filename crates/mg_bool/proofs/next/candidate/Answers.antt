@@ -6,13 +6,17 @@ use Rattle.mg_post.specs.Answers.{AnswersList}
 use Rattle.mg_post.specs.TermLists.{PagesWithin}
 use Rattle.mg_bool.specs.Places.{Place, PlacesFor, pages_read}
 use Rattle.mg_bool.specs.Matches.{IsNext, Leads}
-use Rattle.mg_bool.proofs.AskLaws.{answers_more, same_all}
+use Rattle.mg_bool.proofs.AskLaws.{answers_more}
+use Rattle.mg_bool.proofs.CallLaws.{called, stepped_none}
 use Rattle.mg_bool.proofs.ShownLaws.{candidate_asked}
 use Rattle.mg_bool.proofs.NextLaws.{any_next, lead_answer, lead_of, lead_pages, still_pages}
 use Rattle.mg_bool.proofs.next.candidate.Goals as goal
 
-pub returns-in_default-clause-same : goal.returns-in_default-clause-same
-returns-in_default-clause-same g c = same_all c.args.places.now.items
+pub returns-in_default-clause-call : goal.returns-in_default-clause-call
+returns-in_default-clause-call g c = called _ c.requires.fits (stepped_none c.args.places.now.items _ _ _)
+
+pub returns-clause-call : goal.returns-clause-call
+returns-clause-call g c = c.ask_at.ensures.call
 
 pub returns-in_default-clause-answer : goal.returns-in_default-clause-answer
 returns-in_default-clause-answer g c = λ q base collection goes.
@@ -51,4 +55,4 @@ returns-in_default-clause-shows g c = λ stands. (rw c.in_default.is refl, stand
 pub returns-clause-shows : goal.returns-clause-shows
 returns-clause-shows g c =
     candidate_asked c.args.decided (slice_index_or c.ask_at.new.places.items c.in-Some.place None) c.ask_at.result _ c.in-Some.place c.in-Some.is
-    (rw c.in-Some.is at c.requires.lead) c.ask_at.ensures.files c.ask_at.ensures.places c.ask_at.ensures.shows
+    (rw c.in-Some.is at c.requires.lead) c.ask_at.ensures.call.files c.ask_at.ensures.places c.ask_at.ensures.shows

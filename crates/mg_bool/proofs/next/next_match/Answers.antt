@@ -13,7 +13,7 @@ returns-in-Err g c =
     let t = c.in-Term-Some.field-0-0 in
     record {
       fits = tt;
-      same = e.same;
+      same = e.call.same;
       there = refl;
       most = c.requires.most;
       later = omega arith;
@@ -25,11 +25,12 @@ returns-in-Err g c =
       pages = λ base collection goes. word_pages collection t _ _ _ _ _ (ap query_of c.in-Term-Some.is-0)
           (e.pages t base collection (word_goes base collection t _ _ _ _ c.in-Term-Some.place _ _ (ap query_of c.in-Term-Some.is-0) c.in-Term-Some.is-1 goes));
       shows = λ stands. tt;
-      part = e.part;
-      reads = e.reads;
-      files = e.files;
-      memory = e.memory;
-      cause = e.cause;
+      part = e.call.part;
+      reads = e.call.reads;
+      skips = e.call.skips;
+      files = e.call.files;
+      memory = e.call.memory;
+      cause = e.call.cause;
     }
 
 pub returns-then-walk-asks : goal.returns-then-walk-asks
@@ -38,8 +39,8 @@ returns-then-walk-asks g c =
     let t = c.in-Term-Some.field-0-0 in
     let w = word_range c.in-Ok.found c.args.walk.now.decided c.args.asks.now.all c.unwrap_or-walk.result c.if-walk-asks.true e.range c.unwrap_or-walk.ensures in
     record {
-      fits = e.fits;
-      same = e.same;
+      fits = e.call.fits;
+      same = e.call.same;
       there = refl;
       most = w.0;
       later = w.1;
@@ -51,10 +52,11 @@ returns-then-walk-asks g c =
       pages = λ base collection goes. word_pages collection t _ _ _ _ _ (ap query_of c.in-Term-Some.is-0)
           (e.pages t base collection (word_goes base collection t _ _ _ _ c.in-Term-Some.place _ _ (ap query_of c.in-Term-Some.is-0) c.in-Term-Some.is-1 goes));
       shows = word_shown t _ _ c.in-Term-Some.place c.in-Ok.found (ap query_of c.in-Term-Some.is-0) c.in-Term-Some.is-1 (rw c.in-Term-Some.is-1 at c.requires.lead) c.if-walk-asks.true
-          c.unwrap_or-walk.ensures e.range e.same e.shows;
+          c.unwrap_or-walk.ensures e.range e.call.same e.shows;
       part = tt;
-      reads = e.reads;
-      files = e.files;
-      memory = e.memory;
-      cause = e.cause;
+      reads = e.call.reads;
+      skips = e.call.skips;
+      files = e.call.files;
+      memory = e.call.memory;
+      cause = e.call.cause;
     }

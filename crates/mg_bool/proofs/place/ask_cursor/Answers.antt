@@ -1,6 +1,7 @@
 use Rattle.std.proofs.Common.{arith, ap, refl, Some, None}
 use Rattle.mg_bool.specs.Places.{number_in}
 use Rattle.mg_bool.proofs.AskLaws.{err_answer}
+use Rattle.mg_bool.proofs.CallLaws.{cursor_called, cursor_refused}
 use Rattle.mg_bool.proofs.place.ask_cursor.Goals as goal
 
 pub returns-in-Ok-Some-clause-answer : goal.returns-in-Ok-Some-clause-answer
@@ -28,3 +29,14 @@ returns-in-Ok-None-clause-shows g c = λ stands.
 
 pub returns-in-Err-clause-shows : goal.returns-in-Err-clause-shows
 returns-in-Err-clause-shows g c = λ stands. tt
+
+pub returns-in-Ok-Some-clause-call : goal.returns-in-Ok-Some-clause-call
+returns-in-Ok-Some-clause-call g c = let e = c.in-Ok-Some.ensures in cursor_called _ e.fits e.same e.reads e.third e.skips e.files e.cause.later
+
+pub returns-in-Ok-None-clause-call : goal.returns-in-Ok-None-clause-call
+returns-in-Ok-None-clause-call g c = let e = c.in-Ok-None.ensures in cursor_called _ e.fits e.same e.reads e.third e.skips e.files e.cause.later
+
+pub returns-in-Err-clause-call : goal.returns-in-Err-clause-call
+returns-in-Err-clause-call g c =
+    let e = c.in-Err.ensures in
+    cursor_refused c.in-Err.refusal e.same e.part e.reads e.third e.skips e.files e.memory e.cause

@@ -1,9 +1,12 @@
-use Rattle.mg_bool.proofs.AskLaws.{old_asks, old_on, new_answer, new_pages, new_same}
+use Rattle.mg_bool.proofs.AskLaws.{old_asks, old_on, new_answer, new_pages}
+use Rattle.mg_bool.proofs.CallLaws.{one_called}
 use Rattle.mg_bool.proofs.ShownLaws.{new_asked}
 use Rattle.mg_bool.proofs.places.ask_at.Goals as goal
 
-pub returns-clause-same : goal.returns-clause-same
-returns-clause-same g c = new_same c.args.places.now.items c.args.i c.index_mut-place.result.now c.ask.new.self c.requires.there c.index_mut-place.ensures.value c.ask.ensures.same
+pub returns-clause-call : goal.returns-clause-call
+returns-clause-call g c =
+    one_called c.args.places.now.items c.args.i c.index_mut-place.result.now c.ask.new.self c.requires.there c.index_mut-place.ensures.value c.requires.fits
+    c.ask.ensures.call
 
 pub returns-clause-answer : goal.returns-clause-answer
 returns-clause-answer g c = λ base collection asked t a.

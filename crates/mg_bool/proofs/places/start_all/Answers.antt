@@ -1,5 +1,5 @@
 use Rattle.std.proofs.Common.{arith, refl}
-use Rattle.mg_bool.proofs.AskLaws.{made_next, made_over, made_fits, made_nothing, made_on}
+use Rattle.mg_bool.proofs.AskLaws.{made_next, made_over, made_fits, made_nothing, made_on, made_unread, made_within}
 use Rattle.mg_bool.proofs.ShownLaws.{made_lists, made_stands}
 use Rattle.mg_bool.proofs.places.start_all.Goals as goal
 
@@ -16,6 +16,7 @@ loop-info-preserved g c =
       list = c.in_ok-place.ensures.list;
       stands = c.in_ok-place.ensures.stands;
       nothing = c.in_ok-place.ensures.nothing;
+      unread = c.in_ok-place.ensures.unread;
     }))
 
 pub returns-clause-over : goal.returns-clause-over
@@ -35,3 +36,9 @@ returns-clause-stands g c = made_stands _ _ _ _ _ c.loop-info.invariant
 
 pub returns-clause-lists : goal.returns-clause-lists
 returns-clause-lists g c = made_lists _ _ _ _ _ c.loop-info.invariant (omega (arith, c.loop-info-test.false, c.loop-info.auto))
+
+pub returns-clause-unread : goal.returns-clause-unread
+returns-clause-unread g c = made_unread _ _ _ _ _ c.loop-info.invariant
+
+pub returns-clause-within : goal.returns-clause-within
+returns-clause-within g c = made_within _ _ _ _ _ c.loop-info.invariant

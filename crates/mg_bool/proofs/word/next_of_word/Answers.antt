@@ -37,4 +37,7 @@ returns-clause-pages g c = λ t base collection goes.
 pub returns-clause-shows : goal.returns-clause-shows
 returns-clause-shows g c =
     candidate_asked c.args.decided (slice_index_or c.ask_at.new.places.items c.args.place None) c.ask_at.result (Some c.args.place) c.args.place refl
-    c.requires.place c.ask_at.ensures.files c.ask_at.ensures.places c.ask_at.ensures.shows
+    c.requires.place c.ask_at.ensures.call.files c.ask_at.ensures.places c.ask_at.ensures.shows
+
+pub returns-clause-call : goal.returns-clause-call
+returns-clause-call g c = c.ask_at.ensures.call

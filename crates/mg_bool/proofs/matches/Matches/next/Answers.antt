@@ -1,5 +1,6 @@
 use Rattle.std.proofs.Common.{refl}
 use Rattle.mg_bool.proofs.AskLaws.{same_all}
+use Rattle.mg_bool.proofs.CallLaws.{skips_none}
 use Rattle.mg_bool.proofs.NextLaws.{ended_goes, ended_pages}
 use Rattle.mg_bool.proofs.ShownLaws.{ended_shown}
 use Rattle.mg_bool.proofs.matches.Matches.next.Goals as goal
@@ -24,3 +25,9 @@ returns-then-self-clause-lists g c = record { places = same_all c.args.self.now.
 
 pub returns-clause-lists : goal.returns-clause-lists
 returns-clause-lists g c = rw (← c.self.view_is) record { places = c.next_match.ensures.same; lead = refl }
+
+pub returns-then-self-clause-skips : goal.returns-then-self-clause-skips
+returns-then-self-clause-skips g c = skips_none c.args.self.now.places _
+
+pub returns-clause-skips : goal.returns-clause-skips
+returns-clause-skips g c = rw (← c.self.view_is) c.next_match.ensures.skips
