@@ -1,5 +1,6 @@
 -- Bytes, by their bits and through writes.
-use Rattle.std.proofs.Common.{arith, ◌≡◌, ◌<◌, ◌^◌, ◌++◌, inl, inr, ℕ, zero, suc, true, false, List, [], ◌∷◌, length, take, drop, replicate, Ok, Err, unwrap_or, IsSome, refl, sym, ◌∙◌, ap, subst, append-nil, length-append, length-take-le, pow-suc, get_or, Fits, w8}
+use Rattle.std.proofs.Common.{arith, ◌≡◌, ◌<◌, ◌^◌, ◌++◌, inl, inr, ℕ, zero, suc, true, false, List, [], ◌∷◌, length, take}
+use Rattle.std.proofs.Common.{drop, replicate, Ok, Err, unwrap_or, IsSome, refl, sym, ◌∙◌, ap, subst, append-nil, length-append, length-take-le, pow-suc, get_or, Fits, w8}
 use Rattle.std.specs.declared.option.Option.{Option}
 use Rattle.std.specs.declared.result.Result.{Result}
 use Rattle.std.proofs.Math.Seq.{take-append_seam}

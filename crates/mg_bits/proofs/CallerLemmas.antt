@@ -8,7 +8,9 @@ pub use Rattle.mg_bits.proofs.Ranges.{within_more, within_wider}
 pub use Rattle.mg_bits.proofs.Ranges.{calm_none, calm_more}
 -- the page that is held after a range, and the pages that a next range lacks
 pub use Rattle.mg_bits.proofs.Ranges.{held_after_none, held_after_some, held_after_more, lacks_next}
--- a code that is read a bit at a time: no bit yet, a bit more, a whole code, no code, a refusal, and the pages read
+-- a code that is read a bit at a time: no bit yet, a bit more, a whole code, no code, and a refusal
+pub use Rattle.mg_bits.proofs.CodeReads.{HasRead, read_nothing, read_a_bit, code_is_read, no_code_is_read, a_code_is_cut}
+-- what is told of it: no bit yet, a bit more, a whole code, no code, a refusal, and the pages read
 pub use Rattle.mg_bits.proofs.Walks.{walk_begun, walk_bit, walk_whole, walk_none, walk_refused, walk_pages, no_pages}
 -- what is told of a feed's source stays, and nothing is told of no bits
 pub use Rattle.mg_bits.proofs.Told.{same_told, told_nothing}
@@ -22,8 +24,8 @@ pub use Rattle.mg_bits.proofs.BitsWritten.{bits_none, bits_more, to_none, to_mor
 pub use Rattle.mg_bits.proofs.BitsWritten.{bits_stay, holds_stay}
 -- bytes and the bits that make them
 pub use Rattle.mg_bits.proofs.ByteLaws.{bits_are_bytes, bytes_again, same_bytes}
--- two looks at a part, one after the other
-pub use Rattle.mg_bits.proofs.Fills.{looked_twice}
+-- two looks at a part, one after the other; the second may tell the part by another word
+pub use Rattle.mg_bits.proofs.Fills.{looked_twice, looked_then}
 -- the page that a feed holds, where other files change
 pub use Rattle.mg_bits.proofs.HeldPages.{held_page_stays}
 -- the answer of a reader of a code where the code of a value stands

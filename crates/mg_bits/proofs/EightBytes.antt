@@ -1,5 +1,6 @@
 -- Eight bytes of a page as bits.
-use Rattle.std.proofs.Common.{arith, suc, zero, ◌≡◌, ◌+◌, ◌*◌, ◌≤◌, ◌<◌, ◌-◌, ◌/◌, ◌%◌, ◌^◌, ℕ, Bool, List, [], ◌∷◌, ◌++◌, length, take, drop, None, Some, IfSome, IsSome, refl, sym, ◌∙◌, ap, subst, zero-add, slice_index}
+use Rattle.std.proofs.Common.{◌≡◌, ◌+◌, ◌*◌, ◌≤◌, ◌<◌, ◌-◌, ◌/◌, ◌%◌, ◌^◌, [], ◌∷◌, ◌++◌, ◌∙◌}
+use Rattle.std.proofs.Common.{arith, suc, zero, ℕ, Bool, List, length, take, drop, None, Some, IfSome, IsSome, refl, sym, ap, subst, zero-add, slice_index}
 use Rattle.std.specs.declared.option.Option.{Option}
 use Rattle.std.specs.List.{slice_range}
 use Rattle.std.specs.Int.{bytes_high_first, byte_at, from_be_bytes, w64}

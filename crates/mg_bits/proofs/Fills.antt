@@ -1,5 +1,6 @@
 -- Bytes that are read one after the other into a buffer.
-use Rattle.std.proofs.Common.{arith, zero, suc, ◌≡◌, ◌+◌, ◌-◌, ◌*◌, ◌/◌, ◌%◌, ◌≤◌, ◌<◌, ℕ, List, [], ◌∷◌, ◌++◌, length, take, drop, set, Some, None, inl, inr, slice_get, sym, ◌∙◌, ap, subst, length-take, length-drop}
+use Rattle.std.proofs.Common.{◌≡◌, ◌+◌, ◌-◌, ◌*◌, ◌/◌, ◌%◌, ◌≤◌, ◌<◌, [], ◌∷◌, ◌++◌, ◌∙◌}
+use Rattle.std.proofs.Common.{arith, zero, suc, ℕ, List, length, take, drop, set, Some, None, inl, inr, slice_get, sym, ap, subst, length-take, length-drop}
 use Rattle.std.specs.declared.option.Option.{Option}
 use Rattle.std.specs.List.{slice_range}
 use Rattle.std.proofs.Math.Nat.{div-add-mod}

@@ -1,12 +1,12 @@
 -- What the file of a writer grows by, whatever a call answers.
-use Rattle.std.proofs.Common.{arith, ◌≡◌, ◌+◌, ◌*◌, ◌/◌, ◌%◌, ◌≤◌, ◌<◌, ◌-◌, ◌^◌, inl, inr, ℕ, List, [], ◌∷◌, ◌++◌, length, take, drop, sym, ◌∙◌, ap, subst, Ok, Err, is_some, unwrap_or, length-append, append_assoc, append-nil}
+use Rattle.std.proofs.Common.{arith, ◌≡◌, ◌+◌, ◌*◌, ◌/◌, ◌%◌, ◌≤◌, ◌<◌, ◌-◌, ◌^◌, inl, inr, ℕ, List, [], ◌∷◌, ◌++◌, length, take, drop, sym, ◌∙◌, ap, subst}
+use Rattle.std.proofs.Common.{is_some, unwrap_or, length-append, append_assoc, append-nil}
 use Rattle.std.specs.declared.option.Option.{Option}
-use Rattle.std.specs.declared.result.Result.{Result}
 use Rattle.std.proofs.Math.Seq.{take-append_seam, take-append-add}
 use Rattle.std.proofs.Math.Pow.{pow_pos}
 use Rattle.std.proofs.lemmas.Nat.{shr_split, mod_below}
 use Rattle.std.proofs.lemmas.List.{take_all, take-append-drop, take-append-le, append_cancel_left}
-use Rattle.mg_dev.specs.Files.{Files, AfterAppend, GrewInPart, bytes_at, grown, written}
+use Rattle.mg_dev.specs.Files.{Files, GrewInPart, bytes_at, grown, written}
 use Rattle.mg_dev.specs.Laws.{file_at-written, written-grown}
 use Rattle.mg_defs.specs.Bits.{Bits, digits, bits_of}
 use Rattle.mg_defs.proofs.BitLaws.{length_bits_of, length_digits, digits_append, bits_of_append}
@@ -29,34 +29,19 @@ pub grew_within : (old new : Option Files) (name a b : List ℕ) → GrewInPart 
 grew_within old new name a b (inl e) = inl e
 grew_within old new name a b (inr (k, within, e)) = inr (k, omega (arith, length-append a b), e ∙ ap (λ p. grown old name p) (sym (take-append-le k a b within)))
 
--- the bytes that were held went out
-pub grew_held : (old new : Option Files) (name held piece : List ℕ) → new ≡ grown old name held → GrewInPart old new name (held ++ piece)
-grew_held old new name held piece e = inr (length held, omega (arith, length-append held piece), e ∙ ap (λ p. grown old name p) (sym (take-append_seam held piece)))
-
 grown-grown : (files : Option Files) (name a b : List ℕ) → grown (grown files name a) name b ≡ grown files name (a ++ b)
 grown-grown files name a b = written-grown files name (bytes_at files name ++ a) b ∙ ap (λ p. written files name p) (append_assoc (bytes_at files name) a b)
 
--- then a piece behind them
-pub grew_through : {E : Type 0} (old mid new : Option Files) (name own held piece : List ℕ) (r : Result (Unit {0}) E) → mid ≡ grown old own held → name ≡ own →
-    AfterAppend mid new name piece r → GrewInPart old new own (held ++ piece)
-grew_through old mid new name own held piece r e same after = by_case r (subst (λ n. AfterAppend mid new n piece r) same after)
-  where
-    by_case : {E : Type 0} (r : Result (Unit {0}) E) → AfterAppend mid new own piece r → GrewInPart old new own (held ++ piece)
-    by_case (Ok u) out =
-        inr (
-          length (held ++ piece),
-          omega arith,
-          out ∙ ap (λ f. grown f own piece) e ∙ grown-grown old own held piece
-              ∙ ap (λ p. grown old own p) (sym (take_all (length (held ++ piece)) (held ++ piece) (omega arith))),
-        )
-    by_case (Err x) (inl still) = grew_held old new own held piece (still ∙ e)
-    by_case (Err x) (inr (k, within, grew)) =
-        inr (
-          length held + k,
-          omega (arith, length-append held piece),
-          grew ∙ ap (λ f. grown f own (take k piece)) e ∙ grown-grown old own held (take k piece)
-              ∙ ap (λ p. grown old own p) (sym (take-append-add held piece k)),
-        )
+-- the bytes that were held went out, and then a part of a piece behind them
+pub grew_then : (old mid new : Option Files) (name held piece : List ℕ) → mid ≡ grown old name held → GrewInPart mid new name piece → GrewInPart old new name (held ++ piece)
+grew_then old mid new name held piece e (inl still) =
+    inr (length held, omega (arith, length-append held piece), still ∙ e ∙ ap (λ p. grown old name p) (sym (take-append_seam held piece)))
+grew_then old mid new name held piece e (inr (k, within, grew)) =
+    inr (
+      length held + k,
+      omega (arith, length-append held piece),
+      grew ∙ ap (λ f. grown f name (take k piece)) e ∙ grown-grown old name held (take k piece) ∙ ap (λ p. grown old name p) (sym (take-append-add held piece k)),
+    )
 
 -- ---- bits
 

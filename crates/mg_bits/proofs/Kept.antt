@@ -1,5 +1,6 @@
 -- The bytes that a window keeps.
-use Rattle.std.proofs.Common.{arith, ◌≡◌, ◌+◌, ◌*◌, ◌≤◌, ◌<◌, ◌-◌, ◌/◌, ◌%◌, ℕ, List, length, drop, take, None, Some, IfSome, IsSome, refl, sym, ◌∙◌, ap, subst, min, slice_get, length-take, length-drop}
+use Rattle.std.proofs.Common.{◌≡◌, ◌+◌, ◌*◌, ◌≤◌, ◌<◌, ◌-◌, ◌/◌, ◌%◌, ◌∙◌}
+use Rattle.std.proofs.Common.{arith, ℕ, List, length, drop, take, None, Some, IfSome, IsSome, refl, sym, ap, subst, min, slice_get, length-take, length-drop}
 use Rattle.std.specs.declared.option.Option.{Option}
 use Rattle.std.proofs.Math.Nat.{div-add-mod}
 use Rattle.std.proofs.lemmas.Nat.{div-mul-add}

@@ -9,6 +9,7 @@ mod Fills
 mod Kept
 mod Keeping
 mod Walks
+mod CodeReads
 mod EightBytes
 mod ByteLaws
 mod HeldPages

@@ -1,5 +1,6 @@
 -- Places, pages and the bytes of a page.
-use Rattle.std.proofs.Common.{arith, suc, zero, ◌≡◌, ◌+◌, ◌*◌, ◌≤◌, ◌<◌, ◌-◌, ◌/◌, ◌%◌, ◌^◌, ℕ, Bool, true, false, List, [], ◌∷◌, take, drop, Some, None, slice_get, refl, sym, ◌∙◌, ap, subst, IfSome, IsSome, nat_eq, cond, min, max}
+use Rattle.std.proofs.Common.{◌≡◌, ◌+◌, ◌*◌, ◌≤◌, ◌<◌, ◌-◌, ◌/◌, ◌%◌, ◌^◌, [], ◌∷◌, ◌∙◌}
+use Rattle.std.proofs.Common.{arith, suc, zero, ℕ, Bool, true, false, List, take, drop, Some, None, slice_get, refl, sym, ap, subst, IfSome, IsSome, nat_eq, cond, min, max}
 use Rattle.std.specs.declared.option.Option.{Option}
 use Rattle.std.proofs.lemmas.Grind.{common_steps}
 use Rattle.std.proofs.lemmas.Bool.{eqb-true}
@@ -10,7 +11,7 @@ use Rattle.mg_dev.specs.Files.{Files, Reads, OneRead, bytes_at}
 use Rattle.mg_dev.specs.Causes.{Rose}
 use Rattle.mg_dev.specs.Names.{same_part, number}
 use Rattle.mg_dev.specs.Laws.{with_read-here, with_read-later, with_read-other}
-use Rattle.mg_bits.specs.Feed.{page_of, lacks, ReadsOwn, Calm, ReadsWithin, Feeding, Device, to_read, raised, over_file, of_store, told_at}
+use Rattle.mg_bits.specs.Feed.{page_of, lacks, ReadsOwn, Calm, ReadsWithin, Device, to_read, raised, over_file, of_store, told_at}
 use Rattle.mg_bits.specs.Pages.{IsPageIn}
 
 pub page_of_byte : (page at : ℕ) → page_of page (8 * at) ≡ at / page

@@ -1,16 +1,17 @@
 -- What each way out of a writer's calls promises.
-use Rattle.std.proofs.Common.{arith, ◌≡◌, ◌+◌, ◌*◌, ◌/◌, ◌%◌, ◌<◌, ◌-◌, ◌^◌, ℕ, List, [], ◌∷◌, ◌++◌, length, refl, sym, ◌∙◌, ap, subst, Option, Result, Ok, Err, OnOk, IsSome, unwrap_or, append-nil}
+use Rattle.std.proofs.Common.{arith, ◌≡◌, ◌+◌, ◌*◌, ◌/◌, ◌%◌, ◌≤◌, ◌<◌, ◌-◌, ◌^◌, ℕ, List, [], ◌∷◌, ◌++◌, length, refl, sym, ◌∙◌, ap, subst}
+use Rattle.std.proofs.Common.{inl, Option, Result, Ok, Err, OnOk, IsSome, unwrap_or, append_assoc, append-nil}
 use Rattle.mg_dev.specs.Causes.{HasPutCause}
 use Rattle.mg_dev.specs.Files.{AfterAppend, Files, GrewInPart, Reads, SameReads, bytes_at, grown, written}
 use Rattle.mg_dev.specs.Laws.{file_at-written, append-others, append-told}
 use Rattle.mg_dev.specs.declared.device.PutErr.{PutErr}
 use Rattle.mg_defs.specs.Bits.{Bits, bits_of, digits}
 use Rattle.mg_defs.proofs.BitLaws.{length_digits}
-use Rattle.mg_bits.specs.Writer.{Appends, AreBytes, KeepsBytes, PutsBytes, WroteTo, Writing, Wrote}
-use Rattle.mg_bits.specs.BitWriting.{BitWriting, Holds, PutsBits, WroteBits, bits_put}
+use Rattle.mg_bits.specs.Writer.{Appends, AreBytes, KeepsBytes, PutsBytes, SendsBytes, WroteTo, Writing, Wrote, put_to}
+use Rattle.mg_bits.specs.BitWriting.{BitWriting, Holds, PutsBits, WritesBits, WroteBits, bits_put}
 use Rattle.mg_bits.proofs.BitsWritten.{bits_more, bits_none, flushed, holds_kept, to_more, to_none, wrote_kept, wrote_sent}
 use Rattle.mg_bits.proofs.ByteLaws.{append_keeps, keeps_more, same_keeps}
-use Rattle.mg_bits.proofs.Growing.{bits_through, by_byte, by_bytes, by_none, held_few}
+use Rattle.mg_bits.proofs.Growing.{bits_front, bits_through, by_byte, by_bytes, by_none, grew_all, grew_part, grew_then, held_few}
 
 -- ---- bytes
 
@@ -29,11 +30,124 @@ pub nothing_put : (name : List ℕ) (f g : Option Files) → g ≡ written f nam
 nothing_put name f g out told =
     append-nil (bytes_at g name) ∙ ap (λ files. bytes_at files name) out ∙ ap (λ o. unwrap_or o []) (file_at-written f name [] told)
 
--- what was held went out
-pub bytes_sent : (name held : List ℕ) (f g : Option Files) → g ≡ grown f name held → IsSome f → bytes_at g name ++ [] ≡ (bytes_at f name ++ held) ++ []
-bytes_sent name held f g out told =
-    append-nil (bytes_at g name) ∙ ap (λ files. bytes_at files name) out ∙ ap (λ o. unwrap_or o []) (file_at-written f name (bytes_at f name ++ held) told)
-    ∙ sym (append-nil (bytes_at f name ++ held))
+-- what the file holds once a piece was added
+now_there : (name piece : List ℕ) (f g : Option Files) → g ≡ grown f name piece → IsSome f → bytes_at g name ≡ bytes_at f name ++ piece
+now_there name piece f g out told = ap (λ files. bytes_at files name) out ∙ ap (λ o. unwrap_or o []) (file_at-written f name (bytes_at f name ++ piece) told)
+
+-- what was held and a piece behind it went out
+all_wrote : {w v : Writing} {f g : Option Files} {piece sent : List ℕ} → v.name ≡ w.name → sent ≡ w.buffered ++ piece → v.buffered ≡ [] → g ≡ grown f w.name sent →
+    Wrote w v f g piece
+all_wrote {w} {v} {f} {g} {piece} {sent} name is none out = record {
+  name = name;
+  bytes = λ told.
+      ap (λ b. bytes_at g v.name ++ b) none ∙ append-nil (bytes_at g v.name) ∙ ap (bytes_at g) name ∙ now_there w.name sent f g out told
+      ∙ ap (λ b. bytes_at f w.name ++ b) is ∙ sym (append_assoc (bytes_at f w.name) w.buffered piece);
+}
+
+module _ {w v : Writing} {f g : Option Files} {r s : Reads} {m n : ℕ} (name : v.name ≡ w.name) where
+  -- a page goes out: what was held, and a piece behind it
+  pub bytes_paged : {piece sent : List ℕ} {u : Unit {0}} → sent ≡ w.buffered ++ piece → v.buffered ≡ [] → Appends w.name sent (Ok u) f g r s m n → PutsBytes w v piece (Ok u) f g r s m n
+  bytes_paged is none one = record {
+    bytes = all_wrote name is none one.content;
+    grew = grew_all _ _ _ _ _ one.content is;
+    page = omega (arith, ap length none);
+    name = name;
+    still = one.still;
+    wrote = one.wrote;
+    cause = one.cause;
+  }
+
+  -- or the first of them
+  pub bytes_refused : {piece sent : List ℕ} {e : PutErr} → sent ≡ w.buffered ++ piece → length v.buffered < 4096 → Appends w.name sent (Err e) f g r s m n →
+      PutsBytes w v piece (Err e) f g r s m n
+  bytes_refused is few one = record {
+    bytes = tt;
+    grew = grew_part _ _ _ _ _ one.content is;
+    page = few;
+    name = name;
+    still = one.still;
+    wrote = one.wrote;
+    cause = one.cause;
+  }
+
+  -- what was held went out
+  pub held_sent : {sent : List ℕ} {u : Unit {0}} → sent ≡ w.buffered → v.buffered ≡ [] → Appends w.name sent (Ok u) f g r s m n → SendsBytes w v (Ok u) f g r s m n
+  held_sent {sent} is none one =
+      let out : g ≡ grown f w.name w.buffered = one.content ∙ ap (λ b. grown f w.name b) is in
+      record {
+        bytes = all_wrote name (is ∙ sym (append-nil w.buffered)) none one.content;
+        sent = out;
+        grew = grew_all _ _ _ _ _ out refl;
+        page = omega (arith, ap length none);
+        nothing = none;
+        name = name;
+        still = one.still;
+        wrote = one.wrote;
+        cause = one.cause;
+      }
+
+  -- or the first of it
+  pub held_refused : {sent : List ℕ} {e : PutErr} → sent ≡ w.buffered → length v.buffered < 4096 → Appends w.name sent (Err e) f g r s m n → SendsBytes w v (Err e) f g r s m n
+  held_refused is few one = record {
+    bytes = tt;
+    sent = tt;
+    grew = grew_part _ _ _ _ _ one.content is;
+    page = few;
+    nothing = tt;
+    name = name;
+    still = one.still;
+    wrote = one.wrote;
+    cause = one.cause;
+  }
+
+-- a piece for which the page has room is held
+pub bytes_held : {w v : Writing} {piece : List ℕ} {f : Option Files} {r : Reads} {n : ℕ} {u : Unit {0}} → v.buffered ≡ w.buffered ++ piece → v.name ≡ w.name →
+    length v.buffered < 4096 → PutsBytes w v piece (Ok u) f f r r n n
+bytes_held {w} {v} {piece} {f} held name few = record {
+  bytes = record {
+    name = name;
+    bytes = λ told. ap (λ b. bytes_at f v.name ++ b) held ∙ ap (λ n. bytes_at f n ++ (w.buffered ++ piece)) name ∙ sym (append_assoc (bytes_at f w.name) w.buffered piece);
+  };
+  grew = inl refl;
+  page = few;
+  name = name;
+  still = same_keeps _ _ _ refl;
+  wrote = to_none _ _ _;
+  cause = record { later = omega arith; failed = λ is. absurd cc };
+}
+
+-- a piece that no page holds goes out by itself
+pub bytes_alone : {w : Writing} {name piece : List ℕ} {result : Result (Unit {0}) PutErr} {f g : Option Files} {r s : Reads} {m n : ℕ} → name ≡ w.name → w.buffered ≡ [] →
+    Appends name piece result f g r s m n → PutsBytes w w piece result f g r s m n
+bytes_alone {w} {name} {piece} {result} {f} {g} {r} {s} {m} {n} same none one = by_case result (subst (λ own. Appends own piece result f g r s m n) same one)
+  where
+    is : piece ≡ w.buffered ++ piece
+    is = ap (λ b. b ++ piece) (sym none)
+
+    by_case : (q : Result (Unit {0}) PutErr) → Appends w.name piece q f g r s m n → PutsBytes w w piece q f g r s m n
+    by_case (Ok u) one = bytes_paged refl is none one
+    by_case (Err e) one = bytes_refused refl is (omega (arith, ap length none)) one
+
+-- a piece behind what was held, which went out before
+pub bytes_then : {w mid v : Writing} {piece : List ℕ} {result : Result (Unit {0}) PutErr} {f g h : Option Files} {r s t : Reads} {x y z : ℕ} {u : Unit {0}} →
+    SendsBytes w mid (Ok u) f g r s x y → PutsBytes mid v piece result g h s t y z → PutsBytes w v piece result f h r t x z
+bytes_then {w} {mid} {v} {piece} {result} {f} {g} {h} {r} {s} {t} one two = record {
+  bytes = by_case result two.bytes;
+  grew = grew_then f g h w.name w.buffered piece one.sent
+      (subst (λ n. GrewInPart g h n piece) one.name (subst (λ b. GrewInPart g h mid.name (b ++ piece)) one.nothing two.grew));
+  page = two.page;
+  name = two.name ∙ one.name;
+  still = keeps_more w.name f g h (λ told. one.wrote.told ∙ told) one.still (subst (λ n. KeepsBytes n g h) one.name two.still);
+  wrote = to_more w.name f g h r s t one.wrote (subst (λ n. WroteTo n g h s t) one.name two.wrote);
+  cause = record { later = omega (arith, one.cause.later, two.cause.later); failed = λ is. omega (arith, one.cause.later, two.cause.failed is) };
+}
+  where
+    by_case : (q : Result (Unit {0}) PutErr) → OnOk q (Wrote mid v g h piece) → OnOk q (Wrote w v f h piece)
+    by_case (Ok u) wrote = record {
+      name = wrote.name ∙ one.name;
+      bytes = λ told. wrote.bytes (one.wrote.told ∙ told) ∙ ap (λ b. b ++ piece) (one.bytes.bytes told ∙ append-nil (put_to w f));
+    }
+    by_case (Err e) refused = tt
 
 -- ---- bits
 
@@ -80,6 +194,19 @@ puts_all {a} {b} {result} {f} {g} {r} {s} {m} {n} count left value none put =
     let same : value / 2 ^ left ≡ value = ap (λ k. value / 2 ^ k) none ∙ (let one : value / 2 ^ 0 ≡ value = omega arith in one) in
     subst (λ p. PutsBits a b p result f g r s m n) (ap (λ k. digits k (value / 2 ^ left)) whole ∙ ap (digits count) same) put
 
+-- the first bits of a number, the last of which are refused
+pub puts_front : {a b : BitWriting} {e : PutErr} {f g : Option Files} {r s : Reads} {m n : ℕ} (count left value : ℕ) → left ≤ count →
+    PutsBits a b (digits (count - left) (value / 2 ^ left)) (Err e) f g r s m n → PutsBits a b (digits count value) (Err e) f g r s m n
+puts_front {a} {f = f} {g} count left value within put = record {
+  bits = tt;
+  grew = bits_front a.name f g a.buffered count left value within put.grew;
+  held = put.held;
+  name = put.name;
+  still = put.still;
+  wrote = put.wrote;
+  cause = put.cause;
+}
+
 -- what was written and held is told of by the place
 pub puts_holds : {a b : BitWriting} {piece : Bits} {result : Result (Unit {0}) PutErr} {f g : Option Files} {r s : Reads} {l m : ℕ} →
     Holds a f → PutsBits a b piece result f g r s l m → OnOk result (Holds b g)
@@ -88,6 +215,19 @@ puts_holds {a} {b} {piece} {result} {f} {g} holds put = by_case result put.bits
     by_case : (q : Result (Unit {0}) PutErr) → OnOk q (WroteBits a b f g piece) → OnOk q (Holds b g)
     by_case (Ok u) wrote = holds_kept f g a b piece put.wrote.told wrote put.still holds
     by_case (Err e) refused = tt
+
+-- as a caller sees it
+pub writes : {a b : BitWriting} {piece : Bits} {result : Result (Unit {0}) PutErr} {f g : Option Files} {r s : Reads} {l m : ℕ} →
+    Holds a f → PutsBits a b piece result f g r s l m → WritesBits a b piece result f g r s l m
+writes holds put = record {
+  holds = puts_holds holds put;
+  bits = put.bits;
+  grew = put.grew;
+  held = put.held;
+  name = put.name;
+  wrote = put.wrote;
+  cause = put.cause;
+}
 
 -- zero-bits to the next byte
 pub puts_whole : {a b : BitWriting} {size : ℕ} {result : Result (Unit {0}) PutErr} {f g : Option Files} {r s : Reads} {l m : ℕ} → size ≡ (8 - a.place % 8) % 8 →
@@ -156,18 +296,16 @@ module _ (w : Writing) (rest count : ℕ) {f : Option Files} {r : Reads} {m bits
     }
 
 -- the held bytes go out, and no byte is left that isn't full
-pub bytes_out : (w v : Writing) (rest count : ℕ) {result : Result (Unit {0}) PutErr} {f g : Option Files} {r s : Reads} {m n place : ℕ} → count ≡ 0 →
-    OnOk result (Wrote w v f g []) → GrewInPart f g w.name w.buffered → length v.buffered < 4096 → v.name ≡ w.name → KeepsBytes w.name f g →
-    WroteTo w.name f g r s → HasPutCause m n result →
-    PutsBits (bits_in w count rest place) (bits_in v count rest place) [] result f g r s m n
-bytes_out w v rest count {result} {f} {g} {r} {s} {m} {n} {place} none bytes grew page name still wrote cause = record {
-  bits = by_case result bytes;
-  grew = by_bytes f g w.name w.buffered ((bits_of w.buffered ++ digits count rest) ++ []) (digits count rest) grew (append-nil (bits_of w.buffered ++ digits count rest));
-  held = held_few v.buffered count rest page (omega (arith, none));
-  name = name;
-  still = still;
-  wrote = wrote;
-  cause = cause;
+pub bytes_out : {w v : Writing} (rest count : ℕ) {result : Result (Unit {0}) PutErr} {f g : Option Files} {r s : Reads} {m n place : ℕ} → count ≡ 0 →
+    SendsBytes w v result f g r s m n → PutsBits (bits_in w count rest place) (bits_in v count rest place) [] result f g r s m n
+bytes_out {w} {v} rest count {result} {f} {g} {r} {s} {m} {n} {place} none one = record {
+  bits = by_case result one.bytes;
+  grew = by_bytes f g w.name w.buffered ((bits_of w.buffered ++ digits count rest) ++ []) (digits count rest) one.grew (append-nil (bits_of w.buffered ++ digits count rest));
+  held = held_few v.buffered count rest one.page (omega (arith, none));
+  name = one.name;
+  still = one.still;
+  wrote = one.wrote;
+  cause = one.cause;
 }
   where
     by_case : (q : Result (Unit {0}) PutErr) → OnOk q (Wrote w v f g []) → OnOk q (WroteBits (bits_in w count rest place) (bits_in v count rest place) f g [])

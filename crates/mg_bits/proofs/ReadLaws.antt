@@ -2,16 +2,16 @@
 use Rattle.std.proofs.Common.{arith, ◌≡◌, ◌+◌, ◌*◌, ◌/◌, ◌%◌, ◌≤◌, ◌<◌, ◌^◌, ℕ, Bool, List, nat_eq, sym, ◌∙◌, ap, subst, Option, Some, None, Result, Ok, Err}
 use Rattle.mg_dev.specs.Files.{Files}
 use Rattle.mg_defs.specs.Bits.{Bits, Begins, FromPlace, digits}
-use Rattle.mg_bits.specs.Feed.{Calm, Device as Seen, Feeding, HoldsBits, Read, ReadPart, ReadsWithin, page_of}
+use Rattle.mg_bits.specs.Feed.{Calm, Device as Seen, Feeding, HoldsBits, KeepsPage, Read, ReadPart, ReadsWithin, page_of}
 use Rattle.mg_bits.specs.Reading.{Reading}
-use Rattle.mg_bits.specs.Reader.{AnswersBit, AnswersBits, AnswersPiece, DeviceCause, at_place}
-use Rattle.mg_bits.specs.NextBits.{FromNext, ReadsNext, ReadsNumber}
+use Rattle.mg_bits.specs.Reader.{AnswersBit, AnswersPiece, DeviceCause, EndHolds, at_place}
+use Rattle.mg_bits.specs.NextBits.{FromNext, ReadsBits, ReadsNext}
 use Rattle.mg_bits.specs.declared.bit_err.BitErr.{BitErr}
 use Rattle.mg_bits.specs.declared.bit_err.BitErr.TheVariants.{Device, End}
 use Rattle.mg_bits.proofs.EightBytes.{read_held}
 use Rattle.mg_bits.proofs.Places.{page_of_place}
 use Rattle.mg_bits.proofs.Ranges.{held_piece, part_step, within_piece}
-use Rattle.mg_bits.proofs.Told.{same_told, told_one, told_refused}
+use Rattle.mg_bits.proofs.Told.{same_told, told_end, told_end_ok, told_one, told_refused}
 
 -- a device's failure tells nothing of the bits
 pub told_any : (told : Option (List ℕ)) (place : ℕ) → FromPlace told place (λ bits. Unit {0})
@@ -52,37 +52,31 @@ module _ {Fed Dev : Type 0} {feeding : Fed → Feeding} {device : Dev → Seen} 
     -- the byte is not there, or the device failed
     pub piece_refused : (refusal : BitErr) → new.place ≡ old.place → FromNext feeding device old before (AnswersPiece (Err refusal) old.place count) →
         DeviceCause {T = ℕ} (Err refusal) (device before).faults (device now).faults →
-        ReadsNumber feeding device fits old new before now count (Err refusal) (AnswersPiece (Err refusal) old.place count)
+        ReadsNext {T = ℕ} feeding device fits old new before now count (Err refusal) (AnswersPiece (Err refusal) old.place count)
     piece_refused refusal place told cause = record {
-      next = record {
-        fits = agrees;
-        read = tt;
-        part = record { calm = calm; pages = within_piece _ _ _ _ old.place count some room pages };
-        place = place;
-        told = told;
-        cause = cause;
-      };
-      below = tt;
+      fits = agrees;
+      read = tt;
+      part = record { calm = calm; pages = within_piece _ _ _ _ old.place count some room pages };
+      place = place;
+      told = told;
+      cause = cause;
     }
 
     -- the byte is there
     pub piece_got : (value : ℕ) → new.place ≡ old.place + count → (feeding new.feed).held ≡ Some (page_of (feeding old.feed).page (8 * (old.place / 8))) →
-        FromNext feeding device old before (Begins (digits count value)) → value < 2 ^ count →
-        ReadsNumber feeding device fits old new before now count (Ok value) (AnswersPiece (Ok value) old.place count)
-    piece_got value place held told below = record {
-      next = record {
-        fits = agrees;
-        read = record {
-          calm = calm;
-          pages = within_piece _ _ _ _ old.place count some room pages;
-          held = held ∙ ap Some (page_of_place (feeding old.feed).page old.place) ∙ sym (held_piece (feeding old.feed).page (feeding old.feed).held old.place count some room);
-        };
-        part = tt;
-        place = place;
-        told = told;
-        cause = tt;
+        FromNext feeding device old before (Begins (digits count value)) →
+        ReadsNext feeding device fits old new before now count (Ok value) (AnswersPiece (Ok value) old.place count)
+    piece_got value place held told = record {
+      fits = agrees;
+      read = record {
+        calm = calm;
+        pages = within_piece _ _ _ _ old.place count some room pages;
+        held = held ∙ ap Some (page_of_place (feeding old.feed).page old.place) ∙ sym (held_piece (feeding old.feed).page (feeding old.feed).held old.place count some room);
       };
-      below = below;
+      part = tt;
+      place = place;
+      told = told;
+      cause = tt;
     }
 
   -- ---- bits of one byte after the other
@@ -90,31 +84,46 @@ module _ {Fed Dev : Type 0} {feeding : Fed → Feeding} {device : Dev → Seen} 
   -- a byte is refused
   pub number_refused : (done : ℕ) {old mid last new : Reading Fed} {d0 d1 d2 : Dev} {refusal at : BitErr} {size count : ℕ} → 0 < (feeding old.feed).page → mid.place ≡ old.place + done →
       0 < size → done + size ≤ count → Read (feeding old.feed) (feeding mid.feed) (device d0) (device d1) old.place (old.place + done) →
-      ReadsNext {T = ℕ} feeding device fits mid last d1 d2 size (Err refusal) (AnswersPiece (Err refusal) mid.place size) → new.feed ≡ last.feed → new.place ≡ old.place →
-      at ≡ at_place refusal old.place → ReadsNumber feeding device fits old new d0 d2 count (Err at) (AnswersBits (Err at) old.place count)
-  number_refused done {old} {mid} {last} {new} {d0} {d1} {d2} {refusal} {at} {size} {count} page mid_is some within read piece feed place is = record {
-    next = record {
-      fits = subst (λ f. fits f (device d2).files) (sym feed) piece.fits;
-      read = tt;
-      part = subst (λ f. ReadPart (feeding old.feed) (feeding f) (device d0) (device d2) old.place (old.place + count)) (sym feed)
-          (part_step _ _ _ _ _ _ old.place done size mid.place count page mid_is within read piece.part);
-      place = place;
-      told = subst (λ e. FromNext feeding device old d0 (AnswersBits (Err e) old.place count)) (sym is)
-          (told_refused _ refusal old.place done mid.place size count (omega (arith, some, within)) mid_is
-          (subst (λ t. FromPlace t mid.place (AnswersPiece (Err refusal) mid.place size)) (same_told _ _ _ _ read.calm) piece.told));
-      cause = subst (λ e. DeviceCause {T = ℕ} (Err e) (device d0).faults (device d2).faults) (sym is) (cause_at refusal old.place _ _ _ read.calm.faults piece.cause);
-    };
-    below = tt;
-  }
+      ReadsNext {T = ℕ} feeding device fits mid last d1 d2 size (Err refusal) (AnswersPiece (Err refusal) mid.place size) →
+      KeepsPage (feeding mid.feed) (feeding last.feed) mid.place → new.feed ≡ last.feed → new.place ≡ old.place →
+      at ≡ at_place refusal old.place → ReadsBits feeding device fits old new d0 d2 count (Err at)
+  number_refused done {old} {mid} {last} {new} {d0} {d1} {d2} {refusal} {at} {size} {count} page mid_is some within read piece keeps feed place is =
+      let told : FromPlace ((feeding old.feed).source (device d0).files) mid.place (AnswersPiece (Err refusal) mid.place size) =
+      subst (λ t. FromPlace t mid.place (AnswersPiece (Err refusal) mid.place size)) (same_told _ _ _ _ read.calm) piece.told in
+      let keeps_it : (feeding mid.feed).held ≡ Some (page_of (feeding old.feed).page mid.place) → (feeding last.feed).held ≡ (feeding mid.feed).held =
+      subst (λ n. (feeding mid.feed).held ≡ Some (page_of n mid.place) → (feeding last.feed).held ≡ (feeding mid.feed).held) read.calm.page keeps in
+      subst (λ e. ReadsBits feeding device fits old new d0 d2 count (Err e)) (sym is)
+      (record {
+        fits = subst (λ f. fits f (device d2).files) (sym feed) piece.fits;
+        read = tt;
+        part = subst (λ f. ReadPart (feeding old.feed) (feeding f) (device d0) (device d2) old.place (old.place + count)) (sym feed)
+            (part_step _ _ _ _ _ _ old.place done size mid.place count page mid_is within read piece.part);
+        place = place;
+        below = tt;
+        told = told_refused _ refusal old.place done mid.place size count (omega (arith, some, within)) mid_is told;
+        end = subst (λ f. FromNext feeding device old d0 (EndHolds (Err (at_place refusal old.place)) (feeding old.feed).page old.place count (feeding f).held)) (sym feed)
+            (told_end _ refusal (feeding old.feed).page old.place done mid.place size count (feeding old.feed).held (feeding mid.feed).held (feeding last.feed).held page
+            (omega (arith, some, within)) mid_is read.held keeps_it told);
+        cause = cause_at refusal old.place _ _ _ read.calm.faults piece.cause;
+      })
 
   -- all of them are read
   pub number_read : (done : ℕ) {old new : Reading Fed} {before now : Dev} {count value : ℕ} → done ≡ count → fits new.feed (device now).files → new.place ≡ old.place + done →
       value < 2 ^ done → FromNext feeding device old before (Begins (digits done value)) →
       Read (feeding old.feed) (feeding new.feed) (device before) (device now) old.place (old.place + done) →
-      ReadsNumber feeding device fits old new before now count (Ok value) (AnswersBits (Ok value) old.place count)
+      ReadsBits feeding device fits old new before now count (Ok value)
   number_read done {old} {new} {before} {now} {count} {value} is agrees place below told read =
-      subst (λ n. ReadsNumber feeding device fits old new before now n (Ok value) (AnswersBits (Ok value) old.place n)) is
-      (record { next = record { fits = agrees; read = read; part = tt; place = place; told = told; cause = tt }; below = below })
+      subst (λ n. ReadsBits feeding device fits old new before now n (Ok value)) is
+      (record {
+        fits = agrees;
+        read = read;
+        part = tt;
+        place = place;
+        below = below;
+        told = told;
+        end = told_end_ok _ value (feeding old.feed).page old.place done (feeding new.feed).held;
+        cause = tt;
+      })
 
   -- ---- one bit of a byte
 
@@ -124,14 +133,14 @@ module _ {Fed Dev : Type 0} {feeding : Fed → Feeding} {device : Dev → Seen} 
   bit_refused Device next = record { fits = next.fits; read = tt; part = next.part; place = next.place; told = next.told; cause = next.cause }
   bit_refused (End at) next = record { fits = next.fits; read = tt; part = next.part; place = next.place; told = next.told; cause = tt }
 
-  pub bit_got : {old new : Reading Fed} {before now : Dev} (value : ℕ) →
-      ReadsNumber feeding device fits old new before now 1 (Ok value) (AnswersPiece (Ok value) old.place 1) →
+  pub bit_got : {old new : Reading Fed} {before now : Dev} (value : ℕ) → value < 2 ^ 1 →
+      ReadsNext feeding device fits old new before now 1 (Ok value) (AnswersPiece (Ok value) old.place 1) →
       ReadsNext feeding device fits old new before now 1 (Ok (nat_eq value 1)) (AnswersBit (Ok (nat_eq value 1)) old.place)
-  bit_got {old} value number = record {
-    fits = number.next.fits;
-    read = number.next.read;
+  bit_got {old} value below next = record {
+    fits = next.fits;
+    read = next.read;
     part = tt;
-    place = number.next.place;
-    told = told_one _ old.place value number.below number.next.told;
+    place = next.place;
+    told = told_one _ old.place value below next.told;
     cause = tt;
   }

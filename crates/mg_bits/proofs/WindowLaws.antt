@@ -1,5 +1,6 @@
 -- What each way out of a call that asks for one byte promises.
-use Rattle.std.proofs.Common.{arith, true, false, ◌≡◌, ◌≢◌, ◌+◌, ◌-◌, ◌/◌, ◌%◌, ◌<◌, ◌≤◌, ◌^◌, min, ℕ, List, Option, Some, None, Result, Ok, Err, OnOk, OnSome, IfOk, IfSome, IsSome, ◌++◌, append-nil, drop, length, take, refl, sym, ◌∙◌, ap, subst, slice_get}
+use Rattle.std.proofs.Common.{arith, true, false, ◌≡◌, ◌≢◌, ◌+◌, ◌-◌, ◌/◌, ◌%◌, ◌<◌, ◌≤◌, ◌^◌, min, ℕ, List, Option, Some, None}
+use Rattle.std.proofs.Common.{Result, Ok, Err, OnOk, OnSome, IfOk, IfSome, IsSome, ◌++◌, append-nil, drop, length, take, refl, sym, ◌∙◌, ap, subst, slice_get}
 use Rattle.std.proofs.Math.ListN.{drop_of_length-le}
 use Rattle.std.proofs.lemmas.Bool.Decides.{nat_tests}
 use Rattle.std.proofs.lemmas.List.{take_all}
@@ -114,7 +115,12 @@ asks_byte {old} {new} {at} {result} {f0} fits file byte = record {
     others = λ p apart. byte.calm.reads.others p (other_part old.part p apart);
   };
   told = told_some f0 old.name at result byte.told;
-  byte = byte;
+  calm = byte.calm;
+  pages = byte.pages;
+  held = byte.held;
+  keeps = byte.keeps;
+  turned = byte.turned;
+  cause = byte.cause;
 }
 
 -- the page that is held has the byte

@@ -63,3 +63,22 @@ pub record PutsBits (old new : BitWriting) (piece : Bits) (result : Result (Unit
     pub wrote : WroteTo old.name files_before files_now reads_before reads_now
     -- a device's failure has a cause
     pub cause : HasPutCause faults_before faults_now result
+
+-- the same, as a caller sees it: what it may write on with
+pub record WritesBits (old new : BitWriting) (piece : Bits) (result : Result (Unit {0}) PutErr) (files_before files_now : Option Files)
+    (reads_before reads_now : Reads) (faults_before faults_now : ℕ) : Type 0
+  where
+    -- where the call is not refused, the place tells of what was written, and the file's numbers are bytes
+    pub holds : OnOk result (Holds new files_now)
+    -- the bits were written then
+    pub bits : OnOk result (WroteBits old new files_before files_now piece)
+    -- whatever it answers, the file grew by the first of the bits that were held or put
+    pub grew : GrewBits old.name files_before files_now (old.buffered ++ piece)
+    -- fewer bits than a page has are held
+    pub held : length new.buffered < 32768
+    -- the writer writes to the same file
+    pub name : new.name ≡ old.name
+    -- no other file changed, and no part was read
+    pub wrote : WroteTo old.name files_before files_now reads_before reads_now
+    -- a device's failure has a cause
+    pub cause : HasPutCause faults_before faults_now result

@@ -56,6 +56,17 @@ pub record AsksByte (old new : Paging) (at : ℕ) (result : Result (Option ℕ) 
     pub looked : Looked old.part files_before files_now reads_before reads_now faults_before faults_now
     -- the answer is the byte, or that there is none
     pub told : IsSome files_before → IfOk result (λ byte. byte ≡ slice_get (bytes_at files_before old.name) at)
-    -- the byte is read as from a feed
-    pub byte : ReadsByte old.part at result (feeding_of 4096 old) (feeding_of 4096 new) (of_store files_before faults_before reads_before)
+    -- what every reading call keeps
+    pub calm : Calm (feeding_of 4096 old) (feeding_of 4096 new) (of_store files_before faults_before reads_before)
         (of_store files_now faults_now reads_now)
+    -- only the page of the byte is read, and not where it is held
+    pub pages : ReadsWithin (feeding_of 4096 old) (feeding_of 4096 new) (of_store files_before faults_before reads_before)
+        (of_store files_now faults_now reads_now) (8 * at) (8 * at + 1)
+    -- where the byte is there, its page is held
+    pub held : IfOk result (λ byte. OnSome byte (new.held ≡ Some (page_of 4096 (8 * at))))
+    -- its page stays held
+    pub keeps : old.held ≡ Some (page_of 4096 (8 * at)) → new.held ≡ old.held
+    -- another page is held only where the device was asked
+    pub turned : new.held ≢ old.held → Rose (reads_before old.part) (reads_now old.part)
+    -- a device's failure has a cause
+    pub cause : HasCause faults_before faults_now result

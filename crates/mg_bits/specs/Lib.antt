@@ -8,6 +8,7 @@ pub mod Reading
 pub mod Reader
 pub mod NextBits
 pub mod CodeAnswers
+pub mod CodeReads
 pub mod Writer
 pub mod BitWriting
 pub mod Alike

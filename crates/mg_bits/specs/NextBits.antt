@@ -6,7 +6,7 @@ use Rattle.mg_dev.specs.Files.{Files}
 use Rattle.mg_defs.specs.Bits.{Bits, FromPlace}
 use Rattle.mg_bits.specs.Feed.{Feeding, Device, Read, ReadPart}
 use Rattle.mg_bits.specs.Reading.{Reading}
-use Rattle.mg_bits.specs.Reader.{DeviceCause, EndHolds}
+use Rattle.mg_bits.specs.Reader.{AnswersBits, DeviceCause, EndHolds}
 use Rattle.mg_bits.specs.declared.bit_err.BitErr.{BitErr}
 
 -- so many bits were read from the reader's place on
@@ -50,10 +50,22 @@ pub record ReadsNext {Fed Dev T : Type 0} (feeding : Fed → Feeding) (device : 
     pub cause : DeviceCause result (device before).faults (device now).faults
 
 -- so many bits are asked for as a number
-pub record ReadsNumber {Fed Dev : Type 0} (feeding : Fed → Feeding) (device : Dev → Device) (agrees : Fed → Option Files → Type 0)
-    (old new : Reading Fed) (before now : Dev) (count : ℕ) (result : Result ℕ BitErr) (tells : Bits → Type 0) : Type 0
+pub record ReadsBits {Fed Dev : Type 0} (feeding : Fed → Feeding) (device : Dev → Device) (agrees : Fed → Option Files → Type 0)
+    (old new : Reading Fed) (before now : Dev) (count : ℕ) (result : Result ℕ BitErr) : Type 0
   where
-    -- they are read, or some of them
-    pub next : ReadsNext feeding device agrees old new before now count result tells
+    -- the page that is held agrees with what the device holds
+    pub fits : agrees new.feed (device now).files
+    -- where the call is not refused, these bits were read
+    pub read : OnOk result (ReadNext feeding device old new before now count)
+    -- where it is refused, some of them were
+    pub part : OnErr result (ReadNextPart feeding device old new before now count)
+    -- the place is behind them, or where it was if the call is refused
+    pub place : MatchResult result (λ _. new.place ≡ old.place + count) (λ _. new.place ≡ old.place)
     -- so many bits write the number
     pub below : IfOk result (λ value. value < 2 ^ count)
+    -- the number is that of the bits, or they are too few
+    pub told : FromNext feeding device old before (AnswersBits result old.place count)
+    -- where they end after the first of them, and all lie on one page, that page is held
+    pub end : NextEndHolds feeding device old new before count result
+    -- a device's failure has a cause
+    pub cause : DeviceCause result (device before).faults (device now).faults

@@ -4,8 +4,8 @@ ghost use Rattle.mg_dev.specs.Files.{Files};
 ghost use Rattle.mg_bits.specs.Feed.{HasBits, HoldsBits, KeepsPage, ToldBits};
 ghost use Rattle.mg_defs.specs.Bits.{Begins, digits};
 ghost use Rattle.mg_bits.specs.Keeping.{Keeps};
-ghost use Rattle.mg_bits.specs.Reader.{AnswersBit, AnswersBits, AnswersPiece, DeviceCause, at_place};
-ghost use Rattle.mg_bits.specs.NextBits.{ReadNextPart, ReadNext, ReadsNext, ReadsNumber, NextEndHolds, FromNext};
+ghost use Rattle.mg_bits.specs.Reader.{AnswersBit, AnswersPiece, at_place};
+ghost use Rattle.mg_bits.specs.NextBits.{ReadsBits, ReadsNext};
 
 use crate::kept_bits::KeptBits;
 use crate::{BitErr, Feed};
@@ -94,8 +94,9 @@ impl<F: Feed> BitReader<F> {
         requires place { self.old.place + count < 2 ^ 64 }
         requires some { 0 < count }
         requires room { self.old.place % 8 + count ≤ 8 }
-        ensures number { ReadsNumber F.feeding F.device F.fits self.old self.new dev.old dev.new
-            count result (AnswersPiece result self.old.place count) }
+        ensures next { ReadsNext F.feeding F.device F.fits self.old self.new dev.old dev.new count
+            result (AnswersPiece result self.old.place count) }
+        ensures below { IfOk result (λ value. value < 2 ^ count) }
         ensures keeps { KeepsPage (F.feeding self.old.feed) (F.feeding self.new.feed)
             self.old.place }
     {
@@ -117,18 +118,8 @@ impl<F: Feed> BitReader<F> {
         requires fits { F.fits self.old.feed (F.device dev.old).files }
         requires place { self.old.place + count < 2 ^ 64 }
         requires count { count ≤ 64 }
-        ensures fits { F.fits self.new.feed (F.device dev.new).files }
-        ensures read { OnOk result (ReadNext F.feeding F.device self.old self.new dev.old dev.new
-            count) }
-        ensures part { OnErr result (ReadNextPart F.feeding F.device self.old self.new dev.old
-            dev.new count) }
-        ensures place { MatchResult result (λ _. self.new.place ≡ self.old.place + count)
-            (λ _. self.new.place ≡ self.old.place) }
-        ensures below { IfOk result (λ value. value < 2 ^ count) }
-        ensures told { FromNext F.feeding F.device self.old dev.old
-            (AnswersBits result self.old.place count) }
-        ensures end { NextEndHolds F.feeding F.device self.old self.new dev.old count result }
-        ensures cause { DeviceCause result (F.device dev.old).faults (F.device dev.new).faults }
+        ensures { ReadsBits F.feeding F.device F.fits self.old self.new dev.old dev.new count
+            result }
     {
         if count == 0 || count > 57 {
             return self.bits_by_bytes(dev, count);
@@ -147,9 +138,8 @@ impl<F: Feed> BitReader<F> {
         requires fits { F.fits self.old.feed (F.device dev.old).files }
         requires place { self.old.place + count < 2 ^ 64 }
         requires count { count ≤ 64 }
-        ensures number { ReadsNumber F.feeding F.device F.fits self.old self.new dev.old dev.new
-            count result (AnswersBits result self.old.place count) }
-        ensures end { NextEndHolds F.feeding F.device self.old self.new dev.old count result }
+        ensures { ReadsBits F.feeding F.device F.fits self.old self.new dev.old dev.new count
+            result }
     {
         let start = self.place();
         let mut value = 0u64;
@@ -176,16 +166,8 @@ impl<F: Feed> BitReader<F> {
     pub fn bit(&mut self, dev: &mut F::Dev) -> Result<bool, BitErr>
         requires fits { F.fits self.old.feed (F.device dev.old).files }
         requires place { self.old.place + 1 < 2 ^ 64 }
-        ensures fits { F.fits self.new.feed (F.device dev.new).files }
-        ensures read { OnOk result (ReadNext F.feeding F.device self.old self.new dev.old dev.new
-            1) }
-        ensures part { OnErr result (ReadNextPart F.feeding F.device self.old self.new dev.old
-            dev.new 1) }
-        ensures place { MatchResult result (λ _. self.new.place ≡ self.old.place + 1)
-            (λ _. self.new.place ≡ self.old.place) }
-        ensures told { FromNext F.feeding F.device self.old dev.old
+        ensures { ReadsNext F.feeding F.device F.fits self.old self.new dev.old dev.new 1 result
             (AnswersBit result self.old.place) }
-        ensures cause { DeviceCause result (F.device dev.old).faults (F.device dev.new).faults }
     {
         match self.kept_bit() {
             Some(bit) => Ok(bit),

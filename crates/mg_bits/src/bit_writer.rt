@@ -6,7 +6,7 @@ ghost use Rattle.mg_dev.specs.Causes.{HasPutCause};
 ghost use Rattle.mg_dev.specs.Moments.{Between};
 ghost use Rattle.mg_defs.specs.Bits.{digits, bits_of, to_byte};
 ghost use Rattle.mg_bits.specs.Writer.{WroteTo};
-ghost use Rattle.mg_bits.specs.BitWriting.{GrewBits, Holds, PutsBits, WroteBits, bits_put, bits_filled};
+ghost use Rattle.mg_bits.specs.BitWriting.{GrewBits, Holds, PutsBits, WritesBits, WroteBits, bits_put, bits_filled};
 
 use crate::PageWriter;
 use mg_dev::{FileRef, PutErr, Store};
@@ -77,16 +77,8 @@ impl<'a> BitWriter<'a> {
         requires holds { Holds self.old (S.files store.old) }
         requires place { self.old.place ≤ 2 ^ 63 + 2 ^ 62 }
         requires count { count ≤ 64 }
-        ensures holds { OnOk result (Holds self.new (S.files store.new)) }
-        ensures bits { OnOk result (WroteBits self.old self.new (S.files store.old)
-            (S.files store.new) (digits count value)) }
-        ensures grew { GrewBits self.old.name (S.files store.old) (S.files store.new)
-            (self.old.buffered ++ digits count value) }
-        ensures held { length self.new.buffered < 32768 }
-        ensures name { self.new.name ≡ self.old.name }
-        ensures wrote { WroteTo self.old.name (S.files store.old) (S.files store.new)
-            (S.reads store.old) (S.reads store.new) }
-        ensures cause { HasPutCause (S.faults store.old) (S.faults store.new) result }
+        ensures { Between S.files S.reads S.faults store.old store.new
+            (WritesBits self.old self.new (digits count value) result) }
     {
         let _ = &self.bytes; // opens the invariant
         let mut left = count;

@@ -65,22 +65,8 @@ impl<'a, S: Store> PageFeed<'a, S> {
     #[inline]
     pub fn byte(&mut self, store: &mut S, at: u64) -> Result<Option<u8>, Failed>
         requires fits { Fits self.old (S.files store.old) }
-        ensures fits { Fits self.new (S.files store.new) }
-        ensures file { SameFile self.old self.new }
-        ensures looked { Between S.files S.reads S.faults store.old store.new
-            (Looked self.old.part) }
-        ensures told { IsSome (S.files store.old) →
-            IfOk result (λ byte. byte ≡ slice_get (bytes_at (S.files store.old) self.old.name) at) }
-        ensures calm { AsFeed S.files S.reads S.faults self.old self.new store.old store.new Calm }
-        ensures pages { AsFeed S.files S.reads S.faults self.old self.new store.old store.new
-            (OnRange (8 * at) (8 * at + 1) ReadsWithin) }
-        ensures held { IfOk result (λ byte.
-            OnSome byte (self.new.held ≡ Some (page_of 4096 (8 * at)))) }
-        ensures keeps { self.old.held ≡ Some (page_of 4096 (8 * at)) →
-            self.new.held ≡ self.old.held }
-        ensures turned { self.new.held ≢ self.old.held →
-            Rose (S.reads store.old self.old.part) (S.reads store.new self.old.part) }
-        ensures cause { HasCause (S.faults store.old) (S.faults store.new) result }
+        ensures { Between S.files S.reads S.faults store.old store.new
+            (AsksByte self.old self.new at result) }
     {
         if self.window.has(at) {
             let index = (at - self.window.first) as usize;

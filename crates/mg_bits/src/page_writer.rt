@@ -1,10 +1,10 @@
 //! Bytes into a file, through one page.
-ghost use Rattle.std.specs.Prelude.{◌≡◌, ◌<◌, ◌+◌, ◌++◌, ◌∷◌, [], IfOk, OnOk, length, take, IsSome};
+ghost use Rattle.std.specs.Prelude.{◌≡◌, ◌<◌, ◌+◌, ◌++◌, ◌∷◌, [], IfOk, length, take, IsSome};
 ghost use Rattle.mg_dev.specs.Names.{full_name};
 ghost use Rattle.mg_dev.specs.Causes.{HasPutCause};
-ghost use Rattle.mg_dev.specs.Files.{AfterReset, GrewInPart, grown};
+ghost use Rattle.mg_dev.specs.Files.{AfterReset};
 ghost use Rattle.mg_dev.specs.Moments.{Between};
-ghost use Rattle.mg_bits.specs.Writer.{Appends, KeepsBytes, Writing, Wrote, WroteTo, put_to};
+ghost use Rattle.mg_bits.specs.Writer.{Appends, PutsBytes, SendsBytes, Writing, WroteTo, put_to};
 
 use mg_dev::{FileRef, PutErr, Store};
 use std::alloc::Global;
@@ -70,16 +70,8 @@ impl<'a> PageWriter<'a> {
 
     /// Writes one byte.
     pub fn put<S: Store>(&mut self, store: &mut S, byte: u8) -> Result<(), PutErr>
-        ensures bytes { OnOk result (Wrote self.old self.new (S.files store.old) (S.files store.new)
-            (byte ∷ [])) }
-        ensures grew { GrewInPart (S.files store.old) (S.files store.new) self.old.name
-            (self.old.buffered ++ byte ∷ []) }
-        ensures page { length self.new.buffered < 4096 }
-        ensures name { self.new.name ≡ self.old.name }
-        ensures still { KeepsBytes self.old.name (S.files store.old) (S.files store.new) }
-        ensures wrote { WroteTo self.old.name (S.files store.old) (S.files store.new)
-            (S.reads store.old) (S.reads store.new) }
-        ensures cause { HasPutCause (S.faults store.old) (S.faults store.new) result }
+        ensures { Between S.files S.reads S.faults store.old store.new
+            (PutsBytes self.old self.new (byte ∷ []) result) }
     {
         let used = self.used;
         self.page[used] = byte;
@@ -98,16 +90,8 @@ impl<'a> PageWriter<'a> {
 
     /// Writes the bytes of a piece.
     pub fn put_all<S: Store>(&mut self, store: &mut S, piece: &[u8]) -> Result<(), PutErr>
-        ensures bytes { OnOk result (Wrote self.old self.new (S.files store.old) (S.files store.new)
-            piece.now) }
-        ensures grew { GrewInPart (S.files store.old) (S.files store.new) self.old.name
-            (self.old.buffered ++ piece.now) }
-        ensures page { length self.new.buffered < 4096 }
-        ensures name { self.new.name ≡ self.old.name }
-        ensures still { KeepsBytes self.old.name (S.files store.old) (S.files store.new) }
-        ensures wrote { WroteTo self.old.name (S.files store.old) (S.files store.new)
-            (S.reads store.old) (S.reads store.new) }
-        ensures cause { HasPutCause (S.faults store.old) (S.faults store.new) result }
+        ensures { Between S.files S.reads S.faults store.old store.new
+            (PutsBytes self.old self.new piece.now result) }
     {
         if piece.len() < PAGE - self.used {
             self.keep(piece);
@@ -137,19 +121,8 @@ impl<'a> PageWriter<'a> {
 
     /// Appends what is held; then the file holds all bytes that were written.
     pub fn finish<S: Store>(&mut self, store: &mut S) -> Result<(), PutErr>
-        ensures bytes { OnOk result (Wrote self.old self.new (S.files store.old) (S.files store.new)
-            []) }
-        ensures sent { OnOk result (S.files store.new ≡ grown (S.files store.old) self.old.name
-            self.old.buffered) }
-        ensures grew { GrewInPart (S.files store.old) (S.files store.new) self.old.name
-            self.old.buffered }
-        ensures page { length self.new.buffered < 4096 }
-        ensures nothing { OnOk result (self.new.buffered ≡ []) }
-        ensures name { self.new.name ≡ self.old.name }
-        ensures still { KeepsBytes self.old.name (S.files store.old) (S.files store.new) }
-        ensures wrote { WroteTo self.old.name (S.files store.old) (S.files store.new)
-            (S.reads store.old) (S.reads store.new) }
-        ensures cause { HasPutCause (S.faults store.old) (S.faults store.new) result }
+        ensures { Between S.files S.reads S.faults store.old store.new
+            (SendsBytes self.old self.new result) }
     {
         let used = self.used;
         match append(store, &self.file, &self.page[..used]) {

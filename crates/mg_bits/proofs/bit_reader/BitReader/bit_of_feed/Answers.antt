@@ -10,7 +10,7 @@ returns-in-Some g c =
     (next_held (omega arith) (rw (← c.keep.ensures) at c.requires.fits) e.held e.feed e.some (e.told _ (rw (← c.keep.ensures) at c.requires.fits)))
 
 pub returns-in-Err : goal.returns-in-Err
-returns-in-Err g c = from_same (AnswersBit (Err c.in-Err.refusal)) (c.in-None.ensures.none ∙ c.keep.ensures) (bit_refused _ c.in-Err.ensures.number.next)
+returns-in-Err g c = from_same (AnswersBit (Err c.in-Err.refusal)) (c.in-None.ensures.none ∙ c.keep.ensures) (bit_refused _ c.in-Err.ensures.next)
 
 pub returns-in-Ok : goal.returns-in-Ok
-returns-in-Ok g c = from_same (AnswersBit (Ok (nat_eq c.in-Ok.value 1))) (c.in-None.ensures.none ∙ c.keep.ensures) (bit_got _ c.in-Ok.ensures.number)
+returns-in-Ok g c = from_same (AnswersBit (Ok (nat_eq c.in-Ok.value 1))) (c.in-None.ensures.none ∙ c.keep.ensures) (bit_got _ c.in-Ok.ensures.below c.in-Ok.ensures.next)

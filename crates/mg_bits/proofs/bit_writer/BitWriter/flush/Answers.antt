@@ -7,10 +7,8 @@ no_rest count place whole is = sym is ∙ whole
 
 pub returns-clause-put : goal.returns-clause-put
 returns-clause-put g c =
-    let e = c.finish.ensures in
     rw (← c.self.view_is)
-    (bytes_out _ _ c.self.inside.rest _ (no_rest c.self.inside.count c.self.inside.place (rw (← c.self.view_is) at c.requires.whole) c.self.invariant.2)
-    e.bytes e.grew e.page e.name e.still e.wrote e.cause)
+    (bytes_out c.self.inside.rest _ (no_rest c.self.inside.count c.self.inside.place (rw (← c.self.view_is) at c.requires.whole) c.self.invariant.2) c.finish.ensures)
 
 pub returns-clause-nothing : goal.returns-clause-nothing
 returns-clause-nothing g c =

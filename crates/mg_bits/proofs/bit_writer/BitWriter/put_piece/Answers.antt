@@ -9,15 +9,13 @@ returns-then-total-lt8 g c =
 
 pub returns-in-Ok : goal.returns-in-Ok
 returns-in-Ok g c =
-    let e = c.in-Ok.ensures in
     rw (← c.self.view_is, c.low-self-inside.ensures)
     (piece_sent _ c.self.inside.rest c.self.inside.count c.requires.bits c.from-in-Ok.ensures c.join-word.ensures.value _ (c.self.inside.count + c.args.size - 8) c.high.ensures
     (omega arith) (omega (arith, c.self.invariant.0))
-    (record { bytes = e.bytes; grew = e.grew; page = e.page; name = e.name; still = e.still; wrote = e.wrote; cause = e.cause }))
+    c.in-Ok.ensures)
 
 pub returns-in-Err : goal.returns-in-Err
 returns-in-Err g c =
-    let e = c.in-Err.ensures in
     rw (← c.self.view_is)
     (piece_refused _ c.self.inside.rest c.self.inside.count c.requires.bits refl c.join-word.ensures.value _ (c.self.inside.count + c.args.size - 8) c.high.ensures (omega arith) c.self.invariant.0
-    (record { bytes = e.bytes; grew = e.grew; page = e.page; name = e.name; still = e.still; wrote = e.wrote; cause = e.cause }))
+    c.in-Err.ensures)

@@ -1,4 +1,4 @@
-use Rattle.std.proofs.Common.{arith, ◌≡◌, ◌+◌, ◌∙◌, length, length-set, refl}
+use Rattle.std.proofs.Common.{arith, ◌+◌, ◌∙◌, length, length-set, refl}
 use Rattle.mg_bits.proofs.Fills.{byte_part, byte_read, copied_read, ends_within, filled_more, filled_on, looked_then, same_then, whole_buffer, whole_held, whole_part}
 use Rattle.mg_bits.proofs.page_feed.PageFeed.fill.Goals as goal
 

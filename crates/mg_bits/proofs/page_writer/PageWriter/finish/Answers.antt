@@ -1,15 +1,12 @@
-use Rattle.std.proofs.Common.{rules, ◌≡◌, refl}
-use Rattle.mg_dev.specs.Files.{grown}
-use Rattle.mg_bits.proofs.Growing.{grew_all}
-use Rattle.mg_bits.proofs.PutLaws.{bytes_sent}
+use Rattle.std.proofs.Common.{arith, ap, refl, take, length-take}
+use Rattle.mg_bits.proofs.PutLaws.{held_refused, held_sent}
 use Rattle.mg_bits.proofs.page_writer.PageWriter.finish.Goals as goal
 
-pub returns-in-Ok-clause-bytes : goal.returns-in-Ok-clause-bytes
-returns-in-Ok-clause-bytes g c =
-    let sent : g.S.Store.files c.append.new.store ≡ grown (g.S.Store.files c.args.store.now) c.args.self.now.name c.args.self.now.buffered = search rules in
-    rw (← c.self.view_is) (record { name = refl; bytes = bytes_sent _ _ _ _ (rw (← c.self.view_is) at sent) })
+pub returns-in-Ok : goal.returns-in-Ok
+returns-in-Ok g c = rw (← c.self.view_is) (held_sent refl (ap (take c.self.inside.used) c.deref.ensures.value) refl c.in-Ok.ensures)
 
-pub returns-in-Ok-clause-grew : goal.returns-in-Ok-clause-grew
-returns-in-Ok-clause-grew g c =
-    let sent : g.S.Store.files c.append.new.store ≡ grown (g.S.Store.files c.args.store.now) c.args.self.now.name c.args.self.now.buffered = search rules in
-    grew_all _ _ _ _ _ sent refl
+pub returns-in-Err : goal.returns-in-Err
+returns-in-Err g c =
+    rw (← c.self.view_is)
+    (held_refused refl (ap (take c.self.inside.used) c.deref.ensures.value) (omega (arith, length-take c.self.inside.used c.self.inside.page.items, c.self.invariant.1))
+    c.in-Err.ensures)
