@@ -11,7 +11,7 @@ use Rattle.mg_bits.specs.Reading.{Reading}
 use Rattle.mg_bits.specs.declared.code_err.CodeErr.{CodeErr}
 use Rattle.mg_bits.specs.declared.code_err.CodeErr.TheVariants.{Device as CodeDevice, End, Over}
 use Rattle.mg_bits.proofs.CallerLemmas.{calm_more, read_step, same_told}
-use Rattle.mg_codes.specs.Readers.{ReadsCode}
+use Rattle.mg_bits.specs.CodeReads.{ReadsCode}
 use Rattle.mg_codes.specs.Refusals.{of_whole}
 use Rattle.mg_codes.proofs.TwoParts.{FirstRead, Second, TwoParts, first_pages, first_read, first_refused, first_stands, second_pages, second_refused, second_value, whole_is}
 

@@ -1,22 +1,15 @@
--- The ways out of a reader of a code: each makes what the reader promises.
-use Rattle.std.proofs.Common.{arith, ◌≡◌, ◌+◌, ◌<◌, ◌≤◌, ℕ, Bool, Ok, Err, [], ◌∷◌, ◌++◌, length, refl, add-zero, length-append}
+-- The way out of a reader of a code that the page which is held has whole.
+use Rattle.std.proofs.Common.{◌≡◌, ◌+◌, ℕ, Ok, refl}
 use Rattle.std.specs.declared.option.Option.{Option}
 use Rattle.mg_dev.specs.Files.{Files}
-use Rattle.mg_defs.specs.Bits.{Begins, Bits}
-use Rattle.mg_defs.specs.Answers.{CutShort, IsNone, IsPrefixFree}
+use Rattle.mg_defs.specs.Bits.{Bits}
 use Rattle.mg_bits.specs.Feed.{Feeding, Device}
-use Rattle.mg_bits.specs.NextBits.{FromNext, ReadNext, ReadNextPart}
-use Rattle.mg_bits.specs.Reader.{AnswersBit, DeviceCause}
-use Rattle.mg_bits.specs.CodeAnswers.{CodeCause, of_bit}
+use Rattle.mg_bits.specs.CodeReads.{ReadsCode}
 use Rattle.mg_bits.specs.Reading.{Reading}
-use Rattle.mg_bits.specs.declared.bit_err.BitErr.{BitErr}
-use Rattle.mg_bits.specs.declared.bit_err.BitErr.TheVariants.{Device as BitDevice, End as BitEnd}
-use Rattle.mg_bits.specs.declared.code_err.CodeErr.TheVariants.{Over}
-use Rattle.mg_bits.proofs.CallerLemmas.{calm_none, calm_more, read_none, read_held, read_step, part_step, same_told, walk_begun, walk_bit, walk_none, walk_whole, walk_refused, walk_pages, no_pages}
-use Rattle.mg_codes.specs.Readers.{IsHeldCode, ReadsCode}
+use Rattle.mg_bits.proofs.CallerLemmas.{calm_none, read_held, walk_whole}
+use Rattle.mg_codes.specs.Readers.{IsHeldCode}
 
--- ---- a code on the page that is held
-
+-- a code on the page that is held is what its reader promises
 pub held_is_read : {Fed Dev : Type 0} {taken : ℕ → ℕ → Type 0} {limit : ℕ} {code : ℕ → Bits} {agrees : Fed → Option Files → Type 0} {feeding : Fed → Feeding} {device : Dev → Device}
     {old new : Reading Fed} {d : Dev} (x size : ℕ) → agrees old.feed (device d).files → IsHeldCode taken limit code agrees feeding old x size →
     new.feed ≡ old.feed → new.place ≡ old.place + size → ReadsCode taken limit code agrees feeding device old new d d (Ok x)
@@ -29,107 +22,4 @@ held_is_read {Fed} {Dev} {taken} {limit} {code} {agrees} {feeding} {device} {old
   told = walk_whole _ old.place limit (taken limit) code (code x) x (held.told _ fits) held.range refl;
   range = held.range;
   cause = tt;
-}
-
--- ---- a code that is read bit by bit
-
--- these bits were read from the reader's place on
-pub record HasRead {Fed Dev : Type 0} (agrees : Fed → Option Files → Type 0) (feeding : Fed → Feeding) (device : Dev → Device)
-    (old new : Reading Fed) (dev now : Dev) (bits : Bits) : Type 0 where
-  pub fits : agrees new.feed (device now).files
-  pub place : new.place ≡ old.place + length bits
-  pub told : FromNext feeding device old dev (Begins bits)
-  pub read : ReadNext feeding device old new dev now (length bits)
-
-pub read_nothing : {Fed Dev : Type 0} {agrees : Fed → Option Files → Type 0} {feeding : Fed → Feeding} {device : Dev → Device}
-    {r : Reading Fed} {d : Dev} → agrees r.feed (device d).files → HasRead agrees feeding device r r d d []
-read_nothing {Fed} {Dev} {agrees} {feeding} {device} {r} {d} fits = record {
-  fits = fits;
-  place = omega arith;
-  told = walk_begun _ r.place;
-  read = rw add-zero (read_none (feeding r.feed) (device d) r.place);
-}
-
--- what a reader of a bit does where it answers one
-pub record GotBit {Fed Dev : Type 0} (agrees : Fed → Option Files → Type 0) (feeding : Fed → Feeding) (device : Dev → Device)
-    (old new : Reading Fed) (dev now : Dev) (bit : Bool) : Type 0 where
-  pub fits : agrees new.feed (device now).files
-  pub place : new.place ≡ old.place + 1
-  pub told : FromNext feeding device old dev (AnswersBit (Ok bit) old.place)
-  pub read : ReadNext feeding device old new dev now 1
-
-pub read_a_bit : {Fed Dev : Type 0} {agrees : Fed → Option Files → Type 0} {feeding : Fed → Feeding} {device : Dev → Device}
-    {old mid new : Reading Fed} {d0 d1 d2 : Dev} {bits : Bits} {bit : Bool} → 0 < (feeding old.feed).page →
-    HasRead agrees feeding device old mid d0 d1 bits → GotBit agrees feeding device mid new d1 d2 bit →
-    HasRead agrees feeding device old new d0 d2 (bits ++ bit ∷ [])
-read_a_bit {Fed} {Dev} {agrees} {feeding} {device} {old} {mid} {new} {d0} {d1} {d2} {bits} {bit} some one two =
-    let long : length (bits ++ bit ∷ []) ≡ length bits + 1 = length-append bits (bit ∷ []) in
-    record {
-      fits = two.fits;
-      place = rw long (omega (arith, one.place, two.place));
-      told = walk_bit _ old.place mid.place bits (bit ∷ []) one.place one.told (rw (same_told _ _ _ _ one.read.calm) at two.told);
-      read = rw long (read_step _ _ _ _ _ _ old.place (length bits) 1 mid.place some one.place one.read two.read);
-    }
-
--- the bits are the code of a number
-pub code_is_read : {Fed Dev : Type 0} {taken : ℕ → ℕ → Type 0} {limit : ℕ} {code : ℕ → Bits} {agrees : Fed → Option Files → Type 0} {feeding : Fed → Feeding} {device : Dev → Device}
-    {old new : Reading Fed} {dev now : Dev} {bits : Bits} (x : ℕ) → HasRead agrees feeding device old new dev now bits → taken limit x → code x ≡ bits →
-    ReadsCode taken limit code agrees feeding device old new dev now (Ok x)
-code_is_read {Fed} {Dev} {taken} {limit} {code} {agrees} {feeding} {device} {old} {new} {dev} {now} {bits} x one within is = record {
-  fits = one.fits;
-  calm = one.read.calm;
-  read = rw is one.read;
-  pages = tt;
-  place = rw is one.place;
-  told = walk_whole _ old.place limit (taken limit) code bits x one.told within is;
-  range = within;
-  cause = tt;
-}
-
--- the bits are the front of no code
-pub no_code_is_read : {Fed Dev : Type 0} {taken : ℕ → ℕ → Type 0} {limit : ℕ} {code : ℕ → Bits} {agrees : Fed → Option Files → Type 0} {feeding : Fed → Feeding} {device : Dev → Device}
-    {old mid new : Reading Fed} {dev now : Dev} {bits : Bits} → HasRead agrees feeding device old mid dev now bits → IsNone (taken limit) code bits →
-    new.feed ≡ mid.feed → new.place ≡ old.place → ReadsCode taken limit code agrees feeding device old new dev now (Err (Over old.place limit))
-no_code_is_read {Fed} {Dev} {taken} {limit} {code} {agrees} {feeding} {device} {old} {mid} {new} {dev} {now} {bits} one none feed place = record {
-  fits = rw feed one.fits;
-  calm = rw feed one.read.calm;
-  read = tt;
-  pages = rw feed (no_pages _ old.place (taken limit) code bits (feeding old.feed) (feeding mid.feed) (device dev) (device now) one.told none);
-  place = place;
-  told = walk_none _ old.place limit (taken limit) code bits one.told none;
-  range = tt;
-  cause = tt;
-}
-
--- what a reader of a bit does where it is refused
-pub record LostBit {Fed Dev : Type 0} (agrees : Fed → Option Files → Type 0) (feeding : Fed → Feeding) (device : Dev → Device)
-    (old new : Reading Fed) (dev now : Dev) (refusal : BitErr) : Type 0 where
-  pub fits : agrees new.feed (device now).files
-  pub told : FromNext feeding device old dev (AnswersBit (Err refusal) old.place)
-  pub part : ReadNextPart feeding device old new dev now 1
-  pub cause : DeviceCause {T = Bool} (Err refusal) (device dev).faults (device now).faults
-
-caused : (refusal : BitErr) (place a b c : ℕ) → DeviceCause {T = Bool} (Err refusal) b c → a ≤ b → CodeCause {T = ℕ} (Err (of_bit refusal place)) a c
-caused BitDevice place a b c cause le = omega arith
-caused (BitEnd at) place a b c cause le = tt
-
--- the bits are a front of a code, and there are no more
-pub a_code_is_cut : {Fed Dev : Type 0} {taken : ℕ → ℕ → Type 0} {limit : ℕ} {code : ℕ → Bits} {agrees : Fed → Option Files → Type 0} {feeding : Fed → Feeding} {device : Dev → Device}
-    {old mid lost new : Reading Fed} {d0 d1 d2 : Dev} {bits : Bits} {refusal : BitErr} → 0 < (feeding old.feed).page → HasRead agrees feeding device old mid d0 d1 bits →
-    LostBit agrees feeding device mid lost d1 d2 refusal → CutShort (taken limit) code bits → IsPrefixFree (taken limit) code →
-    new.feed ≡ lost.feed → new.place ≡ old.place → ReadsCode taken limit code agrees feeding device old new d0 d2 (Err (of_bit refusal old.place))
-a_code_is_cut {Fed} {Dev} {taken} {limit} {code} {agrees} {feeding} {device} {old} {mid} {lost} {new} {d0} {d1} {d2} {bits} {refusal} some one two cut free feed place = record {
-  fits = rw feed two.fits;
-  calm = rw feed (calm_more (feeding old.feed) (feeding mid.feed) (feeding lost.feed) (device d0) (device d1) (device d2) one.read.calm two.part.calm);
-  read = tt;
-  pages =
-      rw feed
-      (walk_pages _ old.place (taken limit) code bits (feeding old.feed) (feeding lost.feed) (device d0) (device d2) some free one.told cut
-      (part_step _ _ _ _ _ _ old.place (length bits) 1 mid.place (length bits + 1) some one.place (omega arith) one.read two.part));
-  place = place;
-  told =
-      walk_refused _ old.place mid.place limit (taken limit) code bits refusal one.place free one.told cut
-      (rw (same_told _ _ _ _ one.read.calm) at two.told);
-  range = tt;
-  cause = caused refusal old.place _ _ _ two.cause one.read.calm.faults;
 }

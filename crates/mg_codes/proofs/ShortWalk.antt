@@ -1,6 +1,6 @@
 -- Short codes that are read bit by bit.
 use Rattle.std.proofs.Common.{◌≡◌, ◌+◌, ◌*◌, ◌/◌, ◌%◌, ◌^◌, ◌≤◌, ◌<◌, ◌-◌, [], ◌∷◌, ◌++◌, ◌∙◌, if◌then◌else◌}
-use Rattle.std.proofs.Common.{arith, suc, zero, ℕ, Bool, true, false, length, take, refl, sym, ap, subst, nat_eq, inl, inr, append-nil, add-zero, one-mul}
+use Rattle.std.proofs.Common.{arith, suc, zero, ℕ, Ok, Bool, true, false, length, take, refl, sym, ap, subst, nat_eq, inl, inr, append-nil, add-zero, one-mul}
 use Rattle.std.specs.declared.option.Option.{Option}
 use Rattle.std.proofs.lemmas.Bool.{cases_lt, cond-true, cond-false, lt-ltb, le-ltb, eq-eqb, eqb-true}
 use Rattle.std.proofs.Math.Pow.{pow_mono}
@@ -15,7 +15,9 @@ use Rattle.mg_defs.proofs.CodeLaws.{IsCeil, is_ceil, one_ceil, short_low, short_
 use Rattle.mg_dev.specs.Files.{Files}
 use Rattle.mg_bits.specs.Feed.{Device, Feeding}
 use Rattle.mg_bits.specs.Reading.{Reading}
-use Rattle.mg_codes.proofs.ReadLaws.{GotBit, HasRead, read_a_bit}
+use Rattle.mg_bits.specs.NextBits.{ReadsNext}
+use Rattle.mg_bits.specs.Reader.{AnswersBit}
+use Rattle.mg_bits.proofs.CallerLemmas.{HasRead, read_a_bit}
 use Rattle.mg_codes.specs.Remainders.{IsWholeAt, IsOpenAt, least_from, least_of}
 
 -- the greatest length of a short code, and how many have one bit less
@@ -291,7 +293,7 @@ below_free b bound some within small = record {
 -- one bit more of a number
 pub read_a_digit : {Fed Dev : Type 0} {agrees : Fed → Option Files → Type 0} {feeding : Fed → Feeding} {device : Dev → Device}
     {old mid new : Reading Fed} {d0 d1 d2 : Dev} {bit : Bool} (done high v : ℕ) → 0 < (feeding old.feed).page → v ≡ 2 * high + (if bit then 1 else 0) →
-    HasRead agrees feeding device old mid d0 d1 (digits done high) → GotBit agrees feeding device mid new d1 d2 bit →
+    HasRead agrees feeding device old mid d0 d1 (digits done high) → ReadsNext feeding device agrees mid new d1 d2 1 (Ok bit) (AnswersBit (Ok bit) mid.place) →
     HasRead agrees feeding device old new d0 d2 (digits (done + 1) v)
 read_a_digit {bit = bit} done high v some is one two = rw (digits_bit done high v bit is) (read_a_bit some one two)
 

@@ -1,12 +1,9 @@
--- What a reader of a code needs and does, by the functions that tell what contracts see of its feed and its device.
-use Rattle.std.specs.Prelude.{◌≡◌, ℕ, ◌+◌, ◌^◌, ◌≤◌, ◌<◌, length, Option, Result, IfOk, OnErr, MatchResult}
+-- What a reader of a code needs, by the functions that tell what contracts see of its feed and its device.
+use Rattle.std.specs.Prelude.{◌≡◌, ℕ, ◌^◌, ◌≤◌, ◌<◌, length, Option}
 use Rattle.mg_dev.specs.Files.{Files}
 use Rattle.mg_defs.specs.Bits.{Begins, Bits, FromPlace}
-use Rattle.mg_bits.specs.Feed.{Calm, Feeding, Device, HoldsBits}
-use Rattle.mg_bits.specs.CodeAnswers.{AnswersCode, CodeCause, OnlyCodePages}
-use Rattle.mg_bits.specs.NextBits.{FromNext, ReadNext}
+use Rattle.mg_bits.specs.Feed.{Feeding, Device, HoldsBits}
 use Rattle.mg_bits.specs.Reading.{Reading}
-use Rattle.mg_bits.specs.declared.code_err.CodeErr.{CodeErr}
 
 -- a parameter of Golomb and short codes
 pub record IsParameter (b : ℕ) : Type 0 where
@@ -24,28 +21,6 @@ pub record CanRead {Fed Dev : Type 0} (last limit : ℕ) (agrees : Fed → Optio
   pub some : 1 ≤ limit
   -- and none of more than 48 bits
   pub small : limit < 2 ^ 48
-
--- The number is answered whose code stands at the reader's place, or why there is none; of the numbers those are taken that a limit allows.
-pub record ReadsCode {Fed Dev : Type 0} (taken : ℕ → ℕ → Type 0) (limit : ℕ) (code : ℕ → Bits)
-    (agrees : Fed → Option Files → Type 0)
-    (feeding : Fed → Feeding) (device : Dev → Device) (old new : Reading Fed) (dev now : Dev)
-    (result : Result ℕ CodeErr) : Type 0 where
-  -- the feed agrees with its device
-  pub fits : agrees new.feed (device now).files
-  -- nothing is read but the feed's own part, and no file changes
-  pub calm : Calm (feeding old.feed) (feeding new.feed) (device dev) (device now)
-  -- the pages of the code were read, each once, and its last page is held
-  pub read : IfOk result (λ x. ReadNext feeding device old new dev now (length (code x)))
-  -- where the call is refused, no page was read on which a code that stands there does not lie
-  pub pages : OnErr result (OnlyCodePages feeding device old new dev now (taken limit) code)
-  -- the place goes behind the code; where the call is refused it is the same
-  pub place : MatchResult result (λ x. new.place ≡ old.place + length (code x)) (λ _. new.place ≡ old.place)
-  -- the number whose code stands there, or that the bits end within a code, or that none is taken
-  pub told : FromNext feeding device old dev (AnswersCode result (taken limit) code limit old.place)
-  -- the number is one that is taken
-  pub range : IfOk result (taken limit)
-  -- a device's failure has a cause
-  pub cause : CodeCause result (device dev).faults (device now).faults
 
 -- The code of a number that is taken stands at the reader's place, so many bits, and the page that is held has all of them.
 pub record IsHeldCode {Fed : Type 0} (taken : ℕ → ℕ → Type 0) (limit : ℕ) (code : ℕ → Bits)

@@ -1,4 +1,5 @@
--- How a short code is read bit by bit. It has at most `size` bits, and `few` remainders have a code of one bit less; after `done` bits these write the number `high`.
+-- How a short code is read bit by bit. It has at most `size` bits, and `few` remainders have a code of one bit less; after `done`
+-- bits these write the number `high`.
 use Rattle.std.specs.Prelude.{◌≡◌, ℕ, ◌+◌, ◌-◌, ◌*◌, ◌^◌, ◌<◌, ◌≤◌, ◌⊎◌, nat_lt, nat_eq, if◌then◌else◌}
 
 -- the code of the remainder v was read whole

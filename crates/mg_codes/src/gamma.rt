@@ -3,7 +3,8 @@ ghost use Rattle.std.specs.Prelude.{◌≡◌, ◌+◌, ◌*◌, ◌≤◌, ◌<
 ghost use Rattle.mg_defs.specs.Codes.{gamma};
 ghost use Rattle.mg_defs.specs.Answers.{UpTo};
 ghost use Rattle.mg_bits.specs.BitWriting.{Holds};
-ghost use Rattle.mg_codes.specs.Readers.{CanRead, ReadsCode};
+ghost use Rattle.mg_bits.specs.CodeReads.{ReadsCode};
+ghost use Rattle.mg_codes.specs.Readers.{CanRead};
 ghost use Rattle.mg_codes.specs.Writers.{PutsBits};
 
 use crate::held::gamma_here;

@@ -3,7 +3,8 @@ ghost use Rattle.std.specs.Prelude.{◌≡◌, ◌+◌, ◌*◌, ◌≤◌, ◌<
 ghost use Rattle.mg_defs.specs.Codes.{golomb};
 ghost use Rattle.mg_defs.specs.Answers.{UpTo};
 ghost use Rattle.mg_bits.specs.BitWriting.{Holds};
-ghost use Rattle.mg_codes.specs.Readers.{CanRead, IsParameter, ReadsCode};
+ghost use Rattle.mg_bits.specs.CodeReads.{ReadsCode};
+ghost use Rattle.mg_codes.specs.Readers.{CanRead, IsParameter};
 ghost use Rattle.mg_codes.specs.Writers.{PutsBits};
 
 use crate::held::golomb_here;

@@ -3,7 +3,8 @@ ghost use Rattle.std.specs.Prelude.{◌≡◌, ◌+◌, ◌*◌, ◌≤◌, ◌<
 ghost use Rattle.mg_defs.specs.Codes.{short, shorter, ceil_log2};
 ghost use Rattle.mg_defs.specs.Answers.{Below};
 ghost use Rattle.mg_codes.specs.Held.{IsFirstCode};
-ghost use Rattle.mg_codes.specs.Readers.{CanRead, IsHeldCode, IsParameter, ReadsCode};
+ghost use Rattle.mg_bits.specs.CodeReads.{ReadsCode};
+ghost use Rattle.mg_codes.specs.Readers.{CanRead, IsHeldCode, IsParameter};
 ghost use Rattle.mg_codes.specs.Remainders.{IsBound, IsWholeAt, IsOpenAt, least_of};
 ghost use Rattle.mg_codes.specs.Refusals.{OverBelow};
 

@@ -2,7 +2,8 @@
 ghost use Rattle.std.specs.Prelude.{◌≡◌, ◌+◌, ◌≤◌, ◌<◌, ◌^◌};
 ghost use Rattle.mg_defs.specs.Codes.{short};
 ghost use Rattle.mg_defs.specs.Answers.{Below};
-ghost use Rattle.mg_codes.specs.Readers.{CanRead, ReadsCode};
+ghost use Rattle.mg_bits.specs.CodeReads.{ReadsCode};
+ghost use Rattle.mg_codes.specs.Readers.{CanRead};
 ghost use Rattle.mg_codes.specs.Writers.{PutsBits};
 ghost use Rattle.mg_codes.specs.Refusals.{IsNotOver, as_bits, as_code};
 ghost use Rattle.mg_bits.specs.BitWriting.{Holds};

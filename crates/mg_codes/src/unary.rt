@@ -3,7 +3,8 @@ ghost use Rattle.std.specs.Prelude.{◌≡◌, ◌+◌, ◌≤◌, ◌<◌, ◌^
 ghost use Rattle.mg_defs.specs.Codes.{unary};
 ghost use Rattle.mg_defs.specs.Answers.{UpTo};
 ghost use Rattle.mg_codes.specs.Held.{IsOnesBeforeZero};
-ghost use Rattle.mg_codes.specs.Readers.{CanRead, IsHeldCode, ReadsCode};
+ghost use Rattle.mg_bits.specs.CodeReads.{ReadsCode};
+ghost use Rattle.mg_codes.specs.Readers.{CanRead, IsHeldCode};
 ghost use Rattle.mg_codes.specs.Writers.{PutsBits};
 ghost use Rattle.mg_bits.specs.BitWriting.{Holds};
 

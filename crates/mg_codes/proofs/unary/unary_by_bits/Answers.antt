@@ -1,7 +1,7 @@
-use Rattle.std.proofs.Common.{arith, ◌≡◌, ◌+◌, true, false}
+use Rattle.std.proofs.Common.{arith, ◌≡◌, ◌+◌}
 use Rattle.mg_defs.specs.Codes.{ones}
 use Rattle.mg_defs.proofs.CodeLaws.{length_ones, ones_more, unary_free, unary_next}
-use Rattle.mg_codes.proofs.ReadLaws.{a_code_is_cut, code_is_read, no_code_is_read, read_a_bit, read_nothing}
+use Rattle.mg_bits.proofs.CallerLemmas.{a_code_is_cut, code_is_read, no_code_is_read, read_a_bit, read_nothing}
 use Rattle.mg_codes.proofs.UnaryWalk.{unary_none, unary_open}
 use Rattle.mg_codes.proofs.unary.unary_by_bits.Goals as goal
 
@@ -17,32 +17,19 @@ loop-ones-preserved g c = record {
   most = omega arith;
   read =
       rw (← ones_more c.loop-ones.ones)
-      (read_a_bit {bit = true} (g.met.F.Feed.whole_pages c.args.r.now.feed).some c.loop-ones.invariant.read
-      (record {
-        fits = c.in-Ok-true.ensures.fits;
-        place = c.in-Ok-true.ensures.place;
-        told = rw c.in-Ok-true.field-0-test at c.in-Ok-true.ensures.told;
-        read = c.in-Ok-true.ensures.read;
-      }));
+      (read_a_bit (g.met.F.Feed.whole_pages c.args.r.now.feed).some c.loop-ones.invariant.read (rw c.in-Ok-true.field-0-test at c.in-Ok-true.ensures));
 }
 
 pub returns-in-Ok-false : goal.returns-in-Ok-false
 returns-in-Ok-false g c =
     code_is_read (c.loop-ones.ones + 1)
-    (read_a_bit {bit = false} (g.met.F.Feed.whole_pages c.args.r.now.feed).some c.loop-ones.invariant.read
-    (record {
-      fits = c.in-Ok-false.ensures.fits;
-      place = c.in-Ok-false.ensures.place;
-      told = rw c.in-Ok-false.field-0-test at c.in-Ok-false.ensures.told;
-      read = c.in-Ok-false.ensures.read;
-    }))
+    (read_a_bit (g.met.F.Feed.whole_pages c.args.r.now.feed).some c.loop-ones.invariant.read (rw c.in-Ok-false.field-0-test at c.in-Ok-false.ensures))
     (omega arith, omega arith) (unary_next c.loop-ones.ones)
 
 pub returns-in-Err : goal.returns-in-Err
 returns-in-Err g c =
     rw (c.refused.ensures, c.place-start.ensures)
-    (a_code_is_cut {lost = c.bit.new.self} {refusal = c.in-Err.refusal} (g.met.F.Feed.whole_pages c.args.r.now.feed).some c.loop-ones.invariant.read
-    (record { fits = c.in-Err.ensures.fits; told = c.in-Err.ensures.told; part = c.in-Err.ensures.part; cause = c.in-Err.ensures.cause })
+    (a_code_is_cut (g.met.F.Feed.whole_pages c.args.r.now.feed).some c.loop-ones.invariant.read c.in-Err.ensures
     (unary_open c.args.limit c.loop-ones.ones c.loop-ones-test.true) (unary_free c.args.limit)
     c.seek.ensures.feed (omega (arith, c.seek.ensures.place, c.place-start.ensures)))
 

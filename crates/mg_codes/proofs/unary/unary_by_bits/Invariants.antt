@@ -1,6 +1,6 @@
 use Rattle.std.proofs.Common.{◌-◌, ◌≤◌}
 use Rattle.mg_defs.specs.Codes.{ones}
-use Rattle.mg_codes.proofs.ReadLaws.{HasRead}
+use Rattle.mg_bits.proofs.CallerLemmas.{HasRead}
 use Rattle.mg_codes.proofs.unary.unary_by_bits.Given as goal
 
 abbrev pub invariant-loop-ones : goal.invariant-loop-ones
