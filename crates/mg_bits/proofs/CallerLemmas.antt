@@ -10,8 +10,8 @@ pub use Rattle.mg_bits.proofs.Ranges.{calm_none, calm_more}
 pub use Rattle.mg_bits.proofs.Ranges.{held_after_none, held_after_some, held_after_more, lacks_next}
 -- a code that is read a bit at a time: no bit yet, a bit more, a whole code, no code, and a refusal
 pub use Rattle.mg_bits.proofs.CodeReads.{HasRead, read_nothing, read_a_bit, code_is_read, no_code_is_read, a_code_is_cut}
--- what is told of it: no bit yet, a bit more, a whole code, no code, a refusal, and the pages read
-pub use Rattle.mg_bits.proofs.Walks.{walk_begun, walk_bit, walk_whole, walk_none, walk_refused, walk_pages, no_pages}
+-- what is told where a whole code stands
+pub use Rattle.mg_bits.proofs.Walks.{walk_whole}
 -- what is told of a feed's source stays, and nothing is told of no bits
 pub use Rattle.mg_bits.proofs.Told.{same_told, told_nothing}
 -- the bits of a number in two parts, of its bytes, and of bytes from one on

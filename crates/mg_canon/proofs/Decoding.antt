@@ -1,5 +1,6 @@
 -- The steps of the decoder by lengths.
-use Rattle.std.proofs.Common.{◌≡◌, ℕ, zero, suc, ◌+◌, ◌-◌, ◌*◌, ◌/◌, ◌%◌, ◌^◌, ◌<◌, ◌≤◌, Bool, true, false, cond, List, [], ◌∷◌, ◌++◌, length, refl, sym, ap, ◌∙◌, subst, arith, take, get_or, ◌⊎◌, inl, inr, ⊎_elim, add-one}
+use Rattle.std.proofs.Common.{◌≡◌, ℕ, zero, suc, ◌+◌, ◌-◌, ◌*◌, ◌/◌, ◌%◌, ◌^◌, ◌<◌, ◌≤◌, Bool, true, false, cond, List, [], ◌∷◌, ◌++◌, length, refl, sym, ap, ◌∙◌, subst}
+use Rattle.std.proofs.Common.{arith, take, get_or, ◌⊎◌, inl, inr, ⊎_elim, add-one}
 use Rattle.std.proofs.lemmas.Grind.{common_steps}
 use Rattle.std.proofs.lemmas.List.{get_or_default, get_or_append_left, get_or_push, length_push}
 use Rattle.std.proofs.lemmas.Nat.{shr-shr}
@@ -7,14 +8,24 @@ use Rattle.std.proofs.lemmas.Bool.{cases_lt, cases_eq}
 use Rattle.std.specs.Prelude.{◌==◌}
 use Rattle.mg_defs.specs.Bits.{Bits, Begins, digits, is_odd}
 use Rattle.mg_defs.specs.Canon.{first_codeword, count_of, AreGood, codeword_value, codeword}
-use Rattle.mg_defs.specs.Answers.{Below, CutShort, IsNone}
+use Rattle.mg_defs.specs.Answers.{Below, CutShort, IsNone, IsPrefixFree}
 use Rattle.mg_defs.proofs.BitLaws.{length_digits}
 use Rattle.mg_defs.proofs.CanonSteps.{first-step, first-zero, first-last, nth}
-use Rattle.mg_defs.proofs.CanonLaws.{digits-low, good_within, good_full, codeword-many, goes_on_to}
-use Rattle.mg_canon.specs.Tables.{count_below, place_of, AreFirsts, AreNumbered, AreTables, AreBeginnings, IsBeginning, none_found as no_codeword}
+use Rattle.mg_defs.proofs.CanonLaws.{digits-low, good_within, good_full, codeword-many, codewords_free, goes_on_to}
+use Rattle.mg_canon.specs.Tables.{count_below, place_of, AreNumbered, AreTables, AreBeginnings, IsBeginning, none_found as no_codeword}
 use Rattle.mg_canon.specs.declared.found.Found.{Found}
 use Rattle.mg_canon.proofs.Refused.{good_from}
 use Rattle.mg_canon.proofs.Placing.{room_for}
+
+-- the first so many bits are the codeword of this symbol
+pub record IsCodeword (lengths : List ℕ) (symbol read value : ℕ) : Type 0 where
+  pub taken : symbol < length lengths
+  pub code : codeword lengths symbol ≡ digits read value
+
+-- they are the front of no codeword, which is so only where there is a single symbol
+pub record NoCodeword (lengths : List ℕ) (read value : ℕ) : Type 0 where
+  pub alone : length lengths ≡ 1
+  pub none : IsNone (Below (length lengths)) (codeword lengths) (digits read value)
 
 pub tables_good : (lengths values firsts offsets symbols : List ℕ) → AreTables lengths values firsts offsets symbols → AreGood lengths
 tables_good lengths values firsts offsets symbols t = good_from lengths t.all t.full
@@ -242,9 +253,53 @@ walk_from lengths read value good short from none below ten = ⊎_elim
     })
     from
 
--- the same by the table of first codewords
-pub by_table : (lengths firsts : List ℕ) (read value : ℕ) → AreFirsts lengths firsts → read ≤ 48 → (read ≡ 0) ⊎ (value < get_or firsts read 0) → (read ≡ 0) ⊎ (value < first_codeword read lengths)
-by_table lengths firsts read value f short more = ⊎_elim (λ e. inl e) (λ lt. inr (omega (arith, f.at read short))) more
+-- another bit is to be read behind these
+pub record GoesOn (lengths : List ℕ) (read value : ℕ) : Type 0 where
+  pub on : read < 48
+  pub more : (bit : Bool) → Walk lengths (read + 1) (2 * value + cond bit 1 0)
+  pub cut : CutShort (Below (length lengths)) (codeword lengths) (digits read value)
+  pub free : IsPrefixFree (Below (length lengths)) (codeword lengths)
+
+-- the same by the tables
+module _ {lengths values firsts offsets symbols : List ℕ} {read value : ℕ} (t : AreTables lengths values firsts offsets symbols) (some : 0 < length lengths)
+    (w : Walk lengths read value) where
+  good : AreGood lengths
+  good = tables_good lengths values firsts offsets symbols t
+
+  pub by_tables : (read ≡ 0) ⊎ (value < get_or firsts read 0) → GoesOn lengths read value
+  by_tables more =
+      let first_at = t.first_numbers.at read w.short in
+      let unread : (read ≡ 0) ⊎ (value < first_codeword read lengths) = ⊎_elim (λ e. inl e) (λ lt. inr (omega (arith, first_at))) more in
+      record {
+        on = goes_on lengths good some read value w unread;
+        more = walk_more lengths good some read value w unread;
+        cut = cut_short lengths good some read value w unread;
+        free = codewords_free lengths good;
+      }
+
+  module _ (some_read : 1 ≤ read) (stop : get_or firsts read 0 ≤ value) where
+    stopped : first_codeword read lengths ≤ value
+    stopped = omega (arith, t.first_numbers.at read w.short)
+
+    index_is : get_or offsets read 0 + (value - get_or firsts read 0) ≡ count_below read lengths + (value - first_codeword read lengths)
+    index_is = omega (arith, t.first_numbers.at read w.short, t.first_places.at read w.short)
+
+    -- the codeword is that of the symbol at its place among the sorted ones
+    pub ends_with : (x : ℕ) → get_or offsets read 0 + (value - get_or firsts read 0) < length symbols →
+        x ≡ get_or symbols (get_or offsets read 0 + (value - get_or firsts read 0)) x → IsCodeword lengths x read value
+    ends_with x within is =
+        let f = found lengths good some read value w some_read stopped values symbols t.numbered (omega (arith, index_is, t.symbol_count)) in
+        let symbol : f.0 ≡ x = sym (is ∙ get_or_default symbols _ x 0 within ∙ ap (λ p. get_or symbols p 0) index_is ∙ f.2) in
+        subst (λ s. IsCodeword lengths s read value) symbol (record { taken = f.1; code = f.3 })
+
+    -- or that place is behind them
+    pub ends_nowhere : length symbols ≤ get_or offsets read 0 + (value - get_or firsts read 0) → NoCodeword lengths read value
+    ends_nowhere past =
+        let out : length lengths ≤ count_below read lengths + (value - first_codeword read lengths) = omega (arith, index_is, t.symbol_count) in
+        record {
+          alone = (out_of_range lengths good some read value w some_read stopped out).0;
+          none = none_found lengths good some read value w some_read stopped out;
+        }
 
 odd_or_not : (n : ℕ) → n % 2 ≡ cond (is_odd n) 1 0
 odd_or_not n = grind (arith, common_steps)
@@ -272,10 +327,6 @@ of_ten_alone first_ten size h =
 
 pub start_value : (next : ℕ) → next < 2 ^ 57 → 0 ≡ next / 2 ^ (57 - 0)
 start_value next small = omega arith
-
--- an element that a list has is found with any default
-pub symbol_index : (items : List ℕ) (i x : ℕ) → x ≡ get_or items i x → i < length items → x ≡ get_or items i 0
-symbol_index items i x e h = e ∙ get_or_default items i x 0 h
 
 -- an entry that was read tells what the ten bits of its place begin with
 pub entry_is : (lengths : List ℕ) (entries : List Found) (i : ℕ) (found : Found) → AreBeginnings lengths entries → i < length entries → found ≡ get_or entries i found → IsBeginning lengths i found

@@ -1,4 +1,4 @@
 mod Refused
 mod Placing
-mod Walks
 mod Decoding
+mod SymbolReads

@@ -1,16 +1,16 @@
 //! A canonical code: the codewords of given lengths, both ways.
-ghost use Rattle.std.specs.Prelude.{◌≡◌, ℕ, ◌+◌, ◌-◌, ◌*◌, ◌/◌, ◌^◌, ◌<◌, ◌≤◌, ◌↔◌, ◌⊎◌, Option, length, slice_index, Ok, Err, IfOk, IfSome, IfNone, IsSome, OnOk, OnErr, MatchOption, MatchResult};
+ghost use Rattle.std.specs.Prelude.{◌≡◌, ℕ, ◌+◌, ◌-◌, ◌*◌, ◌/◌, ◌^◌, ◌<◌, ◌≤◌, ◌↔◌, ◌⊎◌, Option, length, slice_index, Ok, Err, IfOk, IfSome, IsSome, OnOk, MatchOption};
 ghost use Rattle.std.specs.Bool.{OnTrue, OnFalse};
 ghost use Rattle.mg_defs.specs.Answers.{Below};
-ghost use Rattle.mg_defs.specs.Bits.{digits};
 ghost use Rattle.mg_defs.specs.Canon.{AreGood, codeword};
 ghost use Rattle.mg_dev.specs.Causes.{HasPutCause};
 ghost use Rattle.mg_dev.specs.Files.{Files};
 ghost use Rattle.mg_bits.specs.BitWriting.{Holds, WroteBits};
-ghost use Rattle.mg_bits.specs.CodeAnswers.{AnswersCode, CodeCause, OnlyCodePages};
-ghost use Rattle.mg_bits.specs.Feed.{Calm, Device, HasBits, ToldBits};
-ghost use Rattle.mg_bits.specs.NextBits.{FromNext, ReadNext};
+ghost use Rattle.mg_bits.specs.CodeAnswers.{AnswersCode};
+ghost use Rattle.mg_bits.specs.Feed.{Device, HasBits, ToldBits};
+ghost use Rattle.mg_bits.specs.NextBits.{ReadNext};
 ghost use Rattle.mg_bits.specs.Writer.{WroteTo};
+ghost use Rattle.mg_canon.specs.Symbols.{FirstFound, ReadsSymbol};
 ghost use Rattle.mg_canon.specs.Tables.{IsBeginning};
 ghost use Rattle.mg_canon.specs.Refusals.{IsFirstBad, IsUnfilled, HaveLengths};
 
@@ -124,23 +124,8 @@ impl Canon {
         requires some { 0 < length self.now }
         requires fits { F.fits reader.old.feed (F.device dev.old).files }
         requires place { reader.old.place ≤ 2 ^ 63 }
-        ensures fits { F.fits reader.new.feed (F.device dev.new).files }
-        ensures calm { Calm (F.feeding reader.old.feed) (F.feeding reader.new.feed)
-            (F.device dev.old) (F.device dev.new) }
-        ensures read { IfOk result (λ s.
-            ReadNext F.feeding F.device reader.old reader.new dev.old dev.new
-            (length (codeword self.now s))) }
-        ensures pages { OnErr result
-            (OnlyCodePages F.feeding F.device reader.old reader.new dev.old dev.new
-            (Below (length self.now)) (codeword self.now)) }
-        ensures place { MatchResult result (λ s. reader.new.place
-            ≡ reader.old.place + length (codeword self.now s))
-            (λ _. reader.new.place ≡ reader.old.place) }
-        ensures told { FromNext F.feeding F.device reader.old dev.old
-            (AnswersCode result (Below (length self.now)) (codeword self.now) 1 reader.old.place) }
-        ensures symbol { IfOk result (λ s. s < length self.now) }
-        ensures over { (at limit : ℕ) → result ≡ Err (CodeErr.Over at limit) → length self.now ≡ 1 }
-        ensures cause { CodeCause result (F.device dev.old).faults (F.device dev.new).faults }
+        ensures { ReadsSymbol self.now F.fits F.feeding F.device reader.old reader.new dev.old dev.new
+            result }
     {
         match self.get_held(reader) {
             Some(symbol) => Ok(symbol),
@@ -191,12 +176,7 @@ impl Canon {
     fn first_of(&self, next: u64) -> Option<Found>
         requires next { next < 2 ^ 57 }
         requires some { 0 < length self.now }
-        ensures symbol { IfSome result (λ found. found.symbol < length self.now) }
-        ensures code { IfSome result (λ found. codeword self.now found.symbol
-            ≡ digits found.size (next / 2 ^ (57 - found.size))) }
-        ensures some { IfSome result (λ found. 1 ≤ found.size) }
-        ensures small { IfSome result (λ found. found.size ≤ 48) }
-        ensures none { IfNone result (length self.now ≡ 1) }
+        ensures { FirstFound self.now next result }
     {
         let first_ten = (next >> 47) as usize;
         if first_ten < self.beginnings.len() {
@@ -212,12 +192,7 @@ impl Canon {
     fn first_by_lengths(&self, next: u64) -> Option<Found>
         requires next { next < 2 ^ 57 }
         requires some { 0 < length self.now }
-        ensures symbol { IfSome result (λ found. found.symbol < length self.now) }
-        ensures code { IfSome result (λ found. codeword self.now found.symbol
-            ≡ digits found.size (next / 2 ^ (57 - found.size))) }
-        ensures some { IfSome result (λ found. 1 ≤ found.size) }
-        ensures small { IfSome result (λ found. found.size ≤ 48) }
-        ensures none { IfNone result (length self.now ≡ 1) }
+        ensures { FirstFound self.now next result }
     {
         let firsts = &self.firsts;
         let from = start_of(firsts, next, self.hint(next));
@@ -309,23 +284,8 @@ impl Canon {
         requires some { 0 < length self.now }
         requires fits { F.fits reader.old.feed (F.device dev.old).files }
         requires place { reader.old.place ≤ 2 ^ 63 }
-        ensures fits { F.fits reader.new.feed (F.device dev.new).files }
-        ensures calm { Calm (F.feeding reader.old.feed) (F.feeding reader.new.feed)
-            (F.device dev.old) (F.device dev.new) }
-        ensures read { IfOk result (λ s.
-            ReadNext F.feeding F.device reader.old reader.new dev.old dev.new
-            (length (codeword self.now s))) }
-        ensures pages { OnErr result
-            (OnlyCodePages F.feeding F.device reader.old reader.new dev.old dev.new
-            (Below (length self.now)) (codeword self.now)) }
-        ensures place { MatchResult result (λ s. reader.new.place
-            ≡ reader.old.place + length (codeword self.now s))
-            (λ _. reader.new.place ≡ reader.old.place) }
-        ensures told { FromNext F.feeding F.device reader.old dev.old
-            (AnswersCode result (Below (length self.now)) (codeword self.now) 1 reader.old.place) }
-        ensures symbol { IfOk result (λ s. s < length self.now) }
-        ensures over { (at limit : ℕ) → result ≡ Err (CodeErr.Over at limit) → length self.now ≡ 1 }
-        ensures cause { CodeCause result (F.device dev.old).faults (F.device dev.new).faults }
+        ensures { ReadsSymbol self.now F.fits F.feeding F.device reader.old reader.new dev.old dev.new
+            result }
     {
         let start = reader.place();
         let mut value = 0u32;

@@ -1,9 +1,8 @@
-use Rattle.std.proofs.Common.{arith, ◌≡◌, ◌-◌, ◌+◌, ap, length, ◌∙◌}
+use Rattle.std.proofs.Common.{arith, ◌≡◌, ◌-◌, ap, length, ◌∙◌}
 use Rattle.mg_defs.specs.Answers.{Below}
 use Rattle.mg_defs.specs.Canon.{codeword}
 use Rattle.mg_defs.proofs.BitLaws.{length_digits}
-use Rattle.mg_bits.proofs.CallerLemmas.{holds_inside, read_held, told_first}
-use Rattle.mg_canon.proofs.Walks.{told_value}
+use Rattle.mg_bits.proofs.CallerLemmas.{holds_inside, read_held, told_first, walk_whole}
 use Rattle.mg_canon.proofs.canon.Canon.get_held.Goals as goal
 
 pub returns-in-Some-first_of-clause-read : goal.returns-in-Some-first_of-clause-read
@@ -23,7 +22,7 @@ returns-in-Some-first_of-clause-place g c =
 
 pub returns-in-Some-first_of-clause-told : goal.returns-in-Some-first_of-clause-told
 returns-in-Some-first_of-clause-told g c = λ files fits.
-    told_value _ c.args.reader.now.place 1 c.in-Some-first_of.found.symbol (Below (length c.args.self.now)) (codeword c.args.self.now) _
-    c.in-Some-first_of.ensures.symbol c.in-Some-first_of.ensures.code
+    walk_whole _ c.args.reader.now.place 1 (Below (length c.args.self.now)) (codeword c.args.self.now) _ c.in-Some-first_of.found.symbol
     (told_first ((g.F.Feed.feeding c.args.reader.now.feed).source files) c.args.reader.now.place 57 c.in-Some-first_of.found.size (57 - c.in-Some-first_of.found.size) c.in-Some.next
     (omega (arith, c.in-Some-first_of.ensures.small)) (c.in-Some.ensures.told files fits))
+    c.in-Some-first_of.ensures.symbol c.in-Some-first_of.ensures.code
