@@ -1,5 +1,6 @@
 -- What an entry is by its head and by what stands behind it.
-use Rattle.std.proofs.Common.{arith, ◌≡◌, ◌+◌, ◌≤◌, ◌<◌, ◌==◌, ◌||◌, ◌++◌, ℕ, Bool, false, true, inl, inr, List, length, take, drop, Some, None, refl, sym, ◌∙◌, ap, subst, length-drop, slice_get, IfOk, IfSome, OnSome}
+use Rattle.std.proofs.Common.{◌≡◌, ◌+◌, ◌≤◌, ◌<◌, ◌==◌, ◌||◌, ◌++◌, ◌∙◌}
+use Rattle.std.proofs.Common.{arith, ℕ, Bool, false, true, inl, inr, List, length, take, drop, Some, None, refl, sym, ap, length-drop, slice_get, IfOk, IfSome, OnSome}
 use Rattle.std.specs.declared.option.Option.{Option}
 use Rattle.std.specs.declared.result.Result.{Result}
 use Rattle.std.specs.Prelude.{Ok, Err}
@@ -7,20 +8,11 @@ use Rattle.mg_defs.specs.Front.{is_below, rises_after_prefix, read_whole, read_c
 use Rattle.mg_front.specs.Entries.{string_of, found_of, IsPut, HasRoom, HeadAfter, HeadAt, PutBehind, IsBehind}
 use Rattle.mg_front.specs.declared.entry.FrontEntry.{FrontEntry}
 use Rattle.mg_front.specs.declared.entry.Head.{Head}
-use Rattle.mg_dev.specs.Files.{Reads}
-use Rattle.mg_bits.specs.Pages.{Paging}
-use Rattle.mg_front.specs.Looks.{ReadOn}
-use Rattle.mg_front.proofs.ReadPages.{on_as, on_more}
 use Rattle.mg_front.proofs.ReadFacts.{whole_short, whole_no_follow, whole_yes, cut_long, cut_over, cut_short, cut_no_rise, cut_yes, put_first, put_after}
 
 pub always_ok : {E : Type 0} (r : Result Bool E) (P : Bool → Type 0) → ((b : Bool) → P b) → IfOk r P
 always_ok (Ok b) P fact = fact b
 always_ok (Err e) P fact = tt
-
--- ---- pages, over two calls
-
-pub on_after : {a b c : Paging} {r s t : Reads} {p q u v : ℕ} → u ≡ v → b.part ≡ a.part → ReadOn a b r s p q → ReadOn b c s t q u → ReadOn a c r t p v
-on_after {a} {b} {c} {r} {s} {t} {p} {q} {u} {v} same part one two = on_as a c r t p u v same (on_more a b c r s t p q u part one two)
 
 -- ---- heads
 
@@ -37,12 +29,6 @@ head_room None before shared more after = tt
 pub where_some : (o : Option Head) (P : Type 0) → P → OnSome o P
 where_some (Some h) P fact = fact
 where_some None P fact = tt
-
-pub on_head : (o : Option Head) (h : Head) (P : Type 0) → o ≡ Some h → OnSome o P → P
-on_head o h P is fact = subst (λ t. OnSome t P) is fact
-
-pub if_has_room : (o : Option Head) (h : Head) (before : List ℕ) → o ≡ Some h → IfSome o (λ head. HasRoom head before) → HasRoom h before
-if_has_room o h before is fact = subst (λ t. IfSome t (λ head. HasRoom head before)) is fact
 
 -- ---- what stands behind a head
 

@@ -1,5 +1,6 @@
 -- The strings of entries rise, so a string is found by the whole entries first.
-use Rattle.std.proofs.Common.{arith, min, ◌^◌, take, drop, ◌≡◌, ◌+◌, ◌-◌, ◌*◌, ◌/◌, ◌≤◌, ◌<◌, ◌⊎◌, inl, inr, ℕ, Bool, true, false, List, [], length, Some, None, refl, sym, ◌∙◌, ap, subst, slice_get, IsSome, cond, Ok, Err, Result}
+use Rattle.std.proofs.Common.{◌^◌, ◌≡◌, ◌+◌, ◌-◌, ◌*◌, ◌/◌, ◌≤◌, ◌<◌, ◌⊎◌, [], ◌∙◌}
+use Rattle.std.proofs.Common.{arith, min, take, drop, inl, inr, ℕ, Bool, true, false, List, length, Some, None, refl, sym, ap, subst, slice_get, IsSome, cond, Ok, Err, Result}
 use Rattle.std.specs.declared.option.Option.{Option}
 use Rattle.std.specs.Prelude.{IfErr}
 use Rattle.std.proofs.lemmas.Bool.{cases_lt}

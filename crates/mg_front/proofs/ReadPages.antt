@@ -159,27 +159,25 @@ on_more a b c r s t p q u part one two =
       held = two.held ∙ ap (λ (h : Option ℕ). held_after 4096 h (8 * q) (8 * u)) one.held ∙ held_more a.held p q u one.order two.order;
     }
 
-pub to_more : (a b : Paging) (r s t : Reads) (p q u : ℕ) → b.part ≡ a.part → ReadOn a b r s p q → ReadTo b s t q u → ReadTo a r t p u
-to_more a b r s t p q u part one two =
+pub to_more : {a b : Paging} {r s t : Reads} {p q u : ℕ} → b.part ≡ a.part → ReadOn a b r s p q → ReadTo b s t q u → ReadTo a r t p u
+to_more {a} {b} {r} {s} {t} {p} {q} {u} part one two =
     let s_is : s b.part ≡ s a.part = ap s part in
     let t_is : t b.part ≡ t a.part = ap t part in
     record { pages = omega (arith, one.pages, two.pages) }
 
-pub to_wider : (a : Paging) (r s : Reads) (p q u : ℕ) → q ≤ u → ReadTo a r s p q → ReadTo a r s p u
-to_wider a r s p q u wider read =
+pub to_wider : {a : Paging} {r s : Reads} {p q u : ℕ} → q ≤ u → ReadTo a r s p q → ReadTo a r s p u
+to_wider {a} {r} {s} {p} {q} {u} wider read =
     let later : q / 4096 ≤ u / 4096 = omega arith in
     record { pages = omega (arith, read.pages) }
 
-pub on_to : (a b : Paging) (r s : Reads) (p q u : ℕ) → q ≤ u → ReadOn a b r s p q → ReadTo a r s p u
-on_to a b r s p q u wider read =
+pub on_to : {a b : Paging} {r s : Reads} {p q u : ℕ} → q ≤ u → ReadOn a b r s p q → ReadTo a r s p u
+on_to {a} {b} {r} {s} {p} {q} {u} wider read =
     let later : q / 4096 ≤ u / 4096 = omega arith in
     record { pages = omega (arith, read.pages) }
 
-pub on_as : (a b : Paging) (r s : Reads) (p q u : ℕ) → q ≡ u → ReadOn a b r s p q → ReadOn a b r s p u
-on_as a b r s p q u same read = subst (ReadOn a b r s p) same read
-
-pub some_on : (byte : Option ℕ) (n : ℕ) (P : Type 0) → byte ≡ Some n → OnSome byte P → P
-some_on byte n P is fact = subst (λ b. OnSome b P) is fact
+-- a call that reads on behind another
+pub on_after : {a b c : Paging} {r s t : Reads} {p q u v : ℕ} → u ≡ v → b.part ≡ a.part → ReadOn a b r s p q → ReadOn b c s t q u → ReadOn a c r t p v
+on_after {a} {b} {c} {r} {s} {t} {p} {q} {u} same part one two = subst (ReadOn a c r t p) same (on_more a b c r s t p q u part one two)
 
 pub some_of : (size : Option ℕ) (n : ℕ) (P : ℕ → Type 0) → size ≡ Some n → IfSome size P → P n
 some_of size n P is fact = subst (λ s. IfSome s P) is fact
@@ -220,39 +218,39 @@ other_part : (p q : Part) → same_part p q ≡ false → same_part q p ≡ fals
 other_part p q apart = grind (arith, nat_tests)
 
 -- a place, and nothing more
-pub place_look : (strings places : Part) (f g : Option Files) (r s : Reads) (x y : ℕ) → same_part strings places ≡ false → s places ≤ r places + 1 →
+pub place_look : {strings places : Part} {f g : Option Files} {r s : Reads} {x y : ℕ} → same_part strings places ≡ false → s places ≤ r places + 1 →
     Looked places f g r s x y → ReadLooks strings places r s 1
-place_look strings places f g r s x y apart page one = record {
+place_look {strings} {places} {f} {g} {r} {s} {x} {y} apart page one = record {
   places_read = page;
   strings_read = omega (arith, one.others strings apart);
 }
 
 -- a place, and the entries from it on
-pub one_look : (a : Paging) (places : Part) (f g h : Option Files) (r s t : Reads) (x y z from : ℕ) → same_part a.part places ≡ false →
+pub one_look : {a : Paging} {places : Part} {f g h : Option Files} {r s t : Reads} {x y z from : ℕ} → same_part a.part places ≡ false →
     s places ≤ r places + 1 → Looked places f g r s x y → Looked a.part g h s t y z → ReadTo a s t from (from + 1124) → ReadLooks a.part places r t 1
-one_look a places f g h r s t x y z from apart page one two read =
+one_look {a} {places} {f} {g} {h} {r} {s} {t} {x} {y} {z} {from} apart page one two read =
     let few : (from + 1124) / 4096 ≤ from / 4096 + 1 = omega arith in
     record {
       places_read = omega (arith, page, two.others places (other_part a.part places apart));
       strings_read = omega (arith, few, read.pages, one.others a.part apart, lacks_most a.held (from / 4096));
     }
 
-pub looks_more : (strings places : Part) (r s t : Reads) (m n : ℕ) → ReadLooks strings places r s m → ReadLooks strings places s t n → ReadLooks strings places r t (m + n)
-looks_more strings places r s t m n one two = record {
+pub looks_more : {strings places : Part} {r s t : Reads} {m n : ℕ} → ReadLooks strings places r s m → ReadLooks strings places s t n → ReadLooks strings places r t (m + n)
+looks_more {strings} {places} {r} {s} {t} {m} {n} one two = record {
   places_read = omega (arith, one.places_read, two.places_read);
   strings_read = omega (arith, one.strings_read, two.strings_read);
 }
 
-pub looks_wider : (strings places : Part) (r s : Reads) (m n : ℕ) → m ≤ n → ReadLooks strings places r s m → ReadLooks strings places r s n
-looks_wider strings places r s m n wider one = record {
+pub looks_wider : {strings places : Part} {r s : Reads} {m n : ℕ} → m ≤ n → ReadLooks strings places r s m → ReadLooks strings places r s n
+looks_wider {strings} {places} {r} {s} {m} {n} wider one = record {
   places_read = omega (arith, one.places_read);
   strings_read = omega (arith, one.strings_read);
 }
 
 -- a look at the parts that are the same as before
-pub look_as : (strings places strings_now places_now : Part) (r s : Reads) → strings_now ≡ strings → places_now ≡ places → same_part strings places ≡ false →
+pub look_as : {strings places strings_now places_now : Part} {r s : Reads} → strings_now ≡ strings → places_now ≡ places → same_part strings places ≡ false →
     (same_part strings_now places_now ≡ false → ReadLooks strings_now places_now r s 1) → ReadLooks strings places r s 1
-look_as strings places strings_now places_now r s e d apart look = subst (λ p. ReadLooks strings p r s 1) d
+look_as {strings} {places} {strings_now} {places_now} {r} {s} e d apart look = subst (λ p. ReadLooks strings p r s 1) d
     (subst (λ q. ReadLooks q places_now r s 1) e (look (ap (λ q. same_part q places_now) e ∙ ap (same_part strings) d ∙ apart)))
 
 -- ---- halving
@@ -270,9 +268,9 @@ halved_none strings places r blocks small =
     let ceil = is_ceil (blocks + 1) (omega arith) (omega arith) in
     record { looked = 0; halvings = ceil_log2 (blocks + 1); left_is = omega (arith, ceil.high); all = omega arith; read = record { places_read = omega arith; strings_read = omega arith } }
 
-pub halved_more : (strings places : Part) (r s t : Reads) (left less most : ℕ) → 0 < left → less ≤ left / 2 → Halved strings places r s left most →
+pub halved_more : {strings places : Part} {r s t : Reads} {left less most : ℕ} → 0 < left → less ≤ left / 2 → Halved strings places r s left most →
     ReadLooks strings places s t 1 → Halved strings places r t less most
-halved_more strings places r s t left less most some half before one = by_halvings before.halvings before.left_is before.all
+halved_more {strings} {places} {r} {s} {t} {left} {less} {most} some half before one = by_halvings before.halvings before.left_is before.all
   where
     by_halvings : (h : ℕ) → left < 2 ^ h → before.looked + h ≤ most → Halved strings places r t less most
     by_halvings zero small all = absurd (omega (arith, small))
@@ -281,14 +279,14 @@ halved_more strings places r s t left less most some half before one = by_halvin
       halvings = h;
       left_is = omega (arith, small, two-pow-succ h);
       all = omega arith;
-      read = looks_more strings places r s t before.looked 1 before.read one;
+      read = looks_more before.read one;
     }
 
 -- one look more, where something is left
-pub halved_look : (strings places : Part) (r s t : Reads) (left most : ℕ) → 0 < left → Halved strings places r s left most → ReadLooks strings places s t 1 → ReadLooks strings places r t most
-halved_look strings places r s t left most some before one =
-    let more = halved_more strings places r s t left 0 most some (omega arith) before one in
-    looks_wider strings places r t more.looked most (omega (arith, more.all)) more.read
+pub halved_look : {strings places : Part} {r s t : Reads} {left most : ℕ} → 0 < left → Halved strings places r s left most → ReadLooks strings places s t 1 → ReadLooks strings places r t most
+halved_look {strings} {places} {r} {s} {t} {left} {most} some before one =
+    let more = halved_more {less = 0} some (omega arith) before one in
+    looks_wider (omega (arith, more.all)) more.read
 
-pub halved_done : (strings places : Part) (r s : Reads) (left most : ℕ) → Halved strings places r s left most → ReadLooks strings places r s most
-halved_done strings places r s left most before = looks_wider strings places r s before.looked most (omega (arith, before.all)) before.read
+pub halved_done : {strings places : Part} {r s : Reads} {left most : ℕ} → Halved strings places r s left most → ReadLooks strings places r s most
+halved_done {strings} {places} {r} {s} {left} {most} before = looks_wider (omega (arith, before.all)) before.read

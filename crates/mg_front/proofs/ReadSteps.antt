@@ -6,13 +6,13 @@ use Rattle.mg_dev.specs.declared.device.Failed.{Failed}
 use Rattle.mg_dev.specs.Causes.{HasCause}
 use Rattle.mg_dev.specs.Files.{Files, Reads, bytes_at}
 use Rattle.mg_bits.specs.Pages.{Fits, Looked, Paging, SameFile}
-use Rattle.mg_bits.proofs.CallerLemmas.{looked_twice}
+use Rattle.mg_bits.proofs.CallerLemmas.{looked_then}
 use Rattle.mg_defs.specs.Front.{Found, read_cut, read_entry, read_whole}
 use Rattle.mg_front.specs.declared.entry.EntryAt.{EntryAt}
 use Rattle.mg_front.specs.declared.entry.FrontEntry.{FrontEntry}
 use Rattle.mg_front.specs.Entries.{FoundFrom, ReadsEntry, found_of}
-use Rattle.mg_front.specs.Looks.{ReadOn, ReadsUpTo}
-use Rattle.mg_front.proofs.ReadPages.{on_more, on_same, on_to, to_more, to_wider}
+use Rattle.mg_front.specs.Looks.{ReadOn, ReadsPiece, ReadsUpTo}
+use Rattle.mg_front.proofs.ReadPages.{on_after, on_same, on_to, to_more, to_wider}
 
 -- ---- causes
 
@@ -24,7 +24,7 @@ cause_later (Err failed) before cause = record { later = omega (arith, before, c
 
 pub reads_wider : {T : Type 0} {result : Result T Failed} {a b : Paging} {p q u : ℕ} {f g : Option Files} {r s : Reads} {x y : ℕ} → q ≤ u →
     ReadsUpTo a b p q result f g r s x y → ReadsUpTo a b p u result f g r s x y
-reads_wider wider one = record { fits = one.fits; file = one.file; looked = one.looked; read_to = to_wider _ _ _ _ _ _ wider one.read_to; cause = one.cause }
+reads_wider wider one = record { fits = one.fits; file = one.file; looked = one.looked; read_to = to_wider wider one.read_to; cause = one.cause }
 
 -- what was read is answered
 pub reads_ended : {T U : Type 0} {result : Result T Failed} {a b : Paging} {p q : ℕ} {f g : Option Files} {r s : Reads} {x y : ℕ} (value : U) →
@@ -48,10 +48,22 @@ pub reads_then : {T U : Type 0} {first : Result T Failed} {result : Result U Fai
 reads_then {result = result} one on two = record {
   fits = two.fits;
   file = record { name = two.file.name ∙ one.file.name; part = two.file.part ∙ one.file.part };
-  looked = looked_twice _ _ _ _ _ _ _ _ _ _ one.looked (rw one.file.part at two.looked);
-  read_to = to_more _ _ _ _ _ _ _ _ one.file.part on two.read_to;
+  looked = looked_then one.file.part one.looked two.looked;
+  read_to = to_more one.file.part on two.read_to;
   cause = cause_later result one.cause.later two.cause;
 }
+
+-- ---- pieces that are answered
+
+module _ {T U : Type 0} {a b : Paging} {p q u : ℕ} {tells : List ℕ → T → Type 0} {all : T → Type 0 → Type 0} {f g : Option Files} {r s : Reads} {x y : ℕ} (within : q ≤ u) where
+  -- the device failed
+  pub piece_failed : {failed : Failed} → ReadsUpTo {T = U} a b p q (Err failed) f g r s x y → ReadsPiece a b p u (Err failed) tells all f g r s x y
+  piece_failed one = record { read = reads_wider within (reads_failed one); told = λ told. tt; read_on = tt }
+
+  -- what was read is answered
+  pub piece_read : {result : Result U Failed} (answer : T) → ReadsUpTo a b p q result f g r s x y → (IsSome f → tells (bytes_at f a.name) answer) → all answer (ReadOn a b r s p u) →
+      ReadsPiece a b p u (Ok answer) tells all f g r s x y
+  piece_read answer one told on = record { read = reads_wider within (reads_ended answer one); told = told; read_on = on }
 
 -- calls that read on from a place, as far as they have come
 pub record ReadsOn (old new : Paging) (from to : ℕ) (files_before files_now : Option Files) (reads_before reads_now : Reads) (faults_before faults_now : ℕ) : Type 0 where
@@ -74,8 +86,8 @@ pub on_entry : {a b c : Paging} {p q : ℕ} {at : EntryAt} {meaning : List ℕ �
 on_entry {b = b} {c} {s = s} {t} size same so_far one = record {
   fits = one.read.fits;
   file = record { name = one.read.file.name ∙ so_far.file.name; part = one.read.file.part ∙ so_far.file.part };
-  looked = looked_twice _ _ _ _ _ _ _ _ _ _ so_far.looked (rw so_far.file.part at one.read.looked);
-  read_on = on_more _ _ _ _ _ _ _ _ _ so_far.file.part so_far.read_on (subst (λ n. ReadOn b c s t n (n + size)) same one.passed.read_on);
+  looked = looked_then so_far.file.part so_far.looked one.read.looked;
+  read_on = on_after refl so_far.file.part so_far.read_on (subst (λ n. ReadOn b c s t n (n + size)) same one.passed.read_on);
 }
 
 -- a call that ends them
@@ -84,8 +96,8 @@ pub on_stop : {U : Type 0} {result : Result U Failed} {a b c : Paging} {p q u : 
 on_stop {result = result} so_far one = record {
   fits = one.fits;
   file = record { name = one.file.name ∙ so_far.file.name; part = one.file.part ∙ so_far.file.part };
-  looked = looked_twice _ _ _ _ _ _ _ _ _ _ so_far.looked (rw so_far.file.part at one.looked);
-  read_to = to_more _ _ _ _ _ _ _ _ so_far.file.part so_far.read_on one.read_to;
+  looked = looked_then so_far.file.part so_far.looked one.looked;
+  read_to = to_more so_far.file.part so_far.read_on one.read_to;
   cause = cause_later result so_far.looked.faults one.cause;
 }
 
@@ -95,7 +107,7 @@ on_done value within so_far = record {
   fits = so_far.fits;
   file = so_far.file;
   looked = so_far.looked;
-  read_to = on_to _ _ _ _ _ _ _ within so_far.read_on;
+  read_to = on_to within so_far.read_on;
   cause = record { later = so_far.looked.faults; failed = tt };
 }
 

@@ -1,5 +1,6 @@
 -- The places of whole entries, and entries read from a whole one on.
-use Rattle.std.proofs.Common.{arith, suc, ◌≡◌, ◌≢◌, ◌^◌, ◌+◌, ◌-◌, ◌*◌, ◌%◌, ◌≤◌, ◌<◌, ◌==◌, ◌++◌, ℕ, Bool, true, false, List, [], ◌∷◌, length, take, drop, Some, None, refl, sym, ◌∙◌, ap, subst, cond, length-append, length-take, length-drop, slice_get, IfSome, IsSome, ◌⊎◌, inl, inr}
+use Rattle.std.proofs.Common.{arith, suc, ◌≡◌, ◌≢◌, ◌^◌, ◌+◌, ◌-◌, ◌*◌, ◌%◌, ◌≤◌, ◌<◌, ◌==◌, ◌++◌, ℕ, Bool, true, false, List, [], ◌∷◌}
+use Rattle.std.proofs.Common.{length, take, drop, Some, None, refl, sym, ◌∙◌, ap, subst, cond, length-append, length-take, length-drop, slice_get, IfSome, IsSome, ◌⊎◌, inl, inr}
 use Rattle.std.specs.declared.option.Option.{Option}
 use Rattle.mg_defs.specs.Numbers.{four}
 use Rattle.mg_defs.specs.Front.{IsEntry, shared, Entry, Found, IsFront, AreEntries, entry_bytes, front, front_from, whole_at, last_string, read_entry}
@@ -18,7 +19,8 @@ use Rattle.mg_front.proofs.ReadPages.{one_look, place_look}
 use Rattle.mg_dev.specs.declared.part_err.PartErr.{PartErr}
 use Rattle.mg_dev.specs.declared.part_err.PartErr.TheVariants.{Device, Memory, Bad}
 use Rattle.std.specs.Prelude.{Ok, Err, Result}
-use Rattle.mg_front.specs.Reading.{AnswersPlaces, AtBlock, FrontFits, Fronted, FrontStands, IsLost, IsNotBad, LacksPlace, LookedAt, NoneAmong, ReaderLooked, ReadsPlace, SameParts, TellsPlace, places_size}
+use Rattle.mg_front.specs.Reading.{AnswersPlaces, AtBlock, FrontFits, Fronted, FrontStands, IsLost, IsNotBad}
+use Rattle.mg_front.specs.Reading.{LacksPlace, LookedAt, NoneAmong, ReaderLooked, ReadsPlace, SameParts, TellsPlace, places_size}
 use Rattle.std.proofs.lemmas.Bool.{cases_lt}
 use Rattle.std.proofs.lemmas.Option.{same_Some}
 use Rattle.mg_front.specs.Entries.{entry_of, found_of}
@@ -165,29 +167,29 @@ lost_place r files block (Bad bad) lacks = inl lacks
 
 -- ---- calls that look at two parts
 
-pub looked_places : (strings places : Part) (f g : Option Files) (r s : Reads) (a b : ℕ) → Looked places f g r s a b → LookedAt strings places f g r s a b
-looked_places strings places f g r s a b one = record { files = one.files; faults = one.faults; later = one.later; others = λ p apart other. one.others p other }
+pub looked_places : {strings places : Part} {f g : Option Files} {r s : Reads} {a b : ℕ} → Looked places f g r s a b → LookedAt strings places f g r s a b
+looked_places {strings} {places} {f} {g} {r} {s} {a} {b} one = record { files = one.files; faults = one.faults; later = one.later; others = λ p apart other. one.others p other }
 
-pub looked_both : (strings places other : Part) (f g h : Option Files) (r s t : Reads) (a b c : ℕ) → Looked places f g r s a b → Looked other g h s t b c →
+pub looked_both : {strings places other : Part} {f g h : Option Files} {r s t : Reads} {a b c : ℕ} → Looked places f g r s a b → Looked other g h s t b c →
     other ≡ strings → LookedAt strings places f h r t a c
-looked_both strings places other f g h r s t a b c one two same = record {
+looked_both {strings} {places} {other} {f} {g} {h} {r} {s} {t} {a} {b} {c} one two same = record {
   files = two.files ∙ one.files;
   faults = omega (arith, one.faults, two.faults);
   later = λ p. omega (arith, one.later p, two.later p);
   others = λ p apart away. two.others p (ap (same_part p) same ∙ apart) ∙ one.others p away;
 }
 
-pub looked_again : (strings places strings_now places_now : Part) (f g h : Option Files) (r s t : Reads) (a b c : ℕ) → LookedAt strings places f g r s a b →
+pub looked_again : {strings places strings_now places_now : Part} {f g h : Option Files} {r s t : Reads} {a b c : ℕ} → LookedAt strings places f g r s a b →
     LookedAt strings_now places_now g h s t b c → strings_now ≡ strings → places_now ≡ places → LookedAt strings places f h r t a c
-looked_again strings places strings_now places_now f g h r s t a b c one two e d = record {
+looked_again {strings} {places} {strings_now} {places_now} {f} {g} {h} {r} {s} {t} {a} {b} {c} one two e d = record {
   files = two.files ∙ one.files;
   faults = omega (arith, one.faults, two.faults);
   later = λ p. omega (arith, one.later p, two.later p);
   others = λ p apart away. two.others p (ap (same_part p) e ∙ apart) (ap (same_part p) d ∙ away) ∙ one.others p apart away;
 }
 
-pub looked_not : (strings places : Part) (f : Option Files) (r : Reads) (a : ℕ) → LookedAt strings places f f r r a a
-looked_not strings places f r a = record { files = refl; faults = omega arith; later = λ p. omega arith; others = λ p apart away. refl }
+pub looked_not : {strings places : Part} {f : Option Files} {r : Reads} {a : ℕ} → LookedAt strings places f f r r a a
+looked_not {strings} {places} {f} {r} {a} = record { files = refl; faults = omega arith; later = λ p. omega arith; others = λ p apart away. refl }
 
 -- one more entry of a block has another string
 pub scanned_more : (es : List Entry) (from n : ℕ) (string : List ℕ) (it : Entry) → NoneAmong es from n string → slice_get es (from + n) ≡ Some it →
@@ -255,8 +257,8 @@ pub looked_place : {T : Type 0} {w : Fronted} {p : Paging} {block : ℕ} {refusa
 looked_place {w = w} {block = block} {refusal} {f} fits one = record {
   fits = record { strings = fits_as one.looked.files fits.strings; places = one.fits };
   same = record { strings = refl; places = one.file.name; strings_part = refl; places_part = one.file.part; width = refl; count = refl };
-  looked = looked_places w.strings.part w.places.part _ _ _ _ _ _ one.looked;
-  reads = λ apart. place_look _ _ _ _ _ _ _ _ apart one.page one.looked;
+  looked = looked_places one.looked;
+  reads = λ apart. place_look apart one.page one.looked;
   memory = not_memory refusal w.places f block one.answer;
   cause = refused_for refusal one.cause;
 }
@@ -269,8 +271,8 @@ pub looked_entries : {T U : Type 0} {w : Fronted} {p q : Paging} {block place : 
 looked_entries {w = w} result fits one two memory cause = record {
   fits = record { strings = two.fits; places = fits_as two.looked.files one.fits };
   same = record { strings = two.file.name; places = one.file.name; strings_part = two.file.part; places_part = one.file.part; width = refl; count = refl };
-  looked = looked_both w.strings.part w.places.part w.strings.part _ _ _ _ _ _ _ _ _ one.looked two.looked refl;
-  reads = λ apart. one_look _ _ _ _ _ _ _ _ _ _ _ _ apart one.page one.looked two.looked two.read_to;
+  looked = looked_both one.looked two.looked refl;
+  reads = λ apart. one_look apart one.page one.looked two.looked two.read_to;
   memory = memory;
   cause = caused_later result one.cause.later cause;
 }

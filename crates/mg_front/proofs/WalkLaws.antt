@@ -1,5 +1,6 @@
 -- What a walk over entries gives.
-use Rattle.std.proofs.Common.{arith, ◌≡◌, ◌≤◌, ◌+◌, ◌-◌, ◌*◌, ◌/◌, ◌<◌, ◌++◌, ◌⊎◌, inl, inr, ℕ, Bool, false, true, List, [], ◌∷◌, length, length-drop, unwrap_or, take, drop, Some, None, refl, sym, ◌∙◌, ap, subst, length-append, append_assoc, IsSome, append-nil, Ok, Err, Result, slice_get}
+use Rattle.std.proofs.Common.{arith, ◌≡◌, ◌≤◌, ◌+◌, ◌-◌, ◌*◌, ◌/◌, ◌<◌, ◌++◌, ◌⊎◌, inl, inr, ℕ, Bool, false, true, List, [], ◌∷◌}
+use Rattle.std.proofs.Common.{length, length-drop, unwrap_or, take, drop, Some, None, refl, sym, ◌∙◌, ap, subst, length-append, append_assoc, IsSome, append-nil, Ok, Err, Result, slice_get}
 use Rattle.mg_dev.specs.declared.part_err.PartErr.{PartErr}
 use Rattle.mg_dev.specs.declared.part_err.PartErr.TheVariants.{Device, Memory, Bad}
 use Rattle.std.specs.declared.option.Option.{Option}

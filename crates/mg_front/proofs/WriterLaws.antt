@@ -1,5 +1,6 @@
 -- What a push does to the entries that a writer took.
-use Rattle.std.proofs.Common.{arith, append-nil, append_assoc, true, Ok, Err, Result, OnOk, ◌≡◌, ◌≢◌, ◌+◌, ◌%◌, ◌==◌, ◌++◌, ℕ, List, [], ◌∷◌, length, Some, None, refl, sym, ◌∙◌, ap, subst, cond, unwrap_or, IsSome, is_some, length-append}
+use Rattle.std.proofs.Common.{◌≡◌, ◌≢◌, ◌+◌, ◌%◌, ◌==◌, ◌++◌, [], ◌∷◌, ◌∙◌}
+use Rattle.std.proofs.Common.{arith, append-nil, append_assoc, true, Ok, Err, Result, OnOk, ℕ, List, length, Some, None, refl, sym, ap, subst, cond, unwrap_or, IsSome, is_some, length-append}
 use Rattle.std.specs.declared.option.Option.{Option}
 use Rattle.std.proofs.lemmas.Grind.{common_steps}
 use Rattle.mg_dev.specs.declared.device.PutErr.{PutErr}
@@ -38,11 +39,11 @@ places_more (Some p) (Some q) name next_name f mid now es e bytes same wrote b c
       ∙ ap (λ t. t ++ bytes) (took.1 (c (b told))) ∙ sym more,
 )
 
-pub took_more : (w next : Fronting) (f mid now : Option Files) (r s t : Reads) (es : List Entry) (e : Entry) → Took w f es → IsEntry w.width w.count w.last e →
+pub took_more : {w next : Fronting} {f mid now : Option Files} (r : Reads) {s t : Reads} (es : List Entry) {e : Entry} → Took w f es → IsEntry w.width w.count w.last e →
     PlaceWrote w.places next.places f mid (cond (w.count % 4 == 0) (four w.place) []) → WroteToPlaces w.places f mid r s →
     Wrote w.strings next.strings mid now (entry_bytes w.count w.last e) → WroteTo w.strings.name mid now s t → next.width ≡ w.width → next.count ≡ w.count + 1 →
     next.place ≡ w.place + length (entry_bytes w.count w.last e) → next.last ≡ e.string → Took next now (es ++ e ∷ [])
-took_more w next f mid now r s t es e took entry placed places wrote strings width count place last =
+took_more {w} {next} {f} {mid} {now} r {s} es {e} took entry placed places wrote strings width count place last =
     let is : IsEntry w.width (length es) (last_string [] es) e = subst (λ l. IsEntry w.width (length es) l e) took.last (subst (λ n. IsEntry w.width n w.last e) took.count entry) in
     let code : entry_bytes w.count w.last e ≡ entry_bytes (length es) (last_string [] es) e = ap (λ n. entry_bytes n w.last e) took.count ∙ ap (λ l. entry_bytes (length es) l e) took.last in
     let all : front (es ++ e ∷ []) ≡ front es ++ entry_bytes (length es) (last_string [] es) e = front_more es e in

@@ -188,7 +188,8 @@ WherePlacesStand file files count fact =
 
 -- ---- looking a string up
 
--- a fact on entries and one of their blocks of four, where the files are told: a feed's file is the front coding of the entries, and the block begins at this place
+-- a fact on entries and one of their blocks of four, where the files are told: a feed's file is the front coding of the entries,
+-- and the block begins at this place
 abbrev pub AtBlock : Paging → Option Files → ℕ → ℕ → (List Entry → ℕ → Type 0) → Type 0
 AtBlock feed files width from fact = IsSome files → (es : List Entry) (block : ℕ) →
     IsFront width (bytes_at files feed.name) es →

@@ -76,7 +76,8 @@ abbrev pub AfterNext : Bool → Walking → Walking → Type 0
 AfterNext true old new = (old.done < old.count) × (new.done ≡ old.done + 1)
 AfterNext false old new = (old.done ≡ old.count) × (new ≡ old)
 
--- how far a call read: an entry is read on from the walk's place to the place behind it, so that the calls together read each page once; the end takes no read; a refused call reads no byte behind the longest entry from its place on
+-- how far a call read: an entry is read on from the walk's place to the place behind it, so that the calls together read each page
+-- once; the end takes no read; a refused call reads no byte behind the longest entry from its place on
 abbrev pub ReadsNext : Result Bool PartErr → Walking → Walking → Reads → Reads → Type 0
 ReadsNext (Ok more) old new before now = ReadOn old.feed new.feed before now old.place new.place
 ReadsNext (Err refusal) old new before now = ReadTo old.feed before now old.place (old.place + 281)

@@ -1,11 +1,10 @@
 //! One entry, and how it is read.
-ghost use Rattle.std.specs.Prelude.{◌≡◌, ◌≤◌, ◌<◌, ◌+◌, ◌^◌, ◌==◌, ◌||◌, [], IfOk, IfSome, OnSome, IsSome, true, length, drop, slice_get};
-ghost use Rattle.mg_dev.specs.Files.{bytes_at};
+ghost use Rattle.std.specs.Prelude.{◌≡◌, ◌≤◌, ◌<◌, ◌+◌, ◌^◌, ◌==◌, ◌||◌, [], IfOk, IfSome, OnSome, length, drop, slice_get};
 ghost use Rattle.mg_dev.specs.Moments.{Between};
 ghost use Rattle.mg_bits.specs.Pages.{Fits};
 ghost use Rattle.mg_defs.specs.Front.{is_below, rises_after_prefix, read_entry, read_whole, read_cut};
 ghost use Rattle.mg_front.specs.Entries.{string_of, HeadAfter, HeadAt, HasRoom, IsAsLong, IsBehind, IsPut, IsReadable, ReadsEntry};
-ghost use Rattle.mg_front.specs.Looks.{ReadOn, ReadsUpTo};
+ghost use Rattle.mg_front.specs.Looks.{OnWhole, ReadsPiece};
 
 use mg_bits::PageFeed;
 use mg_dev::{Failed, Store};
@@ -56,13 +55,9 @@ fn read_byte<S: Store>(
     at: u64,
 ) -> Result<Option<u8>, Failed>
     requires fits { Fits feed.old (S.files store.old) }
-    ensures read { Between S.files S.reads S.faults store.old store.new
-        (ReadsUpTo feed.old feed.new at (at + 1) result) }
-    ensures told { IsSome (S.files store.old) →
-        IfOk result (λ byte. byte ≡ slice_get (bytes_at (S.files store.old) feed.old.name) at) }
-    ensures read_on { IfOk result (λ byte.
-        OnSome byte (ReadOn feed.old feed.new (S.reads store.old) (S.reads store.new) at
-        (at + 1))) }
+    ensures { Between S.files S.reads S.faults store.old store.new
+        (ReadsPiece feed.old feed.new at (at + 1) result
+        (λ bytes byte. byte ≡ slice_get bytes at) OnSome) }
 {
     feed.byte(store, at)
 }
@@ -80,13 +75,9 @@ fn read_bytes<S: Store>(
     requires place { at < 2 ^ 63 }
     requires room { from + count ≤ length out.old }
     requires small { length out.old < 2 ^ 16 }
-    ensures read { Between S.files S.reads S.faults store.old store.new
-        (ReadsUpTo feed.old feed.new at (at + count) result) }
-    ensures told { IsSome (S.files store.old) →
-        IfOk result (λ whole. IsPut whole out.old out.new from count at
-        (bytes_at (S.files store.old) feed.old.name)) }
-    ensures read_on { IfOk result (λ whole. whole ≡ true →
-        ReadOn feed.old feed.new (S.reads store.old) (S.reads store.new) at (at + count)) }
+    ensures { Between S.files S.reads S.faults store.old store.new
+        (ReadsPiece feed.old feed.new at (at + count) result
+        (λ bytes whole. IsPut whole out.old out.new from count at bytes) OnWhole) }
 {
     feed.fill(store, at, &mut out[from..from + count])
 }
@@ -138,15 +129,10 @@ fn read_head<S: Store>(
 ) -> Result<Option<Head>, Failed>
     requires fits { Fits feed.old (S.files store.old) }
     requires place { at < 2 ^ 62 }
-    ensures read { Between S.files S.reads S.faults store.old store.new
-        (ReadsUpTo feed.old feed.new at (at + 2) result) }
-    ensures told { IsSome (S.files store.old) →
-        IfOk result (λ head. HeadAt head (string_of before.now) at
-        (bytes_at (S.files store.old) feed.old.name)) }
+    ensures head { Between S.files S.reads S.faults store.old store.new
+        (ReadsPiece feed.old feed.new at (at + 2) result
+        (λ bytes head. HeadAt head (string_of before.now) at bytes) OnSome) }
     ensures room { IfOk result (λ head. IfSome head (λ h. HasRoom h (string_of before.now))) }
-    ensures read_on { IfOk result (λ head.
-        OnSome head (ReadOn feed.old feed.new (S.reads store.old) (S.reads store.new) at
-        (at + 2))) }
 {
     let shared = match read_byte(feed, store, at) {
         Ok(Some(shared)) => shared,
@@ -174,15 +160,11 @@ fn read_behind<S: Store>(
     requires width { width ≤ 24 }
     requires place { at < 2 ^ 62 + 2 }
     requires room { head.shared + head.more ≤ 255 }
-    ensures read { Between S.files S.reads S.faults store.old store.new
-        (ReadsUpTo feed.old feed.new at (at + head.more + width) result) }
-    ensures told { IsSome (S.files store.old) →
-        IfOk result (λ whole. IsBehind whole head width out.old.string out.new.string out.new.field
-        at (bytes_at (S.files store.old) feed.old.name)) }
-    ensures length { IfOk result (λ whole. whole ≡ true → IsAsLong head out.new) }
-    ensures read_on { IfOk result (λ whole. whole ≡ true →
-        ReadOn feed.old feed.new (S.reads store.old) (S.reads store.new) at
-        (at + head.more + width)) }
+    ensures behind { Between S.files S.reads S.faults store.old store.new
+        (ReadsPiece feed.old feed.new at (at + head.more + width) result
+        (λ bytes whole. IsBehind whole head width out.old.string out.new.string out.new.field at
+        bytes) OnWhole) }
+    ensures length { IfOk result (λ whole. OnWhole whole (IsAsLong head out.new)) }
 {
     let from = usize::from(head.shared);
     let count = usize::from(head.more);

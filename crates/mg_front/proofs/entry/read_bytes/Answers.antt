@@ -22,24 +22,21 @@ put_told false old buf bytes from count at long room filled =
 long : (from count : ℕ) (old : List ℕ) → from + count ≤ length old → length (take (from + count - from) (drop from old)) ≡ count
 long from count old room = omega (arith, length-take (from + count - from) (drop from old), length-drop from old)
 
-pub returns-clause-read : goal.returns-clause-read
-returns-clause-read g c =
+pub returns : goal.returns
+returns g c =
     let e = c.fill.ensures in
+    let count = long c.args.from c.args.count c.args.out.now c.requires.room in
     record {
-      fits = e.fits;
-      file = e.file;
-      looked = e.looked;
-      read_to = bytes_to_as c.args.feed.now c.fill.new.self _ _ c.args.at _ _ (long c.args.from c.args.count c.args.out.now c.requires.room) e.part.pages;
-      cause = e.cause;
+      read = record {
+        fits = e.fits;
+        file = e.file;
+        looked = e.looked;
+        read_to = bytes_to_as c.args.feed.now c.fill.new.self _ _ c.args.at _ _ count e.part.pages;
+        cause = e.cause;
+      };
+      told = λ told.
+          if_ok c.fill.result _ _
+          (λ whole filled. put_told whole _ _ (bytes_at (g.S.Store.files c.args.store.now) c.args.feed.now.name) c.args.from c.args.count c.args.at c.fill.auto.buf c.requires.room filled)
+          (e.told told);
+      read_on = if_ok c.fill.result _ _ (λ whole held is. bytes_on_as c.args.feed.now c.fill.new.self _ _ c.args.at _ _ count e.part.pages (held is)) e.held;
     }
-
-pub returns-clause-told : goal.returns-clause-told
-returns-clause-told g c = λ told.
-    if_ok c.fill.result _ _
-    (λ whole filled. put_told whole _ _ (bytes_at (g.S.Store.files c.args.store.now) c.args.feed.now.name) c.args.from c.args.count c.args.at c.fill.auto.buf c.requires.room filled)
-    (c.fill.ensures.told told)
-
-pub returns-clause-read_on : goal.returns-clause-read_on
-returns-clause-read_on g c = if_ok c.fill.result _ _
-    (λ whole held is. bytes_on_as c.args.feed.now c.fill.new.self _ _ c.args.at _ _ (long c.args.from c.args.count c.args.out.now c.requires.room)
-    c.fill.ensures.part.pages (held is)) c.fill.ensures.held

@@ -17,7 +17,7 @@ pub loop-low-init : goal.loop-low-init
 loop-low-init g c = record {
   fits = c.requires;
   same = record { strings = refl; places = refl; strings_part = refl; places_part = refl; width = refl; count = refl };
-  looked = looked_not _ _ _ _ _;
+  looked = looked_not;
   high = omega (arith, c.div_ceil-high.ensures, c.count.ensures);
   low = omega arith;
   reads = λ apart. halved_none_as _ _ _ _ _ (omega (arith, c.div_ceil-high.ensures, c.count.ensures)) (omega arith);
@@ -42,12 +42,12 @@ loop-low-preserved g c =
     record {
       fits = at.fits;
       same = same_again inv.same at.same;
-      looked = looked_again _ _ _ _ _ _ _ _ _ _ _ _ _ inv.looked at.looked inv.same.strings_part inv.same.places_part;
+      looked = looked_again inv.looked at.looked inv.same.strings_part inv.same.places_part;
       high = room.0;
       low = room.1;
       reads = λ apart.
-          let one = look_as _ _ _ _ _ _ inv.same.strings_part inv.same.places_part apart at.reads in
-          halved_more _ _ _ _ _ _ _ _ (omega arith) (under_half c.is_below-above.result c.loop-low.low c.loop-low.high _ _ c.lower-low.ensures
+          let one = look_as inv.same.strings_part inv.same.places_part apart at.reads in
+          halved_more (omega arith) (under_half c.is_below-above.result c.loop-low.low c.loop-low.high _ _ c.lower-low.ensures
           c.higher-high.ensures (omega arith)) (inv.reads apart) one;
       between = λ es stands.
           let here = stands_same c.args.self.now c.loop-low.self (g.S.Store.files c.args.store.now) (g.S.Store.files c.loop-low.store) es inv.same inv.looked.files stands in
@@ -73,8 +73,8 @@ returns-in-Err-clause-step g c =
     record {
       fits = at.fits;
       same = same_again inv.same at.same;
-      looked = looked_again _ _ _ _ _ _ _ _ _ _ _ _ _ inv.looked at.looked inv.same.strings_part inv.same.places_part;
-      reads = λ apart. halved_look _ _ _ _ _ _ _ (omega arith) (inv.reads apart) (look_as _ _ _ _ _ _ inv.same.strings_part inv.same.places_part apart at.reads);
+      looked = looked_again inv.looked at.looked inv.same.strings_part inv.same.places_part;
+      reads = λ apart. halved_look (omega arith) (inv.reads apart) (look_as inv.same.strings_part inv.same.places_part apart at.reads);
       memory = memory_for _ at.memory;
       cause = refused_for _ (caused_later _ inv.looked.faults at.cause);
     }
@@ -86,7 +86,7 @@ returns-then-low-eq0-clause-step g c =
       fits = inv.fits;
       same = inv.same;
       looked = inv.looked;
-      reads = λ apart. halved_done _ _ _ _ _ _ (inv.reads apart);
+      reads = λ apart. halved_done (inv.reads apart);
       memory = λ is. absurd cc;
       cause = record { later = inv.looked.faults; device = tt };
     }
@@ -98,7 +98,7 @@ returns-clause-step g c =
       fits = inv.fits;
       same = inv.same;
       looked = inv.looked;
-      reads = λ apart. halved_done _ _ _ _ _ _ (inv.reads apart);
+      reads = λ apart. halved_done (inv.reads apart);
       memory = λ is. absurd cc;
       cause = record { later = inv.looked.faults; device = tt };
     }

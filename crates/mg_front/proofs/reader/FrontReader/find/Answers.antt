@@ -15,7 +15,7 @@ returns-in-Err g c =
       found = λ es stands. block_refused _ es _ _ _ (e.found es stands);
       bad = e.bad;
       memory = memory_for _ e.step.memory;
-      reads = λ apart. looks_wider _ _ _ _ _ _ (omega arith) (e.step.reads apart);
+      reads = λ apart. looks_wider (omega arith) (e.step.reads apart);
       cause = refused_for _ e.step.cause;
     }
 
@@ -30,7 +30,7 @@ returns-in-Ok-None g c =
           (subst (λ o. AnswersBlock (Ok o) c.args.string.now es) c.in-Ok-None.field-0-is (e.found es stands));
       bad = tt;
       memory = λ is. absurd cc;
-      reads = λ apart. looks_wider _ _ _ _ _ _ (omega arith) (e.step.reads apart);
+      reads = λ apart. looks_wider (omega arith) (e.step.reads apart);
       cause = record { later = e.step.cause.later; device = tt };
     }
 
@@ -41,7 +41,7 @@ returns g c =
     record {
       fits = i.step.fits;
       same = same_again e.step.same i.step.same;
-      looked = looked_again _ _ _ _ _ _ _ _ _ _ _ _ _ e.step.looked i.step.looked e.step.same.strings_part e.step.same.places_part;
+      looked = looked_again e.step.looked i.step.looked e.step.same.strings_part e.step.same.places_part;
       found = λ es stands.
           let block = subst (λ o. AnswersBlock (Ok o) c.args.string.now es) c.in-Ok-Some.field-0-is (e.found es stands) in
           let here = stands_same c.args.self.now c.block_of.new.self (g.S.Store.files c.args.store.now) (g.S.Store.files c.block_of.new.store) es
@@ -50,7 +50,7 @@ returns g c =
           (rw e.step.same.width at (i.found es here));
       bad = lost_among _ _ _ _ _ c.in-Ok-Some.block (rw c.in-Ok-Some.field-0-is at e.below) e.step.same e.step.looked.files i.bad;
       memory = i.step.memory;
-      reads = λ apart. looks_more _ _ _ _ _ _ _ (e.step.reads apart)
-          (look_as _ _ _ _ _ _ e.step.same.strings_part e.step.same.places_part apart i.step.reads);
+      reads = λ apart. looks_more (e.step.reads apart)
+          (look_as e.step.same.strings_part e.step.same.places_part apart i.step.reads);
       cause = caused_later _ e.step.looked.faults i.step.cause;
     }
