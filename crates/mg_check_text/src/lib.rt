@@ -7,6 +7,7 @@
 mod load;
 mod next_doc;
 mod progress;
+mod set;
 mod term_reader;
 mod whole_text;
 

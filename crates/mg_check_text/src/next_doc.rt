@@ -11,6 +11,7 @@ ghost use Rattle.mg_check_parts.specs.Decoding.{CanCode};
 ghost use Rattle.mg_check_text.specs.Reads.{Compares, FindsText, ReadsBy, ReadsText};
 
 use crate::progress::Progress;
+use crate::set::Set;
 use mg_check_parts::{code_doc, expect_more};
 use mg_dev::{Bad, FileRef, Part, PartErr, Store};
 use mg_fields::{eight_bytes, four_bytes};
@@ -25,20 +26,19 @@ const CLOSING: u8 = 2;
 /// Sees that a place stands in Places as the one of this number, from 0.
 pub(crate) fn expect_place<S: Store>(
     store: &mut S,
-    base: &str,
-    version: u8,
+    set: &Set<'_>,
     number: u32,
     place: u64,
 ) -> Result<(), PartErr>
-    requires narrow { version ≡ 1 → place < 2 ^ 32 }
-    ensures { Compares (PlaceStands version number place) base.now result S.files S.reads S.faults
-        store.old store.new }
+    requires narrow { set.now.head.now.version ≡ 1 → place < 2 ^ 32 }
+    ensures { Compares (PlaceStands set.now.head.now.version number place) set.now.base.now result
+        S.files S.reads S.faults store.old store.new }
 {
     let file = FileRef {
-        base,
+        base: set.base,
         part: Part::Places,
     };
-    let compared = if version == 1 {
+    let compared = if set.head.version == 1 {
         expect_more(
             store,
             file,
@@ -119,26 +119,25 @@ fn unknown_piece(place: u64) -> PartErr
 // Sees that the code of a document stands next in Text, and its place in Places; answers where the code ends.
 fn expect_coded<S: Store>(
     store: &mut S,
-    base: &str,
-    version: u8,
+    set: &Set<'_>,
     progress: &Progress,
     coded: &[u8],
 ) -> Result<u64, PartErr>
     requires place { progress.now.place ≤ 2 ^ 60 }
-    requires narrow { version ≡ 1 → progress.now.place < 2 ^ 32 }
+    requires narrow { set.now.head.now.version ≡ 1 → progress.now.place < 2 ^ 32 }
     ensures end { IfOk result (λ end. end ≡ progress.now.place + length coded.now) }
-    ensures compared { Compares (CodeStands version coded.now progress.now) base.now result S.files
-        S.reads S.faults store.old store.new }
+    ensures compared { Compares (CodeStands set.now.head.now.version coded.now progress.now)
+        set.now.base.now result S.files S.reads S.faults store.old store.new }
 {
     let text = FileRef {
-        base,
+        base: set.base,
         part: Part::Text,
     };
     let end = match expect_more(store, text, progress.place, coded) {
         Ok(end) => end,
         Err(refusal) => return Err(refusal),
     };
-    match expect_place(store, base, version, progress.documents, progress.place) {
+    match expect_place(store, set, progress.documents, progress.place) {
         Ok(()) => Ok(end),
         Err(refusal) => Err(refusal),
     }
@@ -148,8 +147,7 @@ fn expect_coded<S: Store>(
 fn add_doc<S: Store>(
     alloc: Global,
     store: &mut S,
-    base: &str,
-    version: u8,
+    set: &Set<'_>,
     model: &TextModel,
     doc: &[u8],
     progress: &mut Progress,
@@ -159,9 +157,9 @@ fn add_doc<S: Store>(
     requires documents { progress.old.documents < 2 ^ 32 - 1 }
     requires bytes { progress.old.bytes < 2 ^ 32 }
     requires place { progress.old.place ≤ 2 ^ 60 }
-    requires narrow { version ≡ 1 → progress.old.place < 2 ^ 32 }
-    ensures compared { Compares (StandsNext version model.now doc.now progress.old) base.now result
-        S.files S.reads S.faults store.old store.new }
+    requires narrow { set.now.head.now.version ≡ 1 → progress.old.place < 2 ^ 32 }
+    ensures compared { Compares (StandsNext set.now.head.now.version model.now doc.now progress.old)
+        set.now.base.now result S.files S.reads S.faults store.old store.new }
     ensures added { OnOk result (HasAdded model.now doc.now progress.old progress.new) }
     ensures short { OnOk result (coded_size model.now doc.now ≤ 12 * length doc.now + 13) }
 {
@@ -170,7 +168,7 @@ fn add_doc<S: Store>(
         Ok(None) => return Err(unknown_piece(progress.place)),
         Err(_) => return Err(PartErr::Memory),
     };
-    let end = match expect_coded(store, base, version, progress, coded.bytes()) {
+    let end = match expect_coded(store, set, progress, coded.bytes()) {
         Ok(end) => end,
         Err(refusal) => return Err(refusal),
     };
@@ -186,33 +184,26 @@ fn add_doc<S: Store>(
 pub(crate) fn next_doc<S: Store>(
     alloc: Global,
     store: &mut S,
-    base: &str,
-    head: &Head,
+    set: &Set<'_>,
     reader: &mut TextReader<'_, S>,
     held: &mut HeldDocument,
     progress: &mut Progress,
 ) -> Result<(), PartErr>
-    requires reads { ReadsBy reader.old (S.files store.old) head.now }
-    requires more { progress.old.documents < head.now.documents }
-    requires range { IsInRange reader.old.code head.now progress.old }
-    ensures range { OnOk result (IsInRange reader.old.code head.now progress.new) }
+    requires reads { ReadsBy reader.old (S.files store.old) set.now.head.now }
+    requires more { progress.old.documents < set.now.head.now.documents }
+    requires range { IsInRange reader.old.code set.now.head.now progress.old }
+    ensures range { OnOk result (IsInRange reader.old.code set.now.head.now progress.new) }
     ensures count { OnOk result (progress.new.documents ≡ progress.old.documents + 1) }
     ensures read { FindsText (IsSome (S.files store.old) → OnOk result
-        (FoundMore (S.files store.old) base.now head.now reader.old progress.old progress.new))
-        (WhereRead (S.files store.old) base.now head.now reader.old progress.old) base.now
-        reader.old reader.new result S.files S.reads S.faults store.old store.new }
+        (FoundMore (S.files store.old) set.now.base.now set.now.head.now reader.old progress.old
+        progress.new))
+        (WhereRead (S.files store.old) set.now.base.now set.now.head.now reader.old progress.old)
+        set.now.base.now reader.old reader.new result S.files S.reads S.faults store.old
+        store.new }
 {
-    match decode_next(store, head, reader, held, progress) {
+    match decode_next(store, set.head, reader, held, progress) {
         Ok(()) => {}
         Err(refusal) => return Err(refusal),
     }
-    add_doc(
-        alloc,
-        store,
-        base,
-        head.version,
-        reader.model(),
-        held.bytes(),
-        progress,
-    )
+    add_doc(alloc, store, set, reader.model(), held.bytes(), progress)
 }

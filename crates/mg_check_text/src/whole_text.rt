@@ -11,6 +11,7 @@ ghost use Rattle.mg_check_text.specs.Reads.{Compares, FindsText, ReadsBy};
 
 use crate::next_doc::{expect_place, next_doc};
 use crate::progress::Progress;
+use crate::set::Set;
 use mg_check_parts::expect_used;
 use mg_dev::{Bad, Part, PartErr, Store};
 use mg_layout::Head;
@@ -27,25 +28,26 @@ const COLLECTION_AT: u64 = 32;
 fn read_docs<S: Store>(
     alloc: Global,
     store: &mut S,
-    base: &str,
-    head: &Head,
+    set: &Set<'_>,
     reader: &mut TextReader<'_, S>,
 ) -> Result<Progress, PartErr>
-    requires reads { ReadsBy reader.old (S.files store.old) head.now }
-    ensures range { IfOk result (λ p. IsInRange reader.old.code head.now p) }
-    ensures all { IfOk result (λ p. p.documents ≡ head.now.documents) }
+    requires reads { ReadsBy reader.old (S.files store.old) set.now.head.now }
+    ensures range { IfOk result (λ p. IsInRange reader.old.code set.now.head.now p) }
+    ensures all { IfOk result (λ p. p.documents ≡ set.now.head.now.documents) }
     ensures read { FindsText (IsSome (S.files store.old) →
-        IfOk result (λ p. FoundDocs (parts_at (S.files store.old) base.now) head.now.version
-        reader.old.code p)) (WhereLoaded (S.files store.old) base.now head.now reader.old) base.now
-        reader.old reader.new result S.files S.reads S.faults store.old store.new }
+        IfOk result (λ p. FoundDocs (parts_at (S.files store.old) set.now.base.now)
+        set.now.head.now.version reader.old.code p))
+        (WhereLoaded (S.files store.old) set.now.base.now set.now.head.now reader.old)
+        set.now.base.now reader.old reader.new result S.files S.reads S.faults store.old
+        store.new }
 {
-    let mut held = HeldDocument::new(alloc, head.collection);
+    let mut held = HeldDocument::new(alloc, set.head.collection);
     let mut progress = match Progress::new(alloc, reader.model()) {
         Ok(progress) => progress,
         Err(_) => return Err(PartErr::Memory),
     };
-    for _number in 0..head.documents {
-        match next_doc(alloc, store, base, head, reader, &mut held, &mut progress) {
+    for _number in 0..set.head.documents {
+        match next_doc(alloc, store, set, reader, &mut held, &mut progress) {
             Ok(()) => {}
             Err(refusal) => return Err(refusal),
         }
@@ -99,27 +101,20 @@ fn expect_numbers(head: &Head, progress: &Progress) -> Result<(), Bad>
 fn expect_end<S: Store>(
     alloc: Global,
     store: &mut S,
-    base: &str,
-    head: &Head,
+    set: &Set<'_>,
     model: &TextModel,
     progress: &Progress,
 ) -> Result<(), PartErr>
-    requires within { IsWithin (fields_of head.now) }
-    requires range { IsInRange model.now head.now progress.now }
-    ensures { Compares (EndsAt head.now model.now progress.now) base.now result S.files S.reads
-        S.faults store.old store.new }
+    requires within { IsWithin (fields_of set.now.head.now) }
+    requires range { IsInRange model.now set.now.head.now progress.now }
+    ensures { Compares (EndsAt set.now.head.now model.now progress.now) set.now.base.now result
+        S.files S.reads S.faults store.old store.new }
 {
-    match expect_numbers(head, progress) {
+    match expect_numbers(set.head, progress) {
         Ok(()) => {}
         Err(bad) => return Err(PartErr::Bad(bad)),
     }
-    match expect_place(
-        store,
-        base,
-        head.version,
-        progress.documents,
-        progress.place,
-    ) {
+    match expect_place(store, set, progress.documents, progress.place) {
         Ok(()) => {}
         Err(refusal) => return Err(refusal),
     }
@@ -150,11 +145,12 @@ pub fn read_text<S: Store>(
         (WhereLoaded (S.files store.old) base.now head.now reader.old) base.now
         reader.old reader.new result S.files S.reads S.faults store.old store.new }
 {
-    let progress = match read_docs(alloc, store, base, head, reader) {
+    let set = Set { base, head };
+    let progress = match read_docs(alloc, store, &set, reader) {
         Ok(progress) => progress,
         Err(refusal) => return Err(refusal),
     };
-    match expect_end(alloc, store, base, head, reader.model(), &progress) {
+    match expect_end(alloc, store, &set, reader.model(), &progress) {
         Ok(()) => Ok(()),
         Err(refusal) => Err(refusal),
     }

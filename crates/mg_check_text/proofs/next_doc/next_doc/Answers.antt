@@ -10,8 +10,8 @@ use Rattle.mg_check_text.proofs.next_doc.next_doc.Goals as goal
 pub add_doc-requires-clause-can : goal.add_doc-requires-clause-can
 add_doc-requires-clause-can g c =
     let same : c.model.result.now ≡ c.args.reader.now.code = c.model.ensures ∙ c.decode_next.ensures.text.same.code in
-    let left : c.args.progress.now.bytes + length c.bytes.result.now ≤ c.args.head.now.collection = omega (arith, c.in-Ok.ensures.short, ap length c.bytes.ensures) in
-    let few = (head-few c.args.head.now c.requires.reads.within).0 in
+    let left : c.args.progress.now.bytes + length c.bytes.result.now ≤ c.args.set.now.head.now.collection = omega (arith, c.in-Ok.ensures.short, ap length c.bytes.ensures) in
+    let few = (head-few c.args.set.now.head.now c.requires.reads.within).0 in
     let range = c.requires.range in
     record {
       short = omega (arith, left, few);
@@ -24,7 +24,7 @@ pub returns-in-Err-clause-read : goal.returns-in-Err-clause-read
 returns-in-Err-clause-read g c = record {
   found = λ told. tt;
   none = λ loaded docs so.
-      refused-next (g.S.Store.files c.args.store.now) c.args.base.now c.args.head.now c.args.reader.now docs c.args.progress.now c.in-Err.refusal loaded so
+      refused-next (g.S.Store.files c.args.store.now) c.args.set.now.base.now c.args.set.now.head.now c.args.reader.now docs c.args.progress.now c.in-Err.refusal loaded so
       c.requires.more (λ collection stand short. c.in-Err.ensures.never_bad collection (record { stands = stand; short = omega (arith, short) }));
   text = c.in-Err.ensures.text;
 }
@@ -32,11 +32,11 @@ returns-in-Err-clause-read g c = record {
 pub returns-clause-range : goal.returns-clause-range
 returns-clause-range g c =
     let same : c.model.result.now ≡ c.args.reader.now.code = c.model.ensures ∙ c.decode_next.ensures.text.same.code in
-    let left : c.args.progress.now.bytes + length c.bytes.result.now ≤ c.args.head.now.collection = omega (arith, c.in-Ok.ensures.short, ap length c.bytes.ensures) in
-    let range = code-range c.args.reader.now.code c.model.result.now c.args.head.now c.args.progress.now same c.requires.range in
+    let left : c.args.progress.now.bytes + length c.bytes.result.now ≤ c.args.set.now.head.now.collection = omega (arith, c.in-Ok.ensures.short, ap length c.bytes.ensures) in
+    let range = code-range c.args.reader.now.code c.model.result.now c.args.set.now.head.now c.args.progress.now same c.requires.range in
     both-ok _ _ _ c.add_doc.result
-    (λ added short. code-range c.model.result.now c.args.reader.now.code c.args.head.now c.add_doc.new.progress (sym same)
-    (range-next c.model.result.now c.args.head.now c.bytes.result.now c.args.progress.now c.add_doc.new.progress range added short left c.requires.more))
+    (λ added short. code-range c.model.result.now c.args.reader.now.code c.args.set.now.head.now c.add_doc.new.progress (sym same)
+    (range-next c.model.result.now c.args.set.now.head.now c.bytes.result.now c.args.progress.now c.add_doc.new.progress range added short left c.requires.more))
     c.add_doc.ensures.added c.add_doc.ensures.short
 
 pub returns-clause-read : goal.returns-clause-read
@@ -45,11 +45,12 @@ returns-clause-read g c = record {
   none = λ loaded docs so.
       let same : c.model.result.now ≡ c.args.reader.now.code = c.model.ensures ∙ c.decode_next.ensures.text.same.code in
       let told = told-there (g.S.Store.files c.args.store.now) (g.S.Store.files c.decode_next.new.store) c.decode_next.ensures.text.looks.files loaded.told in
-      other-next (g.S.Store.files c.args.store.now) c.args.base.now c.args.head.now c.args.reader.now docs c.args.progress.now c.bytes.result.now c.add_doc.result loaded so c.requires.more
+      other-next (g.S.Store.files c.args.store.now) c.args.set.now.base.now c.args.set.now.head.now c.args.reader.now docs c.args.progress.now
+      c.bytes.result.now c.add_doc.result loaded so c.requires.more
       (λ collection stand short. c.bytes.ensures ∙ c.in-Ok.ensures.own collection (record { stands = stand; short = omega (arith, short) }))
-      (on-bad (IsNextDoc (parts_at (g.S.Store.files c.decode_next.new.store) c.args.base.now) c.args.head.now.version c.model.result.now c.bytes.result.now c.args.progress.now)
-      (IsNextDoc (parts_at (g.S.Store.files c.args.store.now) c.args.base.now) c.args.head.now.version c.args.reader.now.code c.bytes.result.now c.args.progress.now) c.add_doc.result
-      (λ next. next-there (g.S.Store.files c.args.store.now) (g.S.Store.files c.decode_next.new.store) c.args.base.now c.args.head.now.version
+      (on-bad (IsNextDoc (parts_at (g.S.Store.files c.decode_next.new.store) c.args.set.now.base.now) c.args.set.now.head.now.version c.model.result.now c.bytes.result.now c.args.progress.now)
+      (IsNextDoc (parts_at (g.S.Store.files c.args.store.now) c.args.set.now.base.now) c.args.set.now.head.now.version c.args.reader.now.code c.bytes.result.now c.args.progress.now) c.add_doc.result
+      (λ next. next-there (g.S.Store.files c.args.store.now) (g.S.Store.files c.decode_next.new.store) c.args.set.now.base.now c.args.set.now.head.now.version
       c.args.reader.now.code c.model.result.now c.bytes.result.now c.args.progress.now c.decode_next.ensures.text.looks.files same next)
       (c.add_doc.ensures.compared.other told));
   text = text_looks c.in-Ok.ensures.text c.add_doc.ensures.compared.looks;

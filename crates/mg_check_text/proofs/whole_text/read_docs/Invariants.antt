@@ -9,7 +9,7 @@ use Rattle.mg_check_text.proofs.whole_text.read_docs.Given as goal
 abbrev pub invariant-loop-number : goal.invariant-loop-number
 invariant-loop-number g l = record {
   text : Between g.S.Store.files g.S.Store.reads g.S.Store.faults l.initial.store l.store (HasReadText l.initial.reader l.reader);
-  range : IsInRange l.initial.reader.code l.head l.progress;
+  range : IsInRange l.initial.reader.code l.set.head.now l.progress;
   count : l.progress.documents ≡ l._number;
-  found : IsSome (g.S.Store.files l.initial.store) → FoundDocs (parts_at (g.S.Store.files l.initial.store) l.base) l.head.version l.initial.reader.code l.progress;
+  found : IsSome (g.S.Store.files l.initial.store) → FoundDocs (parts_at (g.S.Store.files l.initial.store) l.set.base.now) l.set.head.now.version l.initial.reader.code l.progress;
 }
