@@ -51,7 +51,7 @@ fn the_models_are_loaded_for_the_first_text_and_once(rt: HostRuntime) -> Result<
     Ok(())
 }
 
-/// Lines of phrases, what is printed, and how many pages of the texts are read.
+/// Lines of phrases, what is printed, and how often the texts and each of their models are read: each has one page.
 static PHRASES: [(&[u8], &[u8], u64); 3] = [
     (b"zebra cat\n, ,\nsat dog\n", b"= 0\n= 0\n= 0\n", 0),
     (b"the cat\nCat, CAT\n", b"1 1\n= 1\n3 1\n= 1\n", 1),
@@ -59,13 +59,11 @@ static PHRASES: [(&[u8], &[u8], u64); 3] = [
 ];
 
 #[test]
-fn only_documents_with_all_words_are_read(rt: HostRuntime) -> Result<(), Fail> {
+fn models_are_read_once_and_only_documents_with_all_words(rt: HostRuntime) -> Result<(), Fail> {
     for (given, wanted, pages) in &PHRASES {
         let seen = serve_three(rt.alloc(), Kind::Phrase, given, wanted)?;
-        assert!(rt;
-            seen.printed && seen.texts[0] == *pages && seen.weights == 0,
-            "{pages}"
-        );
+        let are_read = seen.models == [*pages, *pages] && seen.texts[0] == *pages;
+        assert!(rt; seen.printed && are_read && seen.weights == 0);
     }
     Ok(())
 }
