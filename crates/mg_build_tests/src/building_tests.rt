@@ -1,6 +1,5 @@
-//! What no clause says: that builds succeed, the parts of a real collection, that a set is printed by one put, how a collection
-//! is read, and what a store that lies leaves. The parts of other collections and failing stores stand in the black-box suite
-//! and with the tools.
+//! What no clause says: that builds succeed, that a set is printed by one put, how a collection is read, and what a store that
+//! lies leaves. The parts of collections and failing stores stand in the black-box suite and with the tools.
 use crate::other_store::OtherStore;
 use mg_build::build;
 use mg_decode::decode;
@@ -12,74 +11,9 @@ use std::test::Fail;
 
 static LETTERS: &[u8] = b"the cat sat\n\x02the dog\n\x02Cat, cat & dog!\n\x02";
 
-/// What a build of the three documents tells, by an independent reference.
-static SUMMARY: Summary = Summary {
-    documents: 3,
-    words: 5,
-    others: 5,
-    terms: 4,
-    occurrences: 8,
-    runs: 1,
-    peak: 96,
-    budget: 16_777_216,
-};
-
-/// The parts of their set, by the same.
-static PARTS: [(&str, &[u8]); 13] = [
-    (
-        "set.head",
-        b"MGROWv2\n\0\0\0\x03\0\0\0\x05\0\0\0\x05\0\0\0\x04\0\x15UU\0\0\0\0\0\0\0\0\0\0\0'\0\0\0\0\0\0\0\x08\0\0\0\x01\0\0\0\0\0\0\0\0\0\0\0\x08\0\0\0\0\0\0\0\x04\0\0\0\0\0\0\0\x04",
-    ),
-    (
-        "set.words",
-        b"\x03Cat\x03\0\x03cat\x02\0\x03dog\x02\0\x03sat\x03\x03the\x02",
-    ),
-    (
-        "set.nonwords",
-        b"\x01\n\x02\0\x01 \x02\x01\x02& \x03\0\x02!\n\x03\x02, \x02",
-    ),
-    ("set.text", b"\xc71@\xbd \xc0\xd1\x10"),
-    (
-        "set.places",
-        b"\0\0\0\0\0\0\0\0\0\0\0\0\0\0\0\x03\0\0\0\0\0\0\0\x05\0\0\0\0\0\0\0\x08",
-    ),
-    (
-        "set.lex",
-        b"\x03cat\0\0\0\x02\0\0\0\0\0\0\0\0\0\0\0\0\0\x03dog\0\0\0\x02\0\0\0\0\0\0\0\x01\0\0\0\x01\0\x03sat\0\0\0\x01\0\0\0\0\0\0\0\x02\0\0\0\x02\0\x03the\0\0\0\x02\0\0\0\0\0\0\0\x03\0\0\0\x03",
-    ),
-    ("set.lexat", b"\0\0\0\0"),
-    ("set.post", b"(\x80\0\0"),
-    (
-        "set.skip",
-        b"\0\0\0\0\0\0\0\x03\0\0\0\0\0\0\0\0\0\0\0\0\0\0\0\x03\0\0\0\0\0\0\0\0\0\0\0\0\0\0\0\x01\0\0\0\0\0\0\0\0\0\0\0\0\0\0\0\x02\0\0\0\0\0\0\0\0",
-    ),
-    ("set.weights", b"\0\0\x01\xbb\0\0\x01j\0\0\x02<"),
-    ("set.run", b"\xd8I B\0"),
-    ("set.mergea", b""),
-    ("set.mergeb", b""),
-];
-
-/// The first part that has other bytes; no name where none has.
-fn first_other(store: &SureStore) -> &'static str {
-    for (name, bytes) in &PARTS {
-        if store.file(name) != Some(*bytes) {
-            return name;
-        }
-    }
-    ""
-}
-
 /// Builds the collection with the smallest pool.
 fn built_of<S: Store>(alloc: Global, store: &mut S) -> Result<Summary, Fault> {
     build(alloc, store, "text", "set", 4096)
-}
-
-/// Whether a build of the three documents with the usual pool tells their summary.
-fn is_summed_up<S: Store>(alloc: Global, store: &mut S) -> bool {
-    match build(alloc, store, "text", "set", 16_777_216) {
-        Ok(summary) => summary == SUMMARY,
-        Err(_) => false,
-    }
 }
 
 /// Whether the set is printed as its collection, and no second put comes.
@@ -90,20 +24,17 @@ fn is_printed_in_one_put<S: Store>(alloc: Global, store: &mut S) -> Result<bool,
     Ok(status.is_ok() && out.bytes() == LETTERS)
 }
 
-/// Whether a build of the three documents tells their summary and is printed so, and the first part that has other bytes.
-fn built(alloc: Global) -> Result<(bool, bool, &'static str), AllocError> {
+/// Whether a set of the three documents is.
+fn is_built_and_printed(alloc: Global) -> Result<bool, AllocError> {
     let mut store = SureStore::new(alloc);
     store.put_file("text", LETTERS)?;
-    let told = is_summed_up(alloc, &mut store);
-    let printed = is_printed_in_one_put(alloc, &mut store)?;
-    Ok((told, printed, first_other(&store)))
+    let made = built_of(alloc, &mut store).is_ok();
+    Ok(made && is_printed_in_one_put(alloc, &mut store)?)
 }
 
 #[test]
-fn a_set_has_its_parts_and_is_printed_in_one_put(rt: HostRuntime) -> Result<(), Fail> {
-    let (told, printed, other) = built(rt.alloc())?;
-    assert!(rt; told && printed);
-    assert!(rt; other.is_empty(), "{other}");
+fn a_set_is_printed_in_one_put(rt: HostRuntime) -> Result<(), Fail> {
+    assert!(rt; is_built_and_printed(rt.alloc())?);
     Ok(())
 }
 
@@ -134,25 +65,23 @@ fn long_store(alloc: Global) -> Result<OtherStore, AllocError> {
     holding(alloc, ("text", &collection), ("other", b""))
 }
 
-/// What is seen of its build: the runs, how often the collection was read and how often before the first byte of a run was
-/// written, and the longest read.
-fn long_build(alloc: Global) -> Result<(Option<u32>, u64, u64, usize), AllocError> {
+/// Whether its build takes so many runs, reads the collection at most twice and a page at a time, and writes the first byte of
+/// a run twenty reads before the last one.
+fn is_read_so(alloc: Global, runs: u32) -> Result<bool, AllocError> {
     let mut store = long_store(alloc)?;
-    let runs = built_of(alloc, &mut store).ok().map(|summary| summary.runs);
+    let made = built_of(alloc, &mut store);
+    let is_made = matches!(made, Ok(summary) if summary.runs == runs);
     let reads = store.held.reads_of(Part::Plain);
     let before = store.before_runs.unwrap_or(u64::MAX);
-    Ok((runs, reads, before, store.longest))
+    let is_twice = reads <= 2 * 39 && store.longest <= 4096;
+    Ok(is_made && is_twice && before <= reads.saturating_sub(20))
 }
 
 #[test]
 fn a_collection_is_read_twice_and_runs_are_written_as_it_is_read(
     rt: HostRuntime,
 ) -> Result<(), Fail> {
-    let (runs, reads, before, longest) = long_build(rt.alloc())?;
-    assert!(rt; runs == Some(97));
-    assert!(rt; reads <= 2 * 39, "{reads}");
-    assert!(rt; longest <= 4096);
-    assert!(rt; before <= reads.saturating_sub(20));
+    assert!(rt; is_read_so(rt.alloc(), 97)?);
     Ok(())
 }
 
@@ -195,8 +124,10 @@ fn is_told(
     Ok(stops(alloc, &mut store, fault))
 }
 
-/// Ends of a collection at both readings, and what is told of them.
-static ENDS: [(&[u8], &[u8], What, u64, u64); 9] = [
+/// How a collection ends at its first reading and at its second one, and what is told of it.
+type Ends<'a> = (&'a [u8], &'a [u8], What, u64, u64);
+
+static ENDS: [Ends<'static>; 9] = [
     (b"a b\x02", b"a b", What::Size, 5004, 5003),
     (
         b"aa\x02a\x02",
@@ -220,13 +151,19 @@ static ENDS: [(&[u8], &[u8], What, u64, u64); 9] = [
     (b"a\x02", b"\x02\x02", What::Pairs, 1, 0),
 ];
 
+/// Whether each of these is told.
+fn are_told(alloc: Global, rows: &[Ends<'_>]) -> Result<bool, AllocError> {
+    for (before, after, what, first, second) in rows {
+        if !is_told(alloc, (before, after), *what, (*first, *second))? {
+            return Ok(false);
+        }
+    }
+    Ok(true)
+}
+
 #[test]
 fn a_collection_that_changes_is_told(rt: HostRuntime) -> Result<(), Fail> {
-    let alloc = rt.alloc();
-    for (before, after, what, first, second) in &ENDS {
-        let told = is_told(alloc, (before, after), *what, (*first, *second))?;
-        assert!(rt; told, "{first} and {second}");
-    }
+    assert!(rt; are_told(rt.alloc(), &ENDS)?);
     Ok(())
 }
 
@@ -263,11 +200,19 @@ fn is_damaged_by(alloc: Global, runs: &[u8]) -> Result<bool, AllocError> {
 /// No run; an end within a code; another term; another document; a posting more.
 static OTHER_RUNS: [&[u8]; 5] = [b"", b"\xff", b"\x40", b"\x20", b"\x80\0"];
 
+/// Whether a build is by each of these.
+fn is_damaged_by_each(alloc: Global, rows: &[&[u8]]) -> Result<bool, AllocError> {
+    for runs in rows {
+        if !is_damaged_by(alloc, runs)? {
+            return Ok(false);
+        }
+    }
+    Ok(true)
+}
+
 #[test]
 fn runs_that_change_are_damaged(rt: HostRuntime) -> Result<(), Fail> {
-    for runs in &OTHER_RUNS {
-        assert!(rt; is_damaged_by(rt.alloc(), runs)?, "{runs:?}");
-    }
+    assert!(rt; is_damaged_by_each(rt.alloc(), &OTHER_RUNS)?);
     Ok(())
 }
 

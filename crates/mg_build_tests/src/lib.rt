@@ -1,5 +1,5 @@
-//! Tests of the calls that make sets of files, print them and check them: `mg_build`, `mg_decode`, `mg_migrate`, `mg_merge` and
-//! `mg_check`, through their public calls.
+//! Tests of the calls that make sets of files and print them: `mg_build`, `mg_decode` and `mg_migrate`, through their public
+//! calls.
 //!
 //! They stand in a crate of their own, as integration tests do: a crate that holds tests is proved once
 //! as a library and once more as the program that runs them.
@@ -7,10 +7,6 @@
 
 #[cfg(test)]
 mod building_tests;
-#[cfg(test)]
-mod checking_tests;
-#[cfg(test)]
-mod merging_tests;
 #[cfg(test)]
 mod migrating_tests;
 #[cfg(test)]
