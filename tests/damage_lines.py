@@ -24,30 +24,50 @@ MOST = (1 << 64) - 1
 # Digits that are written into a head of either version from a place on, and the line.
 HEADS_1 = [
     (7, b"\x0b", "head at 7: found 11, wanted 10 to 10"),
+    (0, b"N", "head at 0: found 78, wanted 77 to 77"),
+    (6, b"3", "head at 6: found 51, wanted 49 to 50"),
     (6, b"2", "head at 0: found 64, wanted 80 to 80"),
     (8, b"\0\x10\0\1", "head at 8: found 1048577, wanted 0 to 1048576"),
+    (12, b"\0\x10\0\1", "head at 12: found 1048577, wanted 0 to 1048576"),
+    (16, b"\0\x10\0\1", "head at 16: found 1048577, wanted 0 to 1048576"),
+    (20, b"\0\0\0\2", "head at 20: found 2, wanted 0 to 1"),
     (24, b"\0\0\1\x54", "head at 24: found 340, wanted 341 to 89478485"),
+    (28, b"\0\0\0\2", "head at 28: found 2, wanted 0 to 1"),
+    (32, b"\x10\0\0\1", "head at 32: found 268435457, wanted 0 to 268435456"),
+    (36, b"\0\0\0\x09", "head at 36: found 9, wanted 0 to 8"),
     (40, b"\0\0\0\2", "head at 40: found 2, wanted 1 to 1"),
+    (56, b"\0\0\0\0\0\0\0\5", "head at 56: found 5, wanted 0 to 4"),
+    # Numbers at their bounds are read, and another part does not have as much.
+    (8, b"\0\x10\0\0", "places at 0: found 8, wanted 4194308 to 4194308"),
+    (8, b"\0\0\0\0", "places at 0: found 8, wanted 4 to 4"),
     (12, b"\0\x10\0\0", "words at 0: found 3, wanted 2097152 to 18446744073709551615"),
+    (16, b"\0\x10\0\0", "nonwords at 0: found 3, wanted 2097152 to 18446744073709551615"),
+    (16, b"\0\0\0\0", "nonwords at 0: found 3, wanted 0 to 0"),
 ]
 HEADS_2 = [
     (7, b"\x0b", "head at 7: found 11, wanted 10 to 10"),
     (6, b"3", "head at 6: found 51, wanted 49 to 50"),
+    (6, b"0", "head at 6: found 48, wanted 49 to 50"),
     (6, b"1", "head at 0: found 80, wanted 64 to 64"),
     (8, b"\1\0\0\1", "head at 8: found 16777217, wanted 0 to 16777216"),
     (12, b"\0\x40\0\1", "head at 12: found 4194305, wanted 0 to 4194304"),
     (16, b"\0\x40\0\1", "head at 16: found 4194305, wanted 0 to 4194304"),
     (20, b"\0\0\0\2", "head at 20: found 2, wanted 0 to 1"),
     (24, b"\0\0\1\x54", "head at 24: found 340, wanted 341 to 89478485"),
+    (24, b"\5\x55\x55\x56", "head at 24: found 89478486, wanted 341 to 89478485"),
     (28, b"\0\0\0\2", "head at 28: found 2, wanted 0 to 1"),
     (32, b"\0\0\0\1\0\0\0\0", "head at 32: found 4294967296, wanted 0 to 4294967295"),
     (40, b"\0\0\0\0\0\0\0\x09", "head at 40: found 9, wanted 0 to 8"),
     (48, b"\0\0\0\2", "head at 48: found 2, wanted 1 to 1"),
+    (48, b"\0\0\0\0", "head at 48: found 0, wanted 1 to 1"),
     (52, b"\0\0\0\1", "head at 52: found 1, wanted 0 to 0"),
     (72, b"\0\0\0\0\0\0\0\5", "head at 72: found 5, wanted 0 to 4"),
     (8, b"\1\0\0\0", "places at 0: found 16, wanted 134217736 to 134217736"),
     (12, b"\0\x40\0\0", "words at 0: found 3, wanted 8388608 to 18446744073709551615"),
+    (16, b"\0\x40\0\0", "nonwords at 0: found 3, wanted 8388608 to 18446744073709551615"),
 ]
+# How many bytes a head of each version has, and sizes that it has not.
+SIZES = [(1, 64, [63, 65, 80, 81]), (2, 80, [64, 79, 81])]
 # Other bytes of a part, which are told alike in both versions.
 PARTS_OF_BOTH = [
     ("text", b"\xc8", "text at 0: found 1, wanted 2 to 2"),
@@ -150,6 +170,12 @@ def heads(suite):
         for at, digits, line in rows:
             other = with_digits(sound["head"], at, digits)
             told(suite, f"{digits.hex()} at {at} of a head of version {version}", sound | {"head": other}, line)
+    for version, size, others in SIZES:
+        sound = set_of(version)
+        for found in others:
+            line = f"head at 0: found {found}, wanted {size} to {size}"
+            other = (sound["head"] + bytes(17))[:found]
+            told(suite, f"a head of version {version} of {found} bytes", sound | {"head": other}, line)
     remove(suite, "set")
 
 

@@ -1,5 +1,5 @@
-//! What no clause says: the bytes of real lexicons, that calls succeed, where a damage is told, and which calls of a store may
-//! fail.
+//! What no clause says: the bytes of real lexicons, that calls succeed, and where a damage is told. Failing stores stand with
+//! the tools.
 ghost use Rattle.std.specs.Prelude.{◌≡◌, ◌≤◌, ◌<◌, ◌^◌, ◌==◌, ◌||◌, List, [], OnOk, length, true};
 ghost use Rattle.std.specs.Bool.{OnTrue};
 ghost use Rattle.mg_defs.specs.Front.{is_below};
@@ -10,8 +10,8 @@ ghost use Rattle.mg_lex.specs.Writing.{TookTerms};
 use mg_dev::{Part, PartErr, PutErr, Store};
 use mg_layout::{Head, TermInfo};
 use mg_lex::{Lex, LexWriter};
-use mg_mem::{MemStore, SureStore};
-use std::alloc::{AllocError, Global};
+use mg_mem::SureStore;
+use std::alloc::Global;
 use std::test::Fail;
 
 // What stands of the terms of "the cat sat", "the dog" and "Cat, cat & dog!".
@@ -124,6 +124,19 @@ fn push_all<S: Store>(
     Ok(number)
 }
 
+// Writes the terms, and what is left of the lexicon.
+fn put_all<S: Store>(
+    writer: &mut LexWriter<'_>,
+    store: &mut S,
+    terms: &[(&[u8], TermInfo)],
+) -> Result<u32, PutErr>
+    requires took { TookTerms writer.old (S.files store.old) [] }
+{
+    let count = push_all(writer, store, terms)?;
+    writer.finish(store)?;
+    Ok(count)
+}
+
 // The same as the lexicon.
 fn write<S: Store>(
     alloc: Global,
@@ -131,9 +144,7 @@ fn write<S: Store>(
     terms: &[(&[u8], TermInfo)],
 ) -> Result<u32, PutErr> {
     let mut writer = LexWriter::start(alloc, store, "set")?;
-    let count = push_all(&mut writer, store, terms)?;
-    writer.finish(store)?;
-    Ok(count)
+    put_all(&mut writer, store, terms)
 }
 
 // Whether a lexicon tells this of each term.
@@ -174,84 +185,100 @@ fn is_kept(
     let count = write(alloc, &mut store, terms)?;
     let told = tells(alloc, &mut store, count, rows);
     let same = store.file("set.lex") == Some(lex) && store.file("set.lexat") == Some(lex_at);
-    Ok(same && told == Ok(true))
+    Ok(same && matches!(told, Ok(true)))
 }
 
-// The term of a lexicon of one term, and its bytes.
-static ONE: [(&[u8], TermInfo); 1] = [(
-    b"a",
-    TermInfo {
-        number: 0,
-        docs: 1,
-        post_at: 0,
-        skip_at: 0,
-    },
-)];
+// What stands of terms that one document has, each with a byte of Post.
+const FIRST: TermInfo = TermInfo {
+    number: 0,
+    docs: 1,
+    post_at: 0,
+    skip_at: 0,
+};
 
-static LEX_OF_ONE: &[u8] = b"\x01a\0\0\0\x01\0\0\0\0\0\0\0\0\0\0\0\0";
+const SECOND: TermInfo = TermInfo {
+    number: 1,
+    docs: 1,
+    post_at: 1,
+    skip_at: 1,
+};
 
-static NO_CAT: [(&[u8], Option<TermInfo>); 1] = [(b"cat", None)];
+const THIRD: TermInfo = TermInfo {
+    number: 2,
+    docs: 1,
+    post_at: 2,
+    skip_at: 2,
+};
+
+const FOURTH: TermInfo = TermInfo {
+    number: 3,
+    docs: 1,
+    post_at: 3,
+    skip_at: 3,
+};
+
+const FIFTH: TermInfo = TermInfo {
+    number: 4,
+    docs: 1,
+    post_at: 4,
+    skip_at: 4,
+};
+
+// Terms that share their first bytes; the fifth is whole again.
+static FIVE: [(&[u8], TermInfo); 5] = [
+    (b"car", FIRST),
+    (b"card", SECOND),
+    (b"care", THIRD),
+    (b"cat", FOURTH),
+    (b"dog", FIFTH),
+];
+
+static LEX_OF_FIVE: &[u8] = b"\x03car\0\0\0\x01\0\0\0\0\0\0\0\0\0\0\0\0\
+    \x03\x01d\0\0\0\x01\0\0\0\0\0\0\0\x01\0\0\0\x01\
+    \x03\x01e\0\0\0\x01\0\0\0\0\0\0\0\x02\0\0\0\x02\
+    \x02\x01t\0\0\0\x01\0\0\0\0\0\0\0\x03\0\0\0\x03\
+    \x03dog\0\0\0\x01\0\0\0\0\0\0\0\x04\0\0\0\x04";
+
+static LEX_AT_OF_FIVE: &[u8] = b"\0\0\0\0\0\0\0\x4d";
+
+static TOLD_OF_FIVE: [(&[u8], Option<TermInfo>); 8] = [
+    (b"car", Some(FIRST)),
+    (b"card", Some(SECOND)),
+    (b"care", Some(THIRD)),
+    (b"cat", Some(FOURTH)),
+    (b"dog", Some(FIFTH)),
+    (b"ca", None),
+    (b"cards", None),
+    (b"dogs", None),
+];
+
+// Whether the lexicons of four terms and of five are kept so.
+fn are_kept(alloc: Global) -> Result<bool, PutErr> {
+    let four = is_kept(alloc, &TERMS, (LEX, LEX_AT), &TOLD)?;
+    let places = LEX_AT_OF_FIVE;
+    let five = is_kept(alloc, &FIVE, (LEX_OF_FIVE, places), &TOLD_OF_FIVE)?;
+    Ok(four && five)
+}
 
 #[test]
 fn lexicons_are_written_and_tell_their_terms(rt: HostRuntime) -> Result<(), Fail> {
-    assert!(rt; is_kept(rt.alloc(), &TERMS, (LEX, LEX_AT), &TOLD)?);
-    assert!(rt; is_kept(rt.alloc(), &ONE, (LEX_OF_ONE, LEX_AT), &NO_CAT)?);
-    assert!(rt; is_kept(rt.alloc(), &[], (b"", b""), &NO_CAT)?);
+    assert!(rt; are_kept(rt.alloc())?);
     Ok(())
 }
 
-// Whether a writer of the terms is refused where one call fails.
-fn write_fails(alloc: Global, call: u64) -> Result<bool, AllocError> {
-    let mut store = MemStore::new(alloc);
-    store.fail_at(call, 0)?;
-    Ok(write(alloc, &mut store, &TERMS).is_err())
-}
+static THE_TOLD: [(&[u8], Option<TermInfo>); 1] = [(b"the", Some(THE))];
 
-// Whether a look-up ends so, and the next one tells this.
-fn look_twice<S: Store>(
-    alloc: Global,
-    store: &mut S,
-    term: &[u8],
-    (first, next): (Result<(), PartErr>, Option<TermInfo>),
-) -> Result<bool, PartErr> {
-    let mut lex = Lex::load(alloc, store, "set", &head_of(4))?;
-    let ended = match lex.find(store, term) {
-        Ok(_) => Ok(()),
-        Err(refusal) => Err(refusal),
-    };
-    let found = lex.find(store, term)?;
-    Ok(ended == first && found == next)
-}
-
-// The same over these bytes of Lex, where one call fails and the next look-up is to find sat.
-fn looks_twice(
-    alloc: Global,
-    (lex, term): (&[u8], &[u8]),
-    call: u64,
-    first: Result<(), PartErr>,
-) -> Result<bool, PartErr> {
-    let mut store = MemStore::new(alloc);
-    store.put_file("set.lex", lex)?;
+// How a look-up of `the` ends where Lex is cut.
+fn cut(alloc: Global) -> Result<bool, PartErr> {
+    let mut store = SureStore::new(alloc);
+    store.put_file("set.lex", CUT)?;
     store.put_file("set.lexat", LEX_AT)?;
-    store.fail_at(call, 0)?;
-    look_twice(alloc, &mut store, term, (first, Some(SAT)))
-}
-
-#[test]
-fn a_failed_call_is_told_and_the_next_goes_on(rt: HostRuntime) -> Result<(), Fail> {
-    for call in 0..5 {
-        assert!(rt; write_fails(rt.alloc(), call)? == (call < 4));
-    }
-    assert!(rt; looks_twice(rt.alloc(), (LEX, b"sat"), 0, Ok(())) == Err(PartErr::Device));
-    assert!(rt; looks_twice(rt.alloc(), (LEX, b"sat"), 1, Err(PartErr::Device))?);
-    assert!(rt; looks_twice(rt.alloc(), (LEX, b"sat"), 2, Err(PartErr::Device))?);
-    assert!(rt; looks_twice(rt.alloc(), (LEX, b"sat"), 3, Ok(()))?);
-    Ok(())
+    tells(alloc, &mut store, 4, &THE_TOLD)
 }
 
 #[test]
 fn a_cut_part_is_damaged(rt: HostRuntime) -> Result<(), Fail> {
-    let told = looks_twice(rt.alloc(), (CUT, b"the"), 1000, Ok(()));
+    let told = cut(rt.alloc());
     assert!(rt; matches!(told, Err(PartErr::Bad(bad)) if bad.part == Part::Lex && bad.at == 0));
     Ok(())
 }

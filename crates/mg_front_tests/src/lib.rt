@@ -1,8 +1,0 @@
-//! Tests of `mg_front`, through its public calls.
-//!
-//! They stand in a crate of their own, as integration tests do: a crate that holds tests is proved once
-//! as a library and once more as the program that runs them.
-#![tactic(auto)]
-
-#[cfg(test)]
-mod tests;
