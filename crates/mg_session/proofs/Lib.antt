@@ -10,6 +10,7 @@ pub mod RankedLaws
 pub mod ReplyLaws
 pub mod TermLaws
 pub mod CallLaws
+pub mod DecidedLaws
 pub mod SetLaws
 pub mod StopLaws
 pub mod SessionLaws

@@ -19,6 +19,7 @@ pub mod WildServes
 pub mod DocumentSets
 pub mod WildMarks
 pub mod Replying
+pub mod Decided
 pub mod Queried
 pub mod Phrased
 pub mod Matched

@@ -1,16 +1,19 @@
 -- What a session over files does, whatever its lines ask: the answering of its lines, and its whole run.
-use Rattle.std.specs.Prelude.{◌≡◌, ℕ, false, List, Some, IsSome, OnOk, IfErr}
+use Rattle.std.specs.Prelude.{◌≡◌, ℕ, ◌≤◌, false, List, [], ◌∷◌, Some, IsSome, IsErrOf, OnOk, IfErr}
 use Rattle.std.specs.declared.option.Option.{Option}
 use Rattle.std.specs.declared.result.Result.{Result}
 use Rattle.mg_dev.specs.Files.{Files, Reads}
 use Rattle.mg_dev.specs.Moments.{SinkAt, SinkRose, SourceAt, SourceRose}
 use Rattle.mg_dev.specs.Runs.{IfStopped, Run, StoreFailed, InputFailed, OutputFailed, SaysNothing, KeepsFiles, Stops, StopsUnless}
-use Rattle.mg_dev.specs.Streams.{appended, GrewByPrefix}
+use Rattle.mg_dev.specs.Each.{ForEach}
+use Rattle.mg_dev.specs.Streams.{AfterPut, appended, GrewByPrefix}
 use Rattle.mg_dev.specs.declared.fault.Fault.{Fault}
 use Rattle.mg_dev.specs.declared.fault.Fault.TheVariants.{StoreFault, ReadFault, WriteFault, NotBuilt, Damaged, Memory, InputTooLong}
 use Rattle.mg_dev.specs.declared.part.Part.{Part}
 use Rattle.mg_dev.specs.declared.part_err.PartErr.{PartErr}
 use Rattle.mg_dev.specs.declared.part_err.PartErr.TheVariants as err
+use Rattle.mg_dev.specs.declared.show_err.ShowErr.{ShowErr}
+use Rattle.mg_dev.specs.declared.show_err.ShowErr.TheVariants.{Write}
 use Rattle.mg_dev.specs.declared.status.Status.TheVariants.{Done}
 use Rattle.mg_defs.specs.CodedText.{TextCode}
 use Rattle.mg_defs.specs.InputLimit.{is_too_much}
@@ -21,7 +24,7 @@ use Rattle.mg_defs.specs.declared.session.Settings.{Settings}
 use Rattle.mg_layout.specs.Stands.{HasNoHead, Stands, StandsBy}
 use Rattle.mg_layout.specs.declared.head.Head.{Head}
 use Rattle.mg_reply.specs.Printed.{IsTooLong}
-use Rattle.mg_reply.specs.Served.{AnsweredSome, LeftEnough, PrintedInTurn}
+use Rattle.mg_reply.specs.Served.{AnsweredSome, LeftEnough, PartStops, PrintedInTurn}
 use Rattle.mg_session.specs.Serves.{IsFirst, ServeStops}
 
 -- ---- the lines
@@ -57,6 +60,21 @@ pub record LinesServed {A : Type 0} (hearing : Hearing) (Answers : A → (Settin
   -- the cause of each refusal
   pub cause : IfErr result (LineStops (SourceRose input input_now) (SinkRose out out_now) (IsTooLong input.left)
       (MayStop old new))
+
+-- A line was answered between two states of an answerer and its device: what each answerer promises of it.
+pub record LineAnswered {A : Type 0} (Fits : A → Type 0) (Answers : A → (Settings → List ℕ → List ℕ) → Type 0)
+    (After : A → A → List Question → Type 0) (MayStop : A → A → PartErr → Type 0) (old new : A) (out out_now : SinkAt)
+    (result : Result (Unit {0}) ShowErr) (now : Settings) (line : List ℕ) : Type 0 where
+  -- the state keeps what it has to
+  pub fits : Fits new
+  -- the reply is printed, or a prefix of it, by each reply function that the state answers by
+  pub content : ForEach (Answers old) (λ reply. AfterPut out.written out_now.written (reply now line) result)
+  -- that line was answered
+  pub after : After old new (record { now = now; line = line } ∷ [])
+  -- the cause of each refusal
+  pub later : out.faults ≤ out_now.faults
+  pub write : IsErrOf result Write → SinkRose out out_now
+  pub part : IfErr result (PartStops (MayStop old new))
 
 -- ---- a run
 

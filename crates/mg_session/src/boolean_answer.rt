@@ -2,8 +2,10 @@
 ghost use Rattle.std.specs.Prelude.{◌≡◌, ℕ, List, length};
 ghost use Rattle.mg_defs.specs.QueryTerms.{query_terms};
 ghost use Rattle.mg_bool.specs.Matches.{MatchesFit};
+ghost use Rattle.mg_bool.specs.Shown.{MatchesStand};
 ghost use Rattle.mg_query.specs.QueryOf.{query_of};
 ghost use Rattle.mg_session.specs.Calls.{StepsText};
+ghost use Rattle.mg_session.specs.Decided.{BooleanRow, PrintsMatches, PrintsQuery};
 ghost use Rattle.mg_session.specs.Parts.{Stepped};
 ghost use Rattle.mg_session.specs.Replying.{AnswersMatches, AnswersQuery};
 ghost use Rattle.mg_session.specs.Texts.{TextsFit};
@@ -29,10 +31,13 @@ fn show_matches<S: Store, D: Documents<S>, O: Sink>(
 ) -> Result<(), ShowErr>
     requires fits { TextsFit (S.files store.old) (D.texts texts.old) }
     requires on { (base : List ℕ) × MatchesFit base (S.files store.old) matches.old }
+    requires stands { MatchesStand (S.files store.old) matches.old }
     requires first { matches.old.decided ≡ 0 }
     requires all { (D.texts texts.old).head.documents ≡ matches.old.all }
     ensures answer { AnswersMatches S.Store O.Sink store.old store.new out.old out.new result
         (D.texts texts.old) matches.old now.now }
+    ensures printed { PrintsMatches (O.written out.old) (O.written out.new) result
+        (S.files store.old) matches.old (BooleanRow now.now) }
     ensures stepped { StepsText S.Store O.Sink store.old store.new out.old out.new result
         (D.texts texts.old) (D.texts texts.new) (Stepped now.now.mode) }
 {
@@ -68,6 +73,10 @@ pub(crate) fn answer_query<S: Store, D: Documents<S>, O: Sink>(
     ensures answer { AnswersQuery S.Store O.Sink store.old store.new out.old out.new result
         lists.now.base.now (D.texts texts.old) lists.now.all (query_of sought.now.query.now)
         sought.now.infos.now now.now }
+    // Whatever the parts have, each document is decided by blocks of the lists that stand.
+    ensures printed { PrintsQuery (O.written out.old) (O.written out.new) result
+        lists.now.base.now (S.files store.old) (query_of sought.now.query.now) sought.now.infos.now lists.now.all
+        (BooleanRow now.now) }
     ensures stepped { StepsText S.Store O.Sink store.old store.new out.old out.new result
         (D.texts texts.old) (D.texts texts.new) (Stepped now.now.mode) }
 {

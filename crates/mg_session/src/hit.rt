@@ -1,6 +1,7 @@
 //! A document of an answer, as it is shown from the coded text.
 ghost use Rattle.mg_defs.specs.declared.session.Mode.TheVariants as mode;
 ghost use Rattle.mg_session.specs.Calls.{IsShowable, ShowsText};
+ghost use Rattle.mg_session.specs.Decided.{PassesSome, hit_of, shown_of};
 ghost use Rattle.mg_session.specs.Showing.{PassesHit, PassesShown, found_pages, shown_pages};
 
 use crate::documents::Documents;
@@ -19,10 +20,12 @@ fn show_text<S: Store, D: Documents<S>, O: Sink>(
     score: Option<u64>,
 ) -> Result<(), ShowErr>
     requires { IsShowable (S.files store.old) (D.texts texts.old) number }
-    ensures { ShowsText S.Store O.Sink store.old store.new out.old out.new result
+    ensures shown { ShowsText S.Store O.Sink store.old store.new out.old out.new result
         (D.texts texts.old) (D.texts texts.new) mode.Text
         (PassesShown O.written out.old out.new pending.old pending.new result mode.Text number score)
         (shown_pages mode.Text number score) }
+    ensures passed { PassesSome (O.written out.old) (O.written out.new) pending.old pending.new
+        result (shown_of mode.Text number score) }
 {
     match pending.header(out, number, score) {
         Ok(()) => {}
@@ -53,10 +56,12 @@ pub(crate) fn show_doc<S: Store, D: Documents<S>, O: Sink>(
     score: Option<u64>,
 ) -> Result<(), ShowErr>
     requires { IsShowable (S.files store.old) (D.texts texts.old) number }
-    ensures { ShowsText S.Store O.Sink store.old store.new out.old out.new result
+    ensures shown { ShowsText S.Store O.Sink store.old store.new out.old out.new result
         (D.texts texts.old) (D.texts texts.new) mode
         (PassesShown O.written out.old out.new pending.old pending.new result mode number score)
         (shown_pages mode number score) }
+    ensures passed { PassesSome (O.written out.old) (O.written out.new) pending.old pending.new
+        result (shown_of mode number score) }
 {
     match mode {
         Mode::Docnums => match pending.row(out, number, score) {
@@ -80,10 +85,12 @@ pub(crate) fn show_hit<S: Store, D: Documents<S>, O: Sink>(
     number: u32,
 ) -> Result<(), ShowErr>
     requires { IsShowable (S.files store.old) (D.texts texts.old) number }
-    ensures { ShowsText S.Store O.Sink store.old store.new out.old out.new result
+    ensures shown { ShowsText S.Store O.Sink store.old store.new out.old out.new result
         (D.texts texts.old) (D.texts texts.new) now.now.mode
         (PassesHit O.written out.old out.new pending.old pending.new result now.now total number)
         (found_pages now.now total number) }
+    ensures passed { PassesSome (O.written out.old) (O.written out.new) pending.old pending.new
+        result (hit_of now.now total number) }
 {
     if !shows(now.most, total) {
         return Ok(());

@@ -1,11 +1,13 @@
 //! The documents that have a phrase, sought among those that have all its words.
 ghost use Rattle.std.specs.Prelude.{◌≡◌, ◌≤◌, ◌<◌, ℕ, List, OnOk, Some, length};
 ghost use Rattle.mg_bool.specs.Matches.{MatchesFit};
+ghost use Rattle.mg_bool.specs.Shown.{MatchesStand};
 ghost use Rattle.mg_defs.specs.QueryTerms.{query_terms};
 ghost use Rattle.mg_defs.specs.declared.session.Mode.TheVariants as mode;
 ghost use Rattle.mg_query.specs.AllOf.{IsAllOf};
 ghost use Rattle.mg_query.specs.QueryOf.{query_of};
 ghost use Rattle.mg_session.specs.Calls.{IsShowable, StepsText};
+ghost use Rattle.mg_session.specs.Decided.{PassesRow, PhraseRow, PrintsMatches, PrintsQuery};
 ghost use Rattle.mg_session.specs.Parts.{ShownIn, Stepped};
 ghost use Rattle.mg_session.specs.Replying.{AnswersCandidates, AnswersPhrase, SearchesDocument};
 ghost use Rattle.mg_session.specs.Texts.{TextsFit};
@@ -34,6 +36,8 @@ fn search_document<S: Store, T: Searched<S>, O: Sink>(
     ensures most { OnOk result (rows.new.total ≤ number) }
     ensures searched { SearchesDocument S.Store O.Sink store.old store.new out.old out.new result
         (T.texts texts.old) rows.old rows.new phrase.now number }
+    ensures passed { PassesRow (O.written out.old) (O.written out.new) rows.old rows.new result
+        number }
     ensures stepped { StepsText S.Store O.Sink store.old store.new out.old out.new result
         (T.texts texts.old) (T.texts texts.new) (ShownIn mode.Text) }
 {
@@ -60,10 +64,13 @@ fn search_matches<S: Store, T: Searched<S>, O: Sink>(
     requires joined { IsAllOf phrase.now (Some matches.old.asks) }
     requires fits { TextsFit (S.files store.old) (T.texts texts.old) }
     requires on { (base : List ℕ) × MatchesFit base (S.files store.old) matches.old }
+    requires stands { MatchesStand (S.files store.old) matches.old }
     requires first { matches.old.decided ≡ 0 }
     requires all { (T.texts texts.old).head.documents ≡ matches.old.all }
     ensures answer { AnswersCandidates S.Store O.Sink store.old store.new out.old out.new result
         (T.texts texts.old) matches.old phrase.now }
+    ensures printed { PrintsMatches (O.written out.old) (O.written out.new) result
+        (S.files store.old) matches.old PhraseRow }
     ensures stepped { StepsText S.Store O.Sink store.old store.new out.old out.new result
         (T.texts texts.old) (T.texts texts.new) (Stepped mode.Text) }
 {
@@ -100,6 +107,10 @@ pub(crate) fn answer_phrase<S: Store, T: Searched<S>, O: Sink>(
     ensures answer { AnswersPhrase S.Store O.Sink store.old store.new out.old out.new result
         lists.now.base.now (T.texts texts.old) lists.now.all
         (query_of sought.now.query.now) sought.now.infos.now phrase.now }
+    // Whatever the parts have, each document is decided by blocks of the lists that stand.
+    ensures printed { PrintsQuery (O.written out.old) (O.written out.new) result
+        lists.now.base.now (S.files store.old) (query_of sought.now.query.now) sought.now.infos.now lists.now.all
+        PhraseRow }
     ensures stepped { StepsText S.Store O.Sink store.old store.new out.old out.new result
         (T.texts texts.old) (T.texts texts.new) (Stepped mode.Text) }
 {

@@ -2,14 +2,16 @@
 ghost use Rattle.std.specs.Prelude.{◌≡◌, ◌≤◌, ◌^◌, Some, length, IfOk};
 ghost use Rattle.mg_defs.specs.Texts.{count as count_text};
 ghost use Rattle.mg_defs.specs.declared.session.Mode.TheVariants as mode;
-ghost use Rattle.mg_dev.specs.Moments.{store_at};
+ghost use Rattle.mg_dev.specs.Moments.{sink_at, store_at};
 ghost use Rattle.mg_dev.specs.Streams.{AfterPut};
 ghost use Rattle.mg_query.specs.AllOf.{IsAllOf};
 ghost use Rattle.mg_session.specs.Calls.{StepsOpened, WritesAlone};
+ghost use Rattle.mg_session.specs.Decided.{PrintsPhrase, PrintsWords};
 ghost use Rattle.mg_session.specs.Opening.{KeptByQueries, SetOpened};
 ghost use Rattle.mg_session.specs.PhraseSearching.{PhrasesAsked, PhrasesBy};
 ghost use Rattle.mg_session.specs.PhraseSearchLaws.{phrases_later, phrases_more, phrases_none, phrases_stop};
 ghost use Rattle.mg_session.specs.Replying.{AnswersWords, RepliesToPhrase};
+ghost use Rattle.mg_session.specs.Served.{LineAnswered};
 ghost use Rattle.mg_session.specs.Searching.{Fits, MayStop, OpenedOver, SearchFits, Searching, opened_at, state_of};
 
 use crate::held_text::HeldText;
@@ -98,6 +100,8 @@ impl<'a, S: Store> PhraseSearcher<'a, S> {
         requires fits { SearchFits (S.files store.old) self.old }
         ensures replied { RepliesToPhrase S.Store O.Sink store.old store.new out.old out.new result
             self.old line.now }
+        ensures printed { PrintsPhrase (O.written out.old) (O.written out.new) result
+            (S.files store.old) self.old line.now }
         ensures stepped { StepsOpened S.Store O.Sink store.old store.new out.old out.new result
             self.old self.new mode.Text }
     {
@@ -118,6 +122,8 @@ impl<'a, S: Store> PhraseSearcher<'a, S> {
         requires fits { SearchFits (S.files store.old) self.old }
         ensures answer { AnswersWords S.Store O.Sink store.old store.new out.old out.new result
             self.old phrase.now }
+        ensures printed { PrintsWords (O.written out.old) (O.written out.new) result
+            (S.files store.old) self.old phrase.now }
         ensures stepped { StepsOpened S.Store O.Sink store.old store.new out.old out.new result
             self.old self.new mode.Text }
     {
@@ -140,6 +146,8 @@ impl<'a, S: Store> PhraseSearcher<'a, S> {
         requires fits { SearchFits (S.files store.old) self.old }
         ensures answer { AnswersWords S.Store O.Sink store.old store.new out.old out.new result
             self.old phrase.now }
+        ensures printed { PrintsWords (O.written out.old) (O.written out.new) result
+            (S.files store.old) self.old phrase.now }
         ensures stepped { StepsOpened S.Store O.Sink store.old store.new out.old out.new result
             self.old self.new mode.Text }
     {
@@ -163,6 +171,8 @@ impl<'a, S: Store> PhraseSearcher<'a, S> {
         requires fits { SearchFits (S.files store.old) self.old }
         ensures answer { AnswersWords S.Store O.Sink store.old store.new out.old out.new result
             self.old phrase.now }
+        ensures printed { PrintsWords (O.written out.old) (O.written out.new) result
+            (S.files store.old) self.old phrase.now }
         ensures stepped { StepsOpened S.Store O.Sink store.old store.new out.old out.new result
             self.old self.new mode.Text }
     {
@@ -210,7 +220,19 @@ impl<'a, S: Store> Answerer for PhraseSearcher<'a, S> {
         line: &[u8],
         _now: &Settings,
         out: &mut O,
-    ) -> Result<(), ShowErr> {
+    ) -> Result<(), ShowErr>
+        requires short { length line.now ≤ 1024 }
+        requires fits { SearchFits (S.files dev.old) self.old }
+        // What each answerer promises of a line.
+        ensures answered { LineAnswered Fits PhrasesBy PhrasesAsked MayStop
+            (state_of (S.files dev.old) (S.reads dev.old) (S.faults dev.old) self.old)
+            (state_of (S.files dev.new) (S.reads dev.new) (S.faults dev.new) self.new)
+            (sink_at O.written O.faults O.lacks out.old)
+            (sink_at O.written O.faults O.lacks out.new) result _now.now line.now }
+        // Whatever the lists have, what is printed is decided by blocks of them that stand.
+        ensures printed { PrintsPhrase (O.written out.old) (O.written out.new) result
+            (S.files dev.old) self.old line.now }
+    {
         self.answer_question(dev, line, out)
     }
 

@@ -1,8 +1,10 @@
 //! The answer to ranked terms.
 ghost use Rattle.std.specs.Prelude.{◌≡◌, ◌≤◌, All, length};
+ghost use Rattle.mg_defs.specs.Texts.{count as count_text};
 ghost use Rattle.mg_rank.specs.Ranked.{IsNumbered};
 ghost use Rattle.mg_session.specs.Answering.{rows_asked};
 ghost use Rattle.mg_session.specs.Calls.{ShowsText, StepsText};
+ghost use Rattle.mg_session.specs.Decided.{PassesSome, PrintsTerms, PutsSome};
 ghost use Rattle.mg_session.specs.Parts.{Stepped};
 ghost use Rattle.mg_session.specs.Replying.{AnswersTerms};
 ghost use Rattle.mg_session.specs.Showing.{PassesRows, PutsRanking, ranked_pages};
@@ -30,10 +32,12 @@ fn show_rows<S: Store, D: Documents<S>, O: Sink>(
 ) -> Result<(), ShowErr>
     requires fits { TextsFit (S.files store.old) (D.texts texts.old) }
     requires range { All (IsNumbered (D.texts texts.old).head.documents) rows.now }
-    ensures { ShowsText S.Store O.Sink store.old store.new out.old out.new result
+    ensures shown { ShowsText S.Store O.Sink store.old store.new out.old out.new result
         (D.texts texts.old) (D.texts texts.new) mode
         (PassesRows O.written out.old out.new pending.old pending.new result mode rows.now)
         (ranked_pages mode rows.now) }
+    ensures passed { PassesSome (O.written out.old) (O.written out.new) pending.old pending.new
+        result (λ rows. rows) }
 {
     for place in 0..rows.len() {
         let row = rows.row(place);
@@ -63,10 +67,12 @@ fn show_ranked<S: Store, D: Documents<S>, O: Sink>(
 ) -> Result<(), ShowErr>
     requires fits { TextsFit (S.files store.old) (D.texts texts.old) }
     requires range { All (IsNumbered (D.texts texts.old).head.documents) ranked.now.rows }
-    ensures { ShowsText S.Store O.Sink store.old store.new out.old out.new result
+    ensures shown { ShowsText S.Store O.Sink store.old store.new out.old out.new result
         (D.texts texts.old) (D.texts texts.new) mode
         (PutsRanking O.written out.old out.new result mode ranked.now)
         (ranked_pages mode ranked.now.rows) }
+    ensures counted { PutsSome (O.written out.old) (O.written out.new) result
+        (count_text ranked.now.total) }
 {
     let mut pending = Pending::new();
     match show_rows(texts, store, &mut pending, out, mode, ranked.rows()) {
@@ -100,6 +106,9 @@ pub(crate) fn answer_terms<S: Store, D: Documents<S>, O: Sink>(
     requires all { (D.texts texts.old).head.documents ≡ lists.now.all }
     ensures answer { AnswersTerms S.Store O.Sink store.old store.new out.old out.new result
         lists.now.base.now (D.texts texts.old) lists.now.all infos.now now.now }
+    // Whatever the parts have, whole lists are counted.
+    ensures printed { PrintsTerms (O.written out.old) (O.written out.new) result infos.now
+        lists.now.all }
     ensures stepped { StepsText S.Store O.Sink store.old store.new out.old out.new result
         (D.texts texts.old) (D.texts texts.new) (Stepped now.now.mode) }
 {

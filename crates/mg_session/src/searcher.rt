@@ -5,11 +5,13 @@ ghost use Rattle.std.specs.Str.{bytes_eq};
 ghost use Rattle.mg_defs.specs.PageBounds.{boolean_bound, ranked_bound};
 ghost use Rattle.mg_defs.specs.QueryTerms.{query_terms};
 ghost use Rattle.mg_defs.specs.ShownAnswers.{ranking, satisfying};
-ghost use Rattle.mg_dev.specs.Moments.{store_at};
+ghost use Rattle.mg_dev.specs.Moments.{sink_at, store_at};
 ghost use Rattle.mg_query.specs.QueryOf.{query_of};
 ghost use Rattle.mg_session.specs.Calls.{StepsOpened};
+ghost use Rattle.mg_session.specs.Decided.{BooleanRow, PrintsLine, PrintsTold, RanksTold};
 ghost use Rattle.mg_session.specs.Opening.{KeptByQueries, SetOpened};
 ghost use Rattle.mg_session.specs.Replying.{AnswersOpened, RepliesTo};
+ghost use Rattle.mg_session.specs.Served.{LineAnswered};
 ghost use Rattle.mg_session.specs.Searching.{AnswersBy, Asked, Fits, MayStop, OpenedOver, SearchFits, Searching, opened_at, state_of};
 ghost use Rattle.mg_session.specs.SearchLaws.{answers_later, asked_more, asked_none, stops_later};
 
@@ -95,6 +97,8 @@ impl<'a, S: Store> Searcher<'a, S> {
         requires fits { SearchFits (S.files store.old) self.old }
         ensures replied { RepliesTo S.Store O.Sink store.old store.new out.old out.new result
             self.old false now.now line.now }
+        ensures printed { PrintsLine (O.written out.old) (O.written out.new) result
+            (S.files store.old) self.old false now.now line.now }
         ensures stepped { StepsOpened S.Store O.Sink store.old store.new out.old out.new result
             self.old self.new now.now.mode }
     {
@@ -117,6 +121,8 @@ impl<'a, S: Store> Searcher<'a, S> {
             self.old now.now
             (λ collection. satisfying collection (query_of query.now))
             (λ collection. boolean_bound collection (query_of query.now)) }
+        ensures printed { PrintsTold (O.written out.old) (O.written out.new) result
+            (S.files store.old) self.old (query_of query.now) (BooleanRow now.now) }
         ensures stepped { StepsOpened S.Store O.Sink store.old store.new out.old out.new result
             self.old self.new now.now.mode }
     {
@@ -141,6 +147,8 @@ impl<'a, S: Store> Searcher<'a, S> {
             self.old now.now
             (λ collection. satisfying collection (query_of query.now))
             (λ collection. boolean_bound collection (query_of query.now)) }
+        ensures printed { PrintsTold (O.written out.old) (O.written out.new) result
+            (S.files store.old) self.old (query_of query.now) (BooleanRow now.now) }
         ensures stepped { StepsOpened S.Store O.Sink store.old store.new out.old out.new result
             self.old self.new now.now.mode }
     {
@@ -167,6 +175,8 @@ impl<'a, S: Store> Searcher<'a, S> {
         requires fits { SearchFits (S.files store.old) self.old }
         ensures replied { RepliesTo S.Store O.Sink store.old store.new out.old out.new result
             self.old true now.now line.now }
+        ensures printed { PrintsLine (O.written out.old) (O.written out.new) result
+            (S.files store.old) self.old true now.now line.now }
         ensures stepped { StepsOpened S.Store O.Sink store.old store.new out.old out.new result
             self.old self.new now.now.mode }
     {
@@ -191,6 +201,8 @@ impl<'a, S: Store> Searcher<'a, S> {
             self.old now.now
             (λ collection. ranking collection terms.now)
             (λ collection. ranked_bound collection terms.now) }
+        ensures printed { RanksTold (O.written out.old) (O.written out.new) result
+            (S.files store.old) self.old terms.now }
         ensures stepped { StepsOpened S.Store O.Sink store.old store.new out.old out.new result
             self.old self.new now.now.mode }
     {
@@ -213,6 +225,8 @@ impl<'a, S: Store> Searcher<'a, S> {
         requires fits { SearchFits (S.files store.old) self.old }
         ensures replied { RepliesTo S.Store O.Sink store.old store.new out.old out.new result
             self.old now.now.ranked now.now line.now }
+        ensures printed { PrintsLine (O.written out.old) (O.written out.new) result
+            (S.files store.old) self.old now.now.ranked now.now line.now }
         ensures stepped { StepsOpened S.Store O.Sink store.old store.new out.old out.new result
             self.old self.new now.now.mode }
     {
@@ -245,7 +259,19 @@ impl<'a, S: Store> Answerer for Searcher<'a, S> {
         line: &[u8],
         now: &Settings,
         out: &mut O,
-    ) -> Result<(), ShowErr> {
+    ) -> Result<(), ShowErr>
+        requires short { length line.now ≤ 1024 }
+        requires fits { SearchFits (S.files dev.old) self.old }
+        // What each answerer promises of a line.
+        ensures answered { LineAnswered Fits AnswersBy Asked MayStop
+            (state_of (S.files dev.old) (S.reads dev.old) (S.faults dev.old) self.old)
+            (state_of (S.files dev.new) (S.reads dev.new) (S.faults dev.new) self.new)
+            (sink_at O.written O.faults O.lacks out.old)
+            (sink_at O.written O.faults O.lacks out.new) result now.now line.now }
+        // Whatever the lists have, what is printed is decided by blocks of them that stand.
+        ensures printed { PrintsLine (O.written out.old) (O.written out.new) result
+            (S.files dev.old) self.old now.now.ranked now.now line.now }
+    {
         self.answer_question(dev, line, now, out)
     }
 

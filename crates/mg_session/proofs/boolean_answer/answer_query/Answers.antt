@@ -4,7 +4,9 @@ use Rattle.mg_defs.specs.ShownAnswers.{satisfying}
 use Rattle.mg_query.specs.QueryOf.{query_of}
 use Rattle.mg_query.specs.declared.query.Query.{Query}
 use Rattle.mg_session.specs.Answering.{Answered}
+use Rattle.mg_session.specs.Decided.{BooleanRow}
 use Rattle.mg_session.proofs.CallLaws.{text_lacked}
+use Rattle.mg_session.proofs.DecidedLaws.{query_printed}
 use Rattle.mg_session.proofs.ReplyLaws.{none_answered}
 use Rattle.mg_session.proofs.boolean_answer.answer_query.Goals as goal
 
@@ -19,6 +21,16 @@ returns-clause-answer g c = λ code collection stands told.
     (c.show_matches.ensures.answer c.args.lists.now.base.now code collection
     (record { weights = stands.weights; texts_are = stands.texts_are; all_is = c.in-Ok.ensures.all ∙ stands.all_is })
     (c.in-Ok.ensures.over collection told stands.all_is))
+
+pub show_matches-requires-clause-stands : goal.show_matches-requires-clause-stands
+show_matches-requires-clause-stands g c = c.in-Ok.ensures.stands _
+
+pub returns-in-Err-clause-printed : goal.returns-in-Err-clause-printed
+returns-in-Err-clause-printed g c = tt
+
+pub returns-clause-printed : goal.returns-clause-printed
+returns-clause-printed g c =
+    query_printed (g.S.Store.files c.args.store.now) (BooleanRow c.args.now.now) _ _ c.in-Ok.matches c.show_matches.result c.in-Ok.ensures.asks c.in-Ok.ensures.all c.in-Ok.ensures.lists c.in-Ok.ensures.needs c.show_matches.ensures.printed
 
 pub show_matches-requires-clause-on : goal.show_matches-requires-clause-on
 show_matches-requires-clause-on g c = (c.args.lists.now.base.now, c.in-Ok.ensures.fits _)

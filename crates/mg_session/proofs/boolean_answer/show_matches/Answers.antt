@@ -12,6 +12,7 @@ use Rattle.mg_query.specs.declared.query.Query.{Query}
 use Rattle.mg_session.specs.SearchLaws.{texts_later, weights_later}
 use Rattle.mg_session.specs.Texts.{TextsFit}
 use Rattle.mg_session.proofs.CallLaws.{shown_text, text_refused, text_shown, text_start, text_written}
+use Rattle.mg_session.proofs.DecidedLaws.{printing_end, printing_hit, printing_start}
 use Rattle.mg_session.proofs.StepLaws.{lists_step, lists_text, shown_post}
 use Rattle.mg_session.proofs.ReplyLaws.{list_sound}
 use Rattle.mg_session.proofs.WalkLaws.{fit_later, walked_cut, walked_end, walked_hit, walked_start, walked_stop}
@@ -24,6 +25,7 @@ matches-init g c = record {
   kept = record { asks = refl; all = refl };
   few = omega arith;
   within = omega (arith, c.requires.first);
+  printing = printing_start c.requires.stands c.requires.first c.new-pending.ensures refl;
   walked = λ base code collection stands over. walked_start _ _ _ _ _ _ _ _ _ c.new-pending.ensures refl c.requires.first over;
 }
 
@@ -52,10 +54,10 @@ returns-in-Err-show_hit-clause-answer g c = λ base code collection stands over.
     (subst (λ (a : Query). PagesWithin (boolean_bound collection (query_of a)) (pages_read c.matches.matches.places) (pages_read c.next.new.self.places)
     (g.S.Store.reads c.matches.store) (g.S.Store.reads c.next.new.store)) inv.kept.asks pages)
     (lists_text _ _ c.in-Ok-Some.ensures.reads)
-    (c.in-Err-show_hit.ensures.content code collection text)
-    (shown_post _ _ _ _ _ _ _ c.in-Err-show_hit.ensures.looked)
-    (c.in-Err-show_hit.ensures.pages code collection text)
-    (c.in-Err-show_hit.ensures.sound code collection text)
+    (c.in-Err-show_hit.ensures.shown.content code collection text)
+    (shown_post _ _ _ _ _ _ _ c.in-Err-show_hit.ensures.shown.looked)
+    (c.in-Err-show_hit.ensures.shown.pages code collection text)
+    (c.in-Err-show_hit.ensures.shown.sound code collection text)
 
 pub matches-preserved : goal.matches-preserved
 matches-preserved g c =
@@ -64,11 +66,13 @@ matches-preserved g c =
     × (c.next.new.self.decided ≡ doc))) c.in-Ok-Some.field-0-is c.in-Ok-Some.ensures.range in
     let kept = c.in-Ok-Some.ensures.same in
     record {
-      so_far = text_shown inv.so_far (lists_step _ _ _ _ _ _ _ c.in-Ok-Some.ensures.files c.in-Ok-Some.ensures.cause.later c.in-Ok-Some.ensures.reads) (shown_text c.in-Ok.ensures);
-      on = (inv.on.0, fit_later _ _ _ _ c.in-Ok.ensures.looked.files (c.in-Ok-Some.ensures.fits inv.on.0 inv.on.1));
+      so_far = text_shown inv.so_far (lists_step _ _ _ _ _ _ _ c.in-Ok-Some.ensures.files c.in-Ok-Some.ensures.cause.later c.in-Ok-Some.ensures.reads) (shown_text c.in-Ok.ensures.shown);
+      on = (inv.on.0, fit_later _ _ _ _ c.in-Ok.ensures.shown.looked.files (c.in-Ok-Some.ensures.fits inv.on.0 inv.on.1));
       kept = record { asks = kept.asks ∙ inv.kept.asks; all = kept.all ∙ inv.kept.all };
       few = omega (arith, inv.few, range);
       within = omega (arith, range, kept.all);
+      printing = printing_hit c.next.new.self inv.printing inv.kept inv.so_far.step.files _ c.in-Ok-Some.ensures.shows c.in-Ok-Some.number c.in-Ok-Some.field-0-is
+          c.in-Ok-Some.ensures.lists range.0 range.1 range.2 c.in-Ok.ensures.shown.looked.files (refl, (c.in-Ok.ensures.passed.0, refl)) c.in-Ok.ensures.passed.1;
       walked = λ base code collection stands over.
           let walked = inv.walked base code collection stands over in
           let lists = (weights_later base base _ _ collection refl inv.so_far.step.files stands.weights).lists in
@@ -79,9 +83,9 @@ matches-preserved g c =
           (subst (GoesOn (left_of collection c.matches.matches) (left_of collection c.next.new.self)) c.in-Ok-Some.field-0-is answer.0)
           answer.1 pages
           (lists_text _ _ c.in-Ok-Some.ensures.reads)
-          (c.in-Ok.ensures.content code collection text)
-          (shown_post _ _ _ _ _ _ _ c.in-Ok.ensures.looked)
-          (c.in-Ok.ensures.pages code collection text);
+          (c.in-Ok.ensures.shown.content code collection text)
+          (shown_post _ _ _ _ _ _ _ c.in-Ok.ensures.shown.looked)
+          (c.in-Ok.ensures.shown.pages code collection text);
     }
 
 pub returns-in-Ok-None-clause-answer : goal.returns-in-Ok-None-clause-answer
@@ -99,6 +103,19 @@ returns-in-Ok-None-clause-answer g c = λ base code collection stands over.
     c.put_total.ensures.content
     c.put_total.ensures.alone.sound
 
+-- ---- what is printed, whatever the parts have
+
+pub returns-in-Err-clause-printed : goal.returns-in-Err-clause-printed
+returns-in-Err-clause-printed g c = tt
+
+pub returns-in-Err-show_hit-clause-printed : goal.returns-in-Err-show_hit-clause-printed
+returns-in-Err-show_hit-clause-printed g c = tt
+
+pub returns-in-Ok-None-clause-printed : goal.returns-in-Ok-None-clause-printed
+returns-in-Ok-None-clause-printed g c =
+    let inv = c.matches.invariant in
+    printing_end c.next.new.self inv.printing inv.kept inv.so_far.step.files _ c.in-Ok-None.ensures.shows _ c.put_total.result c.in-Ok-None.field-0-is inv.within c.put_total.ensures.content
+
 -- ---- what is left of the parts, and why it stops
 
 pub returns-in-Err-clause-stepped : goal.returns-in-Err-clause-stepped
@@ -109,7 +126,7 @@ returns-in-Err-clause-stepped g c =
 pub returns-in-Err-show_hit-clause-stepped : goal.returns-in-Err-show_hit-clause-stepped
 returns-in-Err-show_hit-clause-stepped g c =
     let e = c.in-Ok-Some.ensures in
-    text_shown c.matches.invariant.so_far (lists_step _ _ _ _ _ _ _ e.files e.cause.later e.reads) (shown_text c.in-Err-show_hit.ensures)
+    text_shown c.matches.invariant.so_far (lists_step _ _ _ _ _ _ _ e.files e.cause.later e.reads) (shown_text c.in-Err-show_hit.ensures.shown)
 
 pub returns-in-Ok-None-clause-stepped : goal.returns-in-Ok-None-clause-stepped
 returns-in-Ok-None-clause-stepped g c =

@@ -1,7 +1,9 @@
 use Rattle.std.proofs.Common.{◌∙◌, Some, subst, sym}
 use Rattle.mg_query.specs.AllOf.{IsAllOf}
 use Rattle.mg_query.specs.declared.query.Query.{Query}
+use Rattle.mg_session.specs.Decided.{PhraseRow}
 use Rattle.mg_session.proofs.CallLaws.{text_lacked}
+use Rattle.mg_session.proofs.DecidedLaws.{query_printed}
 use Rattle.mg_session.proofs.PhraseReplyLaws.{none_answered}
 use Rattle.mg_session.proofs.phrase_answer.answer_phrase.Goals as goal
 
@@ -16,6 +18,16 @@ returns-clause-answer g c = λ code collection stands told.
     c.search_matches.ensures.answer c.args.lists.now.base.now code collection
     (record { weights = stands.weights; texts_are = stands.texts_are; all_is = c.in-Ok.ensures.all ∙ stands.all_is })
     (c.in-Ok.ensures.over collection told stands.all_is)
+
+pub search_matches-requires-clause-stands : goal.search_matches-requires-clause-stands
+search_matches-requires-clause-stands g c = c.in-Ok.ensures.stands _
+
+pub returns-in-Err-clause-printed : goal.returns-in-Err-clause-printed
+returns-in-Err-clause-printed g c = tt
+
+pub returns-clause-printed : goal.returns-clause-printed
+returns-clause-printed g c =
+    query_printed (g.S.Store.files c.args.store.now) PhraseRow _ _ c.in-Ok.matches c.search_matches.result c.in-Ok.ensures.asks c.in-Ok.ensures.all c.in-Ok.ensures.lists c.in-Ok.ensures.needs c.search_matches.ensures.printed
 
 pub search_matches-requires-clause-on : goal.search_matches-requires-clause-on
 search_matches-requires-clause-on g c = (c.args.lists.now.base.now, c.in-Ok.ensures.fits _)

@@ -20,6 +20,15 @@ returns-in-Err-pass-clause-searched g c = λ code collection is.
     one_searched c.in-Ok.places (c.in-Ok.ensures.content code collection is) c.in-Err-pass.ensures.content tt
     (put_sound c.in-Err-pass.refusal _ c.from-in-Err-pass.ensures) (c.in-Ok.ensures.pages code collection is)
 
+pub returns-in-Err-clause-passed : goal.returns-in-Err-clause-passed
+returns-in-Err-clause-passed g c = tt
+
+pub returns-in-Ok-pass-clause-passed : goal.returns-in-Ok-pass-clause-passed
+returns-in-Ok-pass-clause-passed g c = (c.in-Ok.places, c.in-Ok-pass.ensures.content, c.in-Ok-pass.ensures.counted)
+
+pub returns-in-Err-pass-clause-passed : goal.returns-in-Err-pass-clause-passed
+returns-in-Err-pass-clause-passed g c = tt
+
 pub returns-in-Err-clause-stepped : goal.returns-in-Err-clause-stepped
 returns-in-Err-clause-stepped g c =
     let e = c.in-Err.ensures in

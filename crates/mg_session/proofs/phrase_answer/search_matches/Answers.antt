@@ -14,6 +14,7 @@ use Rattle.mg_session.specs.Texts.{TextsFit}
 use Rattle.mg_session.proofs.CallLaws.{text_refused, text_shown, text_start, text_written}
 use Rattle.mg_session.proofs.PhraseWalkLaws.{joined, walked_cut, walked_end, walked_searched, walked_start, walked_stop}
 use Rattle.mg_session.proofs.ReplyLaws.{list_sound}
+use Rattle.mg_session.proofs.DecidedLaws.{printing_end, printing_hit, printing_start}
 use Rattle.mg_session.proofs.StepLaws.{lists_step, lists_text, shown_post}
 use Rattle.mg_session.proofs.WalkLaws.{fit_later}
 use Rattle.mg_session.proofs.phrase_answer.search_matches.Goals as goal
@@ -25,6 +26,7 @@ matches-init g c = record {
   kept = record { asks = refl; all = refl };
   few = omega (arith, c.new-rows.ensures.total);
   within = omega (arith, c.requires.first);
+  printing = printing_start c.requires.stands c.requires.first c.new-rows.ensures.waiting c.new-rows.ensures.total;
   walked = λ base code collection stands over. walked_start c.args.phrase.now c.new-rows.ensures.waiting c.new-rows.ensures.total c.requires.first over;
 }
 
@@ -69,6 +71,9 @@ matches-preserved g c =
       kept = record { asks = kept.asks ∙ inv.kept.asks; all = kept.all ∙ inv.kept.all };
       few = omega (arith, range, c.in-Ok.ensures.most);
       within = omega (arith, range, kept.all);
+      printing = printing_hit c.next.new.self inv.printing inv.kept inv.so_far.step.files _ c.in-Ok-Some.ensures.shows c.in-Ok-Some.number c.in-Ok-Some.field-0-is
+          c.in-Ok-Some.ensures.lists range.0 range.1 range.2 c.in-Ok.ensures.stepped.step.files (c.in-Ok.ensures.passed.0, c.in-Ok.ensures.passed.2, refl)
+          c.in-Ok.ensures.passed.1;
       walked = λ base code collection stands over.
           let walked = inv.walked base code collection stands over in
           let lists = (weights_later base base _ _ collection refl inv.so_far.step.files stands.weights).lists in
@@ -97,6 +102,19 @@ returns-in-Ok-None-clause-answer g c = λ base code collection stands over.
     (lists_text _ _ c.in-Ok-None.ensures.reads)
     c.put_total.ensures.content
     c.put_total.ensures.alone.sound
+
+-- ---- what is printed, whatever the parts have
+
+pub returns-in-Err-clause-printed : goal.returns-in-Err-clause-printed
+returns-in-Err-clause-printed g c = tt
+
+pub returns-in-Err-search_document-clause-printed : goal.returns-in-Err-search_document-clause-printed
+returns-in-Err-search_document-clause-printed g c = tt
+
+pub returns-in-Ok-None-clause-printed : goal.returns-in-Ok-None-clause-printed
+returns-in-Ok-None-clause-printed g c =
+    let inv = c.matches.invariant in
+    printing_end c.next.new.self inv.printing inv.kept inv.so_far.step.files _ c.in-Ok-None.ensures.shows _ c.put_total.result c.in-Ok-None.field-0-is inv.within c.put_total.ensures.content
 
 -- ---- what is left of the parts, and why it stops
 

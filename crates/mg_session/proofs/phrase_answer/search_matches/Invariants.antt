@@ -5,6 +5,7 @@ use Rattle.mg_bool.specs.Matches.{MatchesFit, MatchesOver, SameMatches}
 use Rattle.mg_query.specs.QueryOf.{query_of}
 use Rattle.mg_session.specs.Answering.{AnswersFor}
 use Rattle.mg_session.specs.Calls.{TextStep, at_sink, at_store}
+use Rattle.mg_session.specs.Decided.{PhraseRow, QueryPrinting}
 use Rattle.mg_session.specs.Parts.{Stepped}
 use Rattle.mg_session.specs.PhraseAnswers.{PhraseWalked}
 use Rattle.mg_session.proofs.phrase_answer.search_matches.Given as goal
@@ -17,6 +18,8 @@ invariant-matches g l = record {
   kept : SameMatches l.fn.matches l.matches;
   few : l.rows.total ≤ l.matches.decided;
   within : l.matches.decided ≤ l.matches.all;
+  printing : QueryPrinting (g.S.Store.files l.fn.store) (g.S.Store.files l.store) l.fn.matches l.matches PhraseRow (g.O.Sink.written l.fn.out)
+      (g.O.Sink.written l.out) l.rows.pending l.rows.total;
   walked : (base : List ℕ) (code : TextCode) (collection : List ℕ) →
       AnswersFor base (g.S.Store.files l.fn.store) (g.T.Searched.texts l.fn.texts) l.fn.matches.all code collection →
       MatchesOver base collection l.fn.matches →

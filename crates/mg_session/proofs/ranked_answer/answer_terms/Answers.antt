@@ -4,6 +4,7 @@ use Rattle.mg_rank.specs.Ranked.{AreTold}
 use Rattle.mg_session.specs.Answering.{known_terms}
 use Rattle.mg_session.specs.SearchLaws.{same_texts, texts_later}
 use Rattle.mg_session.proofs.CallLaws.{shown_text, text_lacked, text_refused, text_shown, text_start}
+use Rattle.mg_session.proofs.DecidedLaws.{terms_printed}
 use Rattle.mg_session.proofs.KnownLaws.{known_bound, known_hits, known_told}
 use Rattle.mg_session.proofs.RankedLaws.{are_rows, rows_end, terms_stop}
 use Rattle.mg_session.proofs.ReplyLaws.{none_answered, top_sound}
@@ -34,8 +35,8 @@ returns-clause-answer g c = λ code collection stands terms told apart.
     (same_texts (g.D.Documents.texts c.args.texts.now)) c.in-Ok-rank.ensures.files stands.texts_are in
     rows_end _ _ _ terms _ _ _ _ _ _ _ _ (g.S.Store.reads c.rank.new.store) _ _ are (known_bound collection terms c.args.infos.now told.size)
     (c.in-Ok-rank.ensures.pages collection kept stands.weights.lists is_told stands.all_is) (ranked_text _ _ c.in-Ok-rank.ensures.reads)
-    (c.show_ranked.ensures.content code collection text) (shown_post _ _ _ _ _ _ _ c.show_ranked.ensures.looked)
-    (c.show_ranked.ensures.pages code collection text) (c.show_ranked.ensures.sound code collection text)
+    (c.show_ranked.ensures.shown.content code collection text) (shown_post _ _ _ _ _ _ _ c.show_ranked.ensures.shown.looked)
+    (c.show_ranked.ensures.shown.pages code collection text) (c.show_ranked.ensures.shown.sound code collection text)
 
 pub returns-in-Err-clause-stepped : goal.returns-in-Err-clause-stepped
 returns-in-Err-clause-stepped g c = text_lacked c.requires.fits
@@ -48,4 +49,15 @@ returns-in-Err-rank-clause-stepped g c =
 pub returns-clause-stepped : goal.returns-clause-stepped
 returns-clause-stepped g c =
     let e = c.in-Ok-rank.ensures in
-    text_shown (text_start c.requires.fits) (ranked_step _ _ _ _ _ _ _ e.files e.cause.later e.reads) (shown_text c.show_ranked.ensures)
+    text_shown (text_start c.requires.fits) (ranked_step _ _ _ _ _ _ _ e.files e.cause.later e.reads) (shown_text c.show_ranked.ensures.shown)
+
+-- ---- what is printed, whatever the parts have
+
+pub returns-in-Err-clause-printed : goal.returns-in-Err-clause-printed
+returns-in-Err-clause-printed g c = tt
+
+pub returns-in-Err-rank-clause-printed : goal.returns-in-Err-rank-clause-printed
+returns-in-Err-rank-clause-printed g c = tt
+
+pub returns-clause-printed : goal.returns-clause-printed
+returns-clause-printed g c = terms_printed _ _ c.show_ranked.result (c.deref.ensures.value ∙ c.in-Ok.ensures.known) c.in-Ok-rank.ensures.whole c.show_ranked.ensures.counted

@@ -1,7 +1,9 @@
-use Rattle.std.proofs.Common.{arith, ◌≡◌, ap, length, subst}
+use Rattle.std.proofs.Common.{arith, ◌≡◌, [], ap, length, subst}
 use Rattle.mg_layout.specs.declared.head.Head.{Head}
+use Rattle.mg_reply.proofs.CallerLemmas.{pass_nothing}
 use Rattle.mg_session.specs.Answering.{RowsShown}
 use Rattle.mg_session.specs.SearchLaws.{same_texts, texts_later, texts_then}
+use Rattle.mg_session.proofs.DecidedLaws.{some_then}
 use Rattle.mg_session.proofs.StepLaws.{cause_after, shown_none, shown_then}
 use Rattle.mg_session.proofs.TotalLaws.{lack_after}
 use Rattle.mg_session.proofs.RankedLaws.{numbered, pages_cut, rows_cut, rows_more, rows_passed, rows_read, rows_start}
@@ -14,6 +16,7 @@ loop-place-init g c = record {
   looked = shown_none _ _ _ _;
   output = omega arith;
   lacks = omega arith;
+  passed = ([], pass_nothing _ _);
   shown = λ code collection is. rows_start _ _ _ _ _ _ _;
 }
 
@@ -31,23 +34,24 @@ pub loop-place-preserved : goal.loop-place-preserved
 loop-place-preserved g c =
     let inv = c.loop-place.invariant in
     record {
-      fits = c.in-Ok.ensures.fits;
-      same = texts_then _ _ _ inv.same c.in-Ok.ensures.same;
-      looked = shown_then inv.looked c.in-Ok.ensures.looked;
-      output = omega (arith, inv.output, c.in-Ok.ensures.cause.output);
-      lacks = omega (arith, inv.lacks, c.in-Ok.ensures.lack.later);
+      fits = c.in-Ok.ensures.shown.fits;
+      same = texts_then _ _ _ inv.same c.in-Ok.ensures.shown.same;
+      looked = shown_then inv.looked c.in-Ok.ensures.shown.looked;
+      output = omega (arith, inv.output, c.in-Ok.ensures.shown.cause.output);
+      lacks = omega (arith, inv.lacks, c.in-Ok.ensures.shown.lack.later);
+      passed = some_then inv.passed.1 c.in-Ok.ensures.passed.1;
       shown = λ code collection is.
           let text = texts_later _ _ _ _ code collection inv.same inv.looked.files is in
           rows_more code collection c.args.mode c.args.rows.now c.loop-place.place c.row-row.result.number c.row-row.result.score _ _ _ _ _ _ _
           (g.S.Store.reads c.loop-place.store) _ (omega arith) c.row-row.ensures.number c.row-row.ensures.score (inv.shown code collection is)
-          (c.in-Ok.ensures.content code collection text)
-          (c.in-Ok.ensures.pages code collection text);
+          (c.in-Ok.ensures.shown.content code collection text)
+          (c.in-Ok.ensures.shown.pages code collection text);
     }
 
-pub returns-in-Err : goal.returns-in-Err
-returns-in-Err g c =
+pub returns-in-Err-clause-shown : goal.returns-in-Err-clause-shown
+returns-in-Err-clause-shown g c =
     let so_far = c.loop-place.invariant in
-    let e = c.in-Err.ensures in
+    let e = c.in-Err.ensures.shown in
     record {
       fits = e.fits;
       same = texts_then _ _ _ so_far.same e.same;
@@ -56,24 +60,24 @@ returns-in-Err g c =
           let text = texts_later _ _ _ _ code collection inv.same inv.looked.files is in
           rows_cut code collection c.args.mode c.args.rows.now c.loop-place.place c.row-row.result.number c.row-row.result.score _ _ _ _ _ _
           (g.S.Store.reads c.loop-place.store) (omega arith) c.row-row.ensures.number c.row-row.ensures.score (inv.shown code collection is)
-          (c.in-Err.ensures.content code collection text);
+          (c.in-Err.ensures.shown.content code collection text);
       pages = λ code collection is.
           let inv = c.loop-place.invariant in
           let text = texts_later _ _ _ _ code collection inv.same inv.looked.files is in
           pages_cut code collection c.args.mode c.args.rows.now c.loop-place.place c.row-row.result.number c.row-row.result.score _ _ _ _ _
           (g.S.Store.reads c.loop-place.store) (g.S.Store.reads c.show_doc.new.store) (omega arith) c.row-row.ensures.number c.row-row.ensures.score
           (inv.shown code collection is)
-          (c.in-Err.ensures.pages code collection text);
+          (c.in-Err.ensures.shown.pages code collection text);
       sound = λ code collection is.
           let inv = c.loop-place.invariant in
-          c.in-Err.ensures.sound code collection (texts_later _ _ _ _ code collection inv.same inv.looked.files is);
+          c.in-Err.ensures.shown.sound code collection (texts_later _ _ _ _ code collection inv.same inv.looked.files is);
       looked = shown_then so_far.looked e.looked;
       cause = cause_after _ _ _ _ _ _ _ so_far.looked.faults so_far.output e.cause;
       lack = lack_after _ _ _ _ so_far.lacks e.lack;
     }
 
-pub returns : goal.returns
-returns g c =
+pub returns-clause-shown : goal.returns-clause-shown
+returns-clause-shown g c =
     let so_far = c.loop-place.invariant in
     record {
       fits = so_far.fits;
@@ -95,3 +99,11 @@ returns g c =
       cause = record { store = so_far.looked.faults; output = so_far.output; caused = tt };
       lack = record { later = so_far.lacks; lacked = tt };
     }
+
+-- ---- what was passed on, whatever the text has
+
+pub returns-in-Err-clause-passed : goal.returns-in-Err-clause-passed
+returns-in-Err-clause-passed g c = tt
+
+pub returns-clause-passed : goal.returns-clause-passed
+returns-clause-passed g c = c.loop-place.invariant.passed

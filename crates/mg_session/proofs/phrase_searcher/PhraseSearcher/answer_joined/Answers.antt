@@ -1,5 +1,6 @@
 use Rattle.std.proofs.Common.{subst}
 use Rattle.mg_query.specs.AllOf.{IsAllOf}
+use Rattle.mg_session.proofs.DecidedLaws.{no_words}
 use Rattle.mg_session.proofs.CallLaws.{opened_unread}
 use Rattle.mg_session.proofs.PhraseReplyLaws.{none_counted}
 use Rattle.mg_session.proofs.phrase_searcher.PhraseSearcher.answer_joined.Goals as goal
@@ -17,3 +18,11 @@ returns-in-None-clause-stepped g c = opened_unread c.requires.fits c.answer_none
 
 pub returns-in-Some-clause-stepped : goal.returns-in-Some-clause-stepped
 returns-in-Some-clause-stepped g c = c.answer_words.ensures.stepped
+
+-- ---- what is printed, whatever the lists have
+
+pub returns-in-None-clause-printed : goal.returns-in-None-clause-printed
+returns-in-None-clause-printed g c = λ t us words. no_words c.args.phrase.now t us (subst (IsAllOf c.args.phrase.now) c.in-None.is c.requires.joined) words
+
+pub returns-in-Some-clause-printed : goal.returns-in-Some-clause-printed
+returns-in-Some-clause-printed g c = c.answer_words.ensures.printed

@@ -1,4 +1,7 @@
-use Rattle.std.proofs.Common.{refl}
+use Rattle.std.proofs.Common.{refl, subst}
+use Rattle.mg_query.specs.RefusalOf.{refusal_of}
+use Rattle.mg_session.specs.Decided.{PrintsWords}
+use Rattle.mg_session.proofs.DecidedLaws.{read_same, refused_printed}
 use Rattle.mg_session.proofs.CallLaws.{line_told, opened_unread}
 use Rattle.mg_session.proofs.PhraseReplyLaws.{line_answered, line_refused, line_words}
 use Rattle.mg_session.proofs.phrase_searcher.PhraseSearcher.answer_question.Goals as goal
@@ -19,3 +22,14 @@ returns-in-Ok-clause-replied g c = λ code collection over.
 
 pub returns-in-Ok-clause-stepped : goal.returns-in-Ok-clause-stepped
 returns-in-Ok-clause-stepped g c = c.answer_parsed.ensures.stepped
+
+-- ---- what is printed, whatever the lists have
+
+pub returns-in-Err-clause-printed : goal.returns-in-Err-clause-printed
+returns-in-Err-clause-printed g c = λ ts is told t us words version collection limits stands.
+    refused_printed _ _ _ (refusal_of c.in-Err.why) ts c.answer_refused.result c.in-Err.ensures.refused c.answer_refused.ensures.content is told
+
+pub returns-in-Ok-clause-printed : goal.returns-in-Ok-clause-printed
+returns-in-Ok-clause-printed g c = λ ts is told.
+    subst (λ xs. PrintsWords (g.O.Sink.written c.args.out.now) (g.O.Sink.written c.answer_parsed.new.out) c.answer_parsed.result
+    (g.S.Store.files c.args.store.now) c.args.self.now xs) (read_same c.in-Ok.ensures.reads is) c.answer_parsed.ensures.printed

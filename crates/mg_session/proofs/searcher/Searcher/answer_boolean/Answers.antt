@@ -1,5 +1,8 @@
-use Rattle.std.proofs.Common.{refl}
+use Rattle.std.proofs.Common.{refl, subst}
 use Rattle.mg_query.specs.QueryOf.{query_of}
+use Rattle.mg_query.specs.RefusalOf.{refusal_of}
+use Rattle.mg_session.specs.Decided.{BooleanRow, PrintsTold}
+use Rattle.mg_session.proofs.DecidedLaws.{read_same, refused_printed}
 use Rattle.mg_session.proofs.CallLaws.{line_told, opened_unread}
 use Rattle.mg_session.proofs.ReplyLaws.{boolean_answered, boolean_refused}
 use Rattle.mg_session.proofs.searcher.Searcher.answer_boolean.Goals as goal
@@ -17,3 +20,14 @@ returns-in-Ok-clause-replied g c = λ code collection over.
 
 pub returns-in-Ok-clause-stepped : goal.returns-in-Ok-clause-stepped
 returns-in-Ok-clause-stepped g c = c.answer_parsed.ensures.stepped
+
+-- ---- what is printed, whatever the lists have
+
+pub returns-in-Err-clause-printed : goal.returns-in-Err-clause-printed
+returns-in-Err-clause-printed g c = λ q is told version collection limits stands.
+    refused_printed _ _ _ (refusal_of c.in-Err.why) q c.answer_refused.result c.in-Err.ensures.refused c.answer_refused.ensures.content is told
+
+pub returns-in-Ok-clause-printed : goal.returns-in-Ok-clause-printed
+returns-in-Ok-clause-printed g c = λ q is told.
+    subst (λ a. PrintsTold (g.O.Sink.written c.args.out.now) (g.O.Sink.written c.answer_parsed.new.out) c.answer_parsed.result
+    (g.S.Store.files c.args.store.now) c.args.self.now a (BooleanRow c.args.now.now)) (read_same c.in-Ok.ensures.reads is) c.answer_parsed.ensures.printed

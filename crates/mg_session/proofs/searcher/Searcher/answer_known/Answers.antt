@@ -5,7 +5,9 @@ use Rattle.mg_query.specs.QueryOf.{query_of}
 use Rattle.mg_bool.specs.Places.{AreInfos}
 use Rattle.mg_layout.specs.declared.term_info.TermInfo.{TermInfo}
 use Rattle.mg_lex.specs.Reading.{LexStands}
+use Rattle.mg_session.specs.Decided.{BooleanRow}
 use Rattle.mg_session.specs.Searching.{Opened, OpenedOver}
+use Rattle.mg_session.proofs.DecidedLaws.{told_printed}
 use Rattle.mg_session.proofs.CallLaws.{opened_answered, opened_refused}
 use Rattle.mg_session.proofs.ReplyLaws.{answered_behind, answers_for, nothing_answered, part_sound}
 use Rattle.mg_session.proofs.StepLaws.{lex_post, lex_text}
@@ -44,3 +46,17 @@ pub returns-clause-stepped : goal.returns-clause-stepped
 returns-clause-stepped g c =
     let e = c.in-Ok.ensures in
     opened_answered c.self.view_is c.requires.fits e.fits e.same e.looked c.answer_query.ensures.stepped
+
+-- ---- what is printed, whatever the lists have
+
+pub returns-in-Err-clause-printed : goal.returns-in-Err-clause-printed
+returns-in-Err-clause-printed g c = λ version collection limits stands. tt
+
+pub returns-clause-printed : goal.returns-clause-printed
+returns-clause-printed g c = λ version collection limits stands.
+    let told = c.in-Ok.ensures.answer version collection limits
+    (subst (λ (o : Opened). LexStands o.lex (g.S.Store.files c.args.store.now) collection) (sym c.self.view_is) stands) in
+    let same : AreInfos collection (query_terms (query_of c.args.query.now)) c.deref.result.now =
+    subst (λ (xs : List (Option TermInfo)). AreInfos collection (query_terms (query_of c.args.query.now)) xs) (sym c.deref.ensures.value)
+    (subst (λ (ts : List (List ℕ)). AreInfos collection ts c.in-Ok.infos.items) (c.as_slice.ensures ∙ c.requires.terms) told) in
+    told_printed (query_of c.args.query.now) (BooleanRow c.args.now.now) _ _ c.answer_query.result c.self.view_is c.in-Ok.ensures.looked.files same c.answer_query.ensures.printed

@@ -19,3 +19,11 @@ returns-then-now-clause-stepped g c = c.answer_ranked.ensures.stepped
 
 pub returns-else-now-clause-stepped : goal.returns-else-now-clause-stepped
 returns-else-now-clause-stepped g c = c.answer_boolean.ensures.stepped
+
+-- ---- what is printed, whatever the lists have
+
+pub returns-then-now-clause-printed : goal.returns-then-now-clause-printed
+returns-then-now-clause-printed g c = rw c.if-now.true c.answer_ranked.ensures.printed
+
+pub returns-else-now-clause-printed : goal.returns-else-now-clause-printed
+returns-else-now-clause-printed g c = rw c.if-now.false c.answer_boolean.ensures.printed

@@ -1,4 +1,7 @@
-use Rattle.std.proofs.Common.{refl}
+use Rattle.std.proofs.Common.{refl, subst}
+use Rattle.mg_query.specs.RefusalOf.{refusal_of}
+use Rattle.mg_session.specs.Decided.{RanksTold}
+use Rattle.mg_session.proofs.DecidedLaws.{read_same, refused_printed}
 use Rattle.mg_session.proofs.CallLaws.{line_told, opened_unread}
 use Rattle.mg_session.proofs.TermLaws.{line_terms}
 use Rattle.mg_session.proofs.ReplyLaws.{ranked_answered, ranked_refused}
@@ -23,3 +26,14 @@ returns-in-Ok-clause-replied g c = λ code collection over.
 
 pub returns-in-Ok-clause-stepped : goal.returns-in-Ok-clause-stepped
 returns-in-Ok-clause-stepped g c = c.answer_distinct.ensures.stepped
+
+-- ---- what is printed, whatever the lists have
+
+pub returns-in-Err-clause-printed : goal.returns-in-Err-clause-printed
+returns-in-Err-clause-printed g c = λ ts is told version collection limits stands.
+    refused_printed _ _ _ (refusal_of c.in-Err.why) ts c.answer_refused.result c.in-Err.ensures.refused c.answer_refused.ensures.content is told
+
+pub returns-in-Ok-clause-printed : goal.returns-in-Ok-clause-printed
+returns-in-Ok-clause-printed g c = λ ts is told.
+    subst (λ xs. RanksTold (g.O.Sink.written c.args.out.now) (g.O.Sink.written c.answer_distinct.new.out) c.answer_distinct.result
+    (g.S.Store.files c.args.store.now) c.args.self.now xs) (read_same c.in-Ok.ensures.reads is) c.answer_distinct.ensures.printed

@@ -5,29 +5,24 @@ use Rattle.mg_session.specs.Searching.{state_of}
 use Rattle.mg_session.proofs.ReplyLaws.{asked_one, line_part, line_put, line_written}
 use Rattle.mg_session.proofs.searcher.SearcherAnswerer.answer_line.Goals as goal
 
-pub returns-clause-content : goal.returns-clause-content
-returns-clause-content g c = λ by answers. subst (λ (r : Settings → List ℕ → List ℕ).
-    AfterPut (g.O.Sink.written c.args.out.now) (g.O.Sink.written c.answer_question.new.out) (r c.args.now.now c.args.line.now) c.answer_question.result)
-    (sym answers.by_is)
-    (line_put answers.code answers.collection _ _ _ _ _ _ _ (c.answer_question.ensures.replied answers.code answers.collection answers.over))
+pub returns-clause-answered : goal.returns-clause-answered
+returns-clause-answered g c = record {
+  fits = c.answer_question.ensures.stepped.fits;
+  content = λ by answers. subst (λ (r : Settings → List ℕ → List ℕ).
+      AfterPut (g.O.Sink.written c.args.out.now) (g.O.Sink.written c.answer_question.new.out) (r c.args.now.now c.args.line.now) c.answer_question.result)
+      (sym answers.by_is)
+      (line_put answers.code answers.collection _ _ _ _ _ _ _ (c.answer_question.ensures.replied answers.code answers.collection answers.over));
+  after = asked_one
+      (state_of (g.S.Store.files c.args.dev.now) (g.S.Store.reads c.args.dev.now) (g.S.Store.faults c.args.dev.now) c.args.self.now)
+      (state_of (g.S.Store.files c.answer_question.new.store) (g.S.Store.reads c.answer_question.new.store) (g.S.Store.faults c.answer_question.new.store) c.answer_question.new.self)
+      _ _ _ _ _ c.answer_question.ensures.stepped.step c.answer_question.ensures.stepped.same c.answer_question.ensures.replied;
+  later = c.answer_question.ensures.stepped.cause.output;
+  write = line_written _ _ _ _ _ c.answer_question.ensures.stepped.cause;
+  part = line_part
+      (state_of (g.S.Store.files c.args.dev.now) (g.S.Store.reads c.args.dev.now) (g.S.Store.faults c.args.dev.now) c.args.self.now)
+      (state_of (g.S.Store.files c.answer_question.new.store) (g.S.Store.reads c.answer_question.new.store) (g.S.Store.faults c.answer_question.new.store) c.answer_question.new.self)
+      _ _ _ c.answer_question.ensures.stepped.cause (λ code collection over. (c.answer_question.ensures.replied code collection over).sound);
+}
 
-pub returns-clause-after : goal.returns-clause-after
-returns-clause-after g c = asked_one
-    (state_of (g.S.Store.files c.args.dev.now) (g.S.Store.reads c.args.dev.now) (g.S.Store.faults c.args.dev.now) c.args.self.now)
-    (state_of (g.S.Store.files c.answer_question.new.store) (g.S.Store.reads c.answer_question.new.store) (g.S.Store.faults c.answer_question.new.store) c.answer_question.new.self)
-    _ _ _ _ _ c.answer_question.ensures.stepped.step c.answer_question.ensures.stepped.same c.answer_question.ensures.replied
-
-pub returns-clause-part : goal.returns-clause-part
-returns-clause-part g c = line_part
-    (state_of (g.S.Store.files c.args.dev.now) (g.S.Store.reads c.args.dev.now) (g.S.Store.faults c.args.dev.now) c.args.self.now)
-    (state_of (g.S.Store.files c.answer_question.new.store) (g.S.Store.reads c.answer_question.new.store) (g.S.Store.faults c.answer_question.new.store) c.answer_question.new.self)
-    _ _ _ c.answer_question.ensures.stepped.cause (λ code collection over. (c.answer_question.ensures.replied code collection over).sound)
-
-pub returns-clause-fits : goal.returns-clause-fits
-returns-clause-fits g c = c.answer_question.ensures.stepped.fits
-
-pub returns-clause-later : goal.returns-clause-later
-returns-clause-later g c = c.answer_question.ensures.stepped.cause.output
-
-pub returns-clause-write : goal.returns-clause-write
-returns-clause-write g c = line_written _ _ _ _ _ c.answer_question.ensures.stepped.cause
+pub returns-clause-printed : goal.returns-clause-printed
+returns-clause-printed g c = c.answer_question.ensures.printed

@@ -1,0 +1,173 @@
+-- By what an answer is decided, and what is printed of it, whatever the parts have.
+use Rattle.std.specs.Prelude.{◌≡◌, ◌⊎◌, ℕ, zero, suc, ◌+◌, Bool, true, false, List, [], ◌∷◌, ◌++◌, length, None, IfSome, IsSome, OnOk}
+use Rattle.std.specs.declared.option.Option.{Option}
+use Rattle.std.specs.declared.result.Result.{Result}
+use Rattle.mg_dev.specs.Files.{Files}
+use Rattle.mg_dev.specs.Streams.{appended}
+use Rattle.mg_dev.specs.declared.show_err.ShowErr.{ShowErr}
+use Rattle.mg_defs.specs.Phrases.{all_of, phrase_of}
+use Rattle.mg_defs.specs.QueryTerms.{query_terms}
+use Rattle.mg_defs.specs.Read.{boolean, ranked}
+use Rattle.mg_defs.specs.Refusals.{reads}
+use Rattle.mg_defs.specs.Sat.{Query}
+use Rattle.mg_defs.specs.ShownAnswers.{shown_as}
+use Rattle.mg_defs.specs.Texts.{count}
+use Rattle.mg_defs.specs.declared.session.Mode.{Mode}
+use Rattle.mg_defs.specs.declared.session.Settings.{Settings}
+use Rattle.mg_bool.specs.Leads.{NeedsPlace}
+use Rattle.mg_bool.specs.Matches.{Matching}
+use Rattle.mg_bool.specs.Places.{AreInfos, Place}
+use Rattle.mg_bool.specs.Shown.{AreLists, IsPassed, IsShown, MatchesStand, SameLists}
+use Rattle.mg_layout.specs.declared.term_info.TermInfo.{TermInfo}
+use Rattle.mg_query.specs.QueryOf.{query_of}
+use Rattle.mg_rank.specs.Added.{CountsWhole}
+use Rattle.mg_rank.specs.Ranked.{Ranking}
+use Rattle.mg_reply.specs.Pending.{Passed}
+use Rattle.mg_reply.specs.Printed.{at_score, hit_by}
+use Rattle.mg_session.specs.Answering.{known_infos}
+use Rattle.mg_session.specs.PhraseAnswers.{found_at, rows_of}
+use Rattle.mg_session.specs.Searching.{Opened}
+use Rattle.mg_session.specs.Sessions.{ForLexicon}
+use Rattle.mg_session.specs.declared.phrase_rows.PhraseRows.{PhraseRows}
+
+-- ---- one document
+
+-- at `Ok` this was passed on of some text, whichever the parts have
+abbrev pub PassesSome : Option (List ℕ) → Option (List ℕ) → List ℕ → List ℕ → Result (Unit {0}) ShowErr →
+    (List ℕ → List ℕ) → Type 0
+PassesSome before now waited waiting result of = OnOk result ((doc : List ℕ)
+    × Passed before now waited waiting (of doc))
+
+-- at `Ok` this was put behind some bytes
+abbrev pub PutsSome : Option (List ℕ) → Option (List ℕ) → Result (Unit {0}) ShowErr → List ℕ → Type 0
+PutsSome before now result last = OnOk result ((rows : List ℕ)
+    × (now ≡ appended before (rows ++ last)))
+
+-- at `Ok` the row of a document with some number of places was passed on, and it is counted if there are any
+abbrev pub PassesRow : Option (List ℕ) → Option (List ℕ) → PhraseRows → PhraseRows →
+    Result (Unit {0}) ShowErr → ℕ → Type 0
+PassesRow before now rows rows_now result number = OnOk result ((places : ℕ)
+    × Passed before now rows.pending rows_now.pending (rows_of (found_at number places))
+    × (rows_now.total ≡ rows.total + length (found_at number places)))
+
+-- what a mode shows of a document with this text
+abbrev pub shown_of : Mode → ℕ → Option ℕ → List ℕ → List ℕ
+shown_of m number score doc = shown_as doc m (at_score number score)
+
+-- the same under these settings, after so many documents
+abbrev pub hit_of : Settings → ℕ → ℕ → List ℕ → List ℕ
+hit_of now total number doc = hit_by now doc total (at_score number None)
+
+-- ---- the documents of a query
+
+-- what is printed for a document of this number, and how many are counted before it and with it
+abbrev pub RowRule : Type 1
+RowRule = (number before now : ℕ) → List ℕ → Type 0
+
+-- a document of a Boolean answer is counted, and shown with some text
+abbrev pub BooleanRow : Settings → RowRule
+BooleanRow now number before total row = (total ≡ before + 1) × ((doc : List ℕ) × (row ≡ hit_of now before number doc))
+
+-- a document that has all terms of a phrase is counted and shown if the phrase has places in it
+abbrev pub PhraseRow : RowRule
+PhraseRow number before total row = (places : ℕ) × (total ≡ before + length (found_at number places))
+    × (row ≡ rows_of (found_at number places))
+
+-- each of the first so many documents is shown to satisfy the query or not to; for those that do, so many are counted and this is printed
+abbrev pub PrintsShown : Query → Option Files → List Place → Option ℕ → RowRule → ℕ → ℕ → List ℕ → Type 0
+PrintsShown q files places lead IsRow zero total text = (total ≡ 0) × (text ≡ [])
+PrintsShown q files places lead IsRow (suc n) total text =
+    (IsPassed q files places lead (suc n) × PrintsShown q files places lead IsRow n total text)
+    ⊎ (IsShown q files places (suc n) true × ((before : ℕ) × (first : List ℕ) × (row : List ℕ)
+    × PrintsShown q files places lead IsRow n before first × IsRow (suc n) before total row × (text ≡ first ++ row)))
+
+-- The answer to a query was printed: each document is decided by the lists of which this is told.
+pub record QueryPrinted (q : Query) (base : List ℕ) (files : Option Files) (infos : List (Option TermInfo)) (all : ℕ)
+    (IsRow : RowRule) (before now : Option (List ℕ)) : Type 0 where
+  -- the lists; where one leads, the query needs its term
+  pub places : List Place
+  pub lead : Option ℕ
+  pub lists : AreLists base infos all places
+  pub needs : IfSome lead (NeedsPlace q)
+  -- each document is decided by blocks of them that stand
+  pub total : ℕ
+  pub text : List ℕ
+  pub each : PrintsShown q files places lead IsRow all total text
+  -- that text was printed, and how many are counted
+  pub put : now ≡ appended before (text ++ count total)
+
+-- While the documents that satisfy a query are shown: so many were counted, and their rows passed on.
+pub record QueryPrinting (files files_now : Option Files) (start now : Matching) (IsRow : RowRule)
+    (before after : Option (List ℕ)) (waiting : List ℕ) (total : ℕ) : Type 0 where
+  pub stands : MatchesStand files_now now
+  pub lists : SameLists start now
+  pub text : List ℕ
+  pub each : PrintsShown (query_of start.asks) files start.places start.lead IsRow now.decided total text
+  pub passed : Passed before after [] waiting text
+
+-- The ranking of terms was printed: behind some rows the number of those to whose sums the list of each term was added whole.
+pub record TermsPrinted (known : List TermInfo) (all : ℕ) (before now : Option (List ℕ)) : Type 0 where
+  pub ranking : Ranking
+  pub whole : CountsWhole all known ranking
+  pub rows : List ℕ
+  pub put : now ≡ appended before (rows ++ count ranking.total)
+
+-- ---- what calls print at `Ok`
+
+abbrev pub PrintsQuery : Option (List ℕ) → Option (List ℕ) → Result (Unit {0}) ShowErr → List ℕ →
+    Option Files → Query → List (Option TermInfo) → ℕ → RowRule → Type 0
+PrintsQuery before now result base files q infos all IsRow = OnOk result
+    (QueryPrinted q base files infos all IsRow before now)
+
+abbrev pub PrintsTerms : Option (List ℕ) → Option (List ℕ) → Result (Unit {0}) ShowErr →
+    List (Option TermInfo) → ℕ → Type 0
+PrintsTerms before now result infos all = OnOk result
+    (TermsPrinted (known_infos infos) all before now)
+
+-- of the documents that are gone over, whose lists are those of its places
+abbrev pub PrintsMatches : Option (List ℕ) → Option (List ℕ) → Result (Unit {0}) ShowErr → Option Files →
+    Matching → RowRule → Type 0
+PrintsMatches before now result files m IsRow = OnOk result ((total : ℕ) × (text : List ℕ)
+    × PrintsShown (query_of m.asks) files m.places m.lead IsRow m.all total text
+    × (now ≡ appended before (text ++ count total)))
+
+-- ---- over open parts, where the lexicon is that of a collection: by the lists of which it tells
+
+abbrev pub QueryToldPrinted : List ℕ → Query → Option Files → Opened → RowRule → Option (List ℕ) → Option (List ℕ) →
+    Type 0
+QueryToldPrinted collection q files opened IsRow before now = (infos : List (Option TermInfo))
+    × AreInfos collection (query_terms q) infos × QueryPrinted q opened.base files infos opened.all IsRow before now
+
+abbrev pub TermsToldPrinted : List ℕ → List (List ℕ) → Opened → Option (List ℕ) → Option (List ℕ) → Type 0
+TermsToldPrinted collection ts opened before now = (infos : List (Option TermInfo))
+    × AreInfos collection ts infos × TermsPrinted (known_infos infos) opened.all before now
+
+abbrev pub PrintsTold : Option (List ℕ) → Option (List ℕ) → Result (Unit {0}) ShowErr → Option Files →
+    Opened → Query → RowRule → Type 0
+PrintsTold before now result files opened q IsRow = ForLexicon opened.lex files (λ collection. OnOk result
+    (QueryToldPrinted collection q files opened IsRow before now))
+
+abbrev pub RanksTold : Option (List ℕ) → Option (List ℕ) → Result (Unit {0}) ShowErr → Option Files →
+    Opened → List (List ℕ) → Type 0
+RanksTold before now result files opened ts = ForLexicon opened.lex files (λ collection. OnOk result
+    (TermsToldPrinted collection ts opened before now))
+
+-- of a phrase of these words; nothing is sought for one without words
+abbrev pub PrintsWords : Option (List ℕ) → Option (List ℕ) → Result (Unit {0}) ShowErr → Option Files →
+    Opened → List (List ℕ) → Type 0
+PrintsWords before now result files opened words = (t : List ℕ) (us : List (List ℕ)) → words ≡ t ∷ us →
+    PrintsTold before now result files opened (all_of t us) PhraseRow
+
+-- of a line, ranked or Boolean, that is not refused, into an output that is told
+abbrev pub PrintsLine : Option (List ℕ) → Option (List ℕ) → Result (Unit {0}) ShowErr → Option Files →
+    Opened → Bool → Settings → List ℕ → Type 0
+PrintsLine before now result files opened true settings line = (ts : List (List ℕ)) → ranked line ≡ reads ts →
+    IsSome before → RanksTold before now result files opened ts
+PrintsLine before now result files opened false settings line = (q : Query) → boolean line ≡ reads q →
+    IsSome before → PrintsTold before now result files opened q (BooleanRow settings)
+
+-- and of one that is a phrase
+abbrev pub PrintsPhrase : Option (List ℕ) → Option (List ℕ) → Result (Unit {0}) ShowErr → Option Files →
+    Opened → List ℕ → Type 0
+PrintsPhrase before now result files opened line = (ts : List (List ℕ)) → phrase_of line ≡ reads ts →
+    IsSome before → PrintsWords before now result files opened ts
