@@ -230,18 +230,19 @@ fn show_matching<O: Sink>(
 pub(crate) fn answer_pattern<S: Store, O: Sink>(
     lists: &Lists<'_>,
     store: &mut S,
-    terms: &Rotated,
+    terms: &mut Rotated,
     marked: &mut DocumentSet,
     pattern: &Pattern,
     out: &mut O,
 ) -> Result<(), ShowErr>
     requires room { marked.old.all ≡ lists.now.all }
+    ensures same { terms.new ≡ terms.old }
     ensures room { marked.new.all ≡ lists.now.all }
     ensures answer { ForEach
-        (WildSources lists.now.base.now (S.files store.old) terms.now lists.now.all)
+        (WildSources lists.now.base.now (S.files store.old) terms.old lists.now.all)
         (AnswersPattern O.written out.old out.new result (sides_of pattern.now)) }
     ensures pages { ForEach
-        (WildSources lists.now.base.now (S.files store.old) terms.now lists.now.all)
+        (WildSources lists.now.base.now (S.files store.old) terms.old lists.now.all)
         (λ collection. PostWithin S.reads store.old store.new
         (pattern_pages collection (sides_of pattern.now))) }
     ensures stepped { StepsPattern S.Store O.Sink store.old store.new out.old out.new result }

@@ -30,8 +30,8 @@ use std::marker::{Model, PhantomData};
 
 /// Answers the lines of a session of patterns from the parts of a base.
 ///
-/// The terms and all their rotations are held, and a bit for each document. Contracts see the base,
-/// the terms, how many documents there are and how many can be marked.
+/// The terms are held, with all their rotations once patterns are many, and a bit for each document.
+/// Contracts see the base, the terms, how many documents there are and how many can be marked.
 #[derive(Drop)]
 pub(crate) struct WildSearcher<'a, S: Store> {
     lists: Lists<'a>,
@@ -115,8 +115,8 @@ impl<'a, S: Store> WildSearcher<'a, S> {
         }
     }
 
-    /// Opens the parts of a set with this head: its terms and all their rotations are loaded, and room
-    /// is taken for a bit for each document.
+    /// Opens the parts of a set with this head: its terms are loaded, their rotations are counted, and
+    /// room is taken for a bit for each document.
     pub(crate) fn open(
         alloc: Global,
         store: &mut S,
@@ -168,7 +168,7 @@ impl<'a, S: Store> WildSearcher<'a, S> {
         answer_pattern(
             &self.lists,
             store,
-            &self.terms,
+            &mut self.terms,
             &mut self.marked,
             &pattern,
             out,

@@ -5,3 +5,4 @@ mod OrderLaws
 mod FrontLaws
 mod RangeLaws
 mod MatchLaws
+mod LookLaws

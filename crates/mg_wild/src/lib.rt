@@ -1,7 +1,12 @@
 //! Patterns, and the terms of a lexicon that match them.
 //!
-//! A pattern is a word with one star. A [`Rotated`] keeps every term of a lexicon in memory together
-//! with all its rotations: a term is cut at each place from its front to its end, and rotations are
+//! A pattern is a word with one star. A [`Rotated`] keeps every term of a lexicon in memory.
+//!
+//! What is unusual: a pattern is at first held against each term, and rotations are sorted only once the
+//! looks at terms took as long as that would. So a session of few patterns sorts nothing, one of many
+//! sorts once, and neither takes much more than twice the time of the better way.
+//!
+//! All rotations of a term are made by a cut at each place from its front to its end, and they are
 //! ordered by the bytes behind the cut and then by those before it. The rotations with the pattern's
 //! right side behind the cut and its left side at the front of what stands before it are then a range,
 //! which is found by halving. A rotation takes 8 bytes and no mark stands between its two parts, so that
@@ -11,6 +16,8 @@
 #![tactic(auto)]
 
 mod fronts;
+mod halving;
+mod looking;
 mod numbers;
 mod packed;
 mod pattern;

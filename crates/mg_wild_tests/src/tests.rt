@@ -46,7 +46,7 @@ fn head_of(terms: u32) -> Head {
 }
 
 // Whether the terms with these numbers match a line's pattern, and no others.
-fn finds(alloc: Global, lexicon: &Rotated, line: &[u8], numbers: &[u32]) -> bool {
+fn finds(alloc: Global, lexicon: &mut Rotated, line: &[u8], numbers: &[u32]) -> bool {
     if line.len() > LINE_LIMIT {
         return false;
     }
@@ -60,7 +60,7 @@ fn finds(alloc: Global, lexicon: &Rotated, line: &[u8], numbers: &[u32]) -> bool
 }
 
 // Whether they are found for each line.
-fn finds_all(alloc: Global, lexicon: &Rotated, rows: &[(&[u8], &[u32])]) -> bool {
+fn finds_all(alloc: Global, lexicon: &mut Rotated, rows: &[(&[u8], &[u32])]) -> bool {
     for (line, numbers) in rows {
         if !finds(alloc, lexicon, line, numbers) {
             return false;
@@ -69,15 +69,20 @@ fn finds_all(alloc: Global, lexicon: &Rotated, rows: &[(&[u8], &[u32])]) -> bool
     true
 }
 
-// The same by the lexicon of a store, of so many terms.
+// The same by the lexicon of a store, of so many terms, each line asked so often in turn.
 fn loads<S: Store>(
     alloc: Global,
     store: &mut S,
     terms: u32,
     rows: &[(&[u8], &[u32])],
+    turns: u32,
 ) -> Result<bool, RotErr> {
-    let lexicon = Rotated::load(alloc, store, "set", &head_of(terms))?;
-    Ok(finds_all(alloc, &lexicon, rows))
+    let mut lexicon = Rotated::load(alloc, store, "set", &head_of(terms))?;
+    let mut found = true;
+    for _ in 0..turns {
+        found = finds_all(alloc, &mut lexicon, rows) && found;
+    }
+    Ok(found)
 }
 
 // The same of the three documents' lexicon.
@@ -85,6 +90,7 @@ fn loads_three(
     alloc: Global,
     terms: u32,
     rows: &[(&[u8], &[u32])],
+    turns: u32,
 ) -> Result<Result<bool, RotErr>, PutErr> {
     let mut store = SureStore::new(alloc);
     let file = FileRef {
@@ -92,18 +98,26 @@ fn loads_three(
         part: Part::Lex,
     };
     store.append(&file, LEX)?;
-    Ok(loads(alloc, &mut store, terms, rows))
+    Ok(loads(alloc, &mut store, terms, rows, turns))
 }
 
 #[test]
 fn terms_that_match_are_found(rt: HostRuntime) -> Result<(), Fail> {
-    assert!(rt; loads_three(rt.alloc(), 4, &FOUND)? == Ok(true));
+    assert!(rt; loads_three(rt.alloc(), 4, &FOUND, 1)? == Ok(true));
+    Ok(())
+}
+
+// The four terms have sixteen rotations. These are sorted in the midst of so many patterns, so that some
+// are answered before and most behind.
+#[test]
+fn many_patterns_of_a_session_find_what_each_finds_alone(rt: HostRuntime) -> Result<(), Fail> {
+    assert!(rt; loads_three(rt.alloc(), 4, &FOUND, 200)? == Ok(true));
     Ok(())
 }
 
 #[test]
 fn entries_of_another_number_of_terms_are_damage(rt: HostRuntime) -> Result<(), Fail> {
-    let told = loads_three(rt.alloc(), 3, &[])?;
+    let told = loads_three(rt.alloc(), 3, &[], 0)?;
     assert!(rt; matches!(told, Err(RotErr::Part(PartErr::Bad(bad))) if bad.part == Part::Lex));
     Ok(())
 }

@@ -1,4 +1,7 @@
-use Rattle.std.proofs.Common.{arith, sym, ◌∙◌}
+use Rattle.std.proofs.Common.{arith, subst, sym, ◌∙◌}
+use Rattle.mg_wild.specs.Terms.{LexTerms}
+use Rattle.mg_session.specs.WildAnswers.{WildSources}
+use Rattle.mg_session.specs.WildMarks.{AreNumbersOf}
 use Rattle.mg_session.proofs.CallLaws.{part_cause, part_lack}
 use Rattle.mg_session.proofs.ReplyLaws.{part_sound}
 use Rattle.mg_session.proofs.StepLaws.{cause_after}
@@ -10,31 +13,42 @@ pub returns-in-Err-clause-answer : goal.returns-in-Err-clause-answer
 returns-in-Err-clause-answer g c = λ collection sources. wild_stop collection _ _ _ tt
 
 pub mark_all-requires-clause-numbers : goal.mark_all-requires-clause-numbers
-mark_all-requires-clause-numbers g c = record { told = sym c.len.ensures.infos ∙ c.len.ensures.terms; below = numbers_below _ c.args.terms.now.terms _ (c.as_slice-numbers.ensures ∙ c.in-Ok.ensures) }
+mark_all-requires-clause-numbers g c =
+    subst (λ (t : LexTerms). AreNumbersOf t c.as_slice-numbers.result.now) (sym c.matching.ensures.same)
+    (record { told = sym c.len.ensures.infos ∙ c.len.ensures.terms; below = numbers_below _ c.args.terms.now.terms _ (c.as_slice-numbers.ensures ∙ c.in-Ok.ensures.found) })
 
 pub show_matching-requires : goal.show_matching-requires
 show_matching-requires g c = record {
-  numbers = record { told = sym c.len.ensures.infos ∙ c.len.ensures.terms; below = numbers_below _ c.args.terms.now.terms _ (c.as_slice-numbers.ensures ∙ c.in-Ok.ensures) };
+  numbers = subst (λ (t : LexTerms). AreNumbersOf t c.as_slice-numbers.result.now) (sym c.matching.ensures.same)
+      (record { told = sym c.len.ensures.infos ∙ c.len.ensures.terms; below = numbers_below _ c.args.terms.now.terms _ (c.as_slice-numbers.ensures ∙ c.in-Ok.ensures.found) });
 }
 
 pub returns-in-Ok-mark_all-clause-answer : goal.returns-in-Ok-mark_all-clause-answer
 returns-in-Ok-mark_all-clause-answer g c = λ collection sources.
+    let here = subst (λ (t : LexTerms). WildSources c.args.lists.now.base.now (g.S.Store.files c.args.store.now) t c.args.lists.now.all collection)
+    (sym c.matching.ensures.same) sources in
     wild_put (matched c.args.lists.now.base.now _ c.args.terms.now c.args.lists.now.all collection _ _ c.clear.new.self c.mark_all.new.marked sources
-    (c.as_slice-numbers.ensures ∙ c.in-Ok.ensures) c.clear.ensures.none (c.in-Ok-mark_all.ensures.answer collection sources)
+    (c.as_slice-numbers.ensures ∙ c.in-Ok.ensures.found) c.clear.ensures.none (c.in-Ok-mark_all.ensures.answer collection here)
     c.in-Ok-mark_all.ensures.step.room)
-    (c.show_matching.ensures.content collection sources.terms_are sources.infos_are) c.show_matching.ensures.alone.sound
+    (c.show_matching.ensures.content collection here.terms_are here.infos_are) c.show_matching.ensures.alone.sound
 
 pub returns-in-Ok-mark_all-clause-pages : goal.returns-in-Ok-mark_all-clause-pages
 returns-in-Ok-mark_all-clause-pages g c = λ collection sources.
-    omega (arith, c.in-Ok-mark_all.ensures.pages collection sources, pattern_bound collection _ c.args.terms.now.terms _ (c.as_slice-numbers.ensures ∙ c.in-Ok.ensures) sources.terms_are.terms)
+    let here = subst (λ (t : LexTerms). WildSources c.args.lists.now.base.now (g.S.Store.files c.args.store.now) t c.args.lists.now.all collection)
+    (sym c.matching.ensures.same) sources in
+    omega (arith, c.in-Ok-mark_all.ensures.pages collection here, pattern_bound collection _ c.args.terms.now.terms _ (c.as_slice-numbers.ensures ∙ c.in-Ok.ensures.found) sources.terms_are.terms)
 
 pub returns-clause-answer : goal.returns-clause-answer
 returns-clause-answer g c = λ collection sources.
-    wild_stop collection _ _ _ (part_sound c.in-Err-mark_all.refusal _ _ c.from.ensures (c.in-Err-mark_all.ensures.answer collection sources))
+    let here = subst (λ (t : LexTerms). WildSources c.args.lists.now.base.now (g.S.Store.files c.args.store.now) t c.args.lists.now.all collection)
+    (sym c.matching.ensures.same) sources in
+    wild_stop collection _ _ _ (part_sound c.in-Err-mark_all.refusal _ _ c.from.ensures (c.in-Err-mark_all.ensures.answer collection here))
 
 pub returns-clause-pages : goal.returns-clause-pages
 returns-clause-pages g c = λ collection sources.
-    omega (arith, c.in-Err-mark_all.ensures.pages collection sources, pattern_bound collection _ c.args.terms.now.terms _ (c.as_slice-numbers.ensures ∙ c.in-Ok.ensures) sources.terms_are.terms)
+    let here = subst (λ (t : LexTerms). WildSources c.args.lists.now.base.now (g.S.Store.files c.args.store.now) t c.args.lists.now.all collection)
+    (sym c.matching.ensures.same) sources in
+    omega (arith, c.in-Err-mark_all.ensures.pages collection here, pattern_bound collection _ c.args.terms.now.terms _ (c.as_slice-numbers.ensures ∙ c.in-Ok.ensures.found) sources.terms_are.terms)
 
 -- ---- what is left of the store, and why it stops
 
