@@ -6,7 +6,7 @@ ghost use Rattle.mg_dev.specs.Files.{bytes_at};
 ghost use Rattle.mg_dev.specs.Moments.{Between};
 ghost use Rattle.mg_dev.specs.Names.{full_name};
 ghost use Rattle.mg_dev.specs.PartCauses.{HasPartCause};
-ghost use Rattle.mg_wild.specs.Loading.{AnswersTermsOf, AnswersTotal, ForEntries};
+ghost use Rattle.mg_wild.specs.Loading.{AnswersTermsWithin, AnswersTotal};
 ghost use Rattle.mg_wild.specs.Terms.{AreNumbered};
 
 use crate::term_block::{TermBlock, string_in};
@@ -43,24 +43,25 @@ pub(crate) fn total_size<S: Store>(
     Ok(size)
 }
 
-/// The terms of a lexicon whose strings have so many bytes together. It is damaged where they have
-/// more.
+/// The terms of a lexicon whose strings have no more than so many bytes together. It is damaged where
+/// they have more. No room is taken before the entries are read.
 pub(crate) fn read_terms<S: Store>(
     alloc: Global,
     store: &mut S,
     file: FileRef<'_>,
     count: u32,
-    size: u32,
+    most: u32,
 ) -> Result<TermBlock, PartErr>
-    requires { size + count ≤ most_rotations }
-    ensures answer { ForEntries (S.files store.old) (full_name file.entry.base.now file.entry.part)
-        count size
-        (λ es. AnswersTermsOf (λ terms. terms) es result) }
+    requires { most + count ≤ most_rotations }
+    ensures answer { IsSome (S.files store.old) →
+        AnswersTermsWithin (λ terms. terms)
+        (bytes_at (S.files store.old) (full_name file.entry.base.now file.entry.part))
+        count most result }
     ensures numbered { IfOk result (λ terms. AreNumbered 0 terms.infos) }
     ensures looked { Between S.files S.reads S.faults store.old store.new (Looked file.entry.part) }
     ensures cause { HasPartCause (S.faults store.old) (S.faults store.new) result }
 {
-    let mut terms = TermBlock::with_room(alloc, count, size)?;
+    let mut terms = TermBlock::new(alloc);
     let mut walk = match FrontWalk::load(alloc, store, file, FIELD, count) {
         Ok(walk) => walk,
         Err(refusal) => return Err(refusal),
@@ -68,12 +69,12 @@ pub(crate) fn read_terms<S: Store>(
     let mut entry = FrontEntry::new();
     while walk.next(store, &mut entry)? {
         let grown = terms.size() + string_in(&entry).len() as u32;
-        if grown > size {
+        if grown > most {
             return Err(PartErr::Bad(Bad {
                 part: file.part,
                 at: 0,
                 low: 0,
-                high: u64::from(size),
+                high: u64::from(most),
                 found: u64::from(grown),
             }));
         }

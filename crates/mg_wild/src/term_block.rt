@@ -77,17 +77,16 @@ fn part(bytes: &[u8], start: u32, end: u32) -> &[u8]
 }
 
 impl TermBlock {
-    /// A block of no term, with room for so many terms that have so many bytes.
-    pub(crate) fn with_room(alloc: Global, terms: u32, bytes: u32) -> Result<TermBlock, AllocError>
-        ensures terms { IfOk result (λ block. block.terms ≡ []) }
-        ensures infos { IfOk result (λ block. block.infos ≡ []) }
+    /// A block of no term.
+    pub(crate) fn new(alloc: Global) -> TermBlock
+        ensures terms { result.terms ≡ [] }
+        ensures infos { result.infos ≡ [] }
     {
-        let block = TermBlock {
-            bytes: Vec::with_capacity(alloc, bytes as usize)?,
-            ends: Vec::with_capacity(alloc, terms as usize)?,
-            infos: Vec::with_capacity(alloc, terms as usize)?,
-        };
-        Ok(block)
+        TermBlock {
+            bytes: Vec::new(alloc),
+            ends: Vec::new(alloc),
+            infos: Vec::new(alloc),
+        }
     }
 
     /// The number of terms.
