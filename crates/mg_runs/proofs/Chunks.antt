@@ -1,13 +1,50 @@
--- Bytes in chunks of 12.
-use Rattle.std.proofs.Common.{◌≡◌, ℕ, zero, suc, ◌+◌, ◌-◌, ◌*◌, ◌<◌, ◌≤◌, ◌^◌, List, [], ◌∷◌, ◌++◌, length, refl, sym, ap, ◌∙◌, arith, take, drop, map}
+-- Lists in chunks of one size, and bytes in chunks of 12.
+use Rattle.std.proofs.Common.{◌≡◌, ℕ, zero, suc, ◌+◌, ◌-◌, ◌*◌, ◌<◌, ◌≤◌, ◌^◌, List, [], ◌∷◌, ◌++◌, length, refl, sym, ap, ◌∙◌, append-nil, arith, take, drop, map}
 use Rattle.std.proofs.lemmas.Grind.{common_steps}
-use Rattle.std.proofs.lemmas.List.{drop-take, drop-drop, length-map}
+use Rattle.std.proofs.lemmas.List.{drop-take, drop-drop, drop_all, length-map, map-append, take-take, take_all}
+use Rattle.std.proofs.lemmas.Slice.{take-put_mid_below}
 use Rattle.std.proofs.lemmas.Nat.{from_be_bytes-to_be_bytes_4}
 use Rattle.std.specs.Simd.{first_chunks}
 use borrow.Rule.Slice.PartMut.{put_mid}
 use Rattle.mg_defs.specs.declared.TermPosting.{TermPosting}
-use Rattle.mg_runs.proofs.Segments.{map_end}
 use Rattle.mg_runs.specs.Bytes.{number_in, entry_in, bytes_of, entries_in}
+
+-- ---- chunks of one size
+
+pub length-chunks : {X : Type 0} (n k : ℕ) (xs : List X) → length (first_chunks n k xs) ≡ k
+length-chunks n zero xs = refl
+length-chunks n (suc k) xs = ap (λ m. suc m) (length-chunks n k (drop n xs))
+
+pub chunks-more : {X : Type 0} (n k : ℕ) (xs : List X) → first_chunks n (suc k) xs ≡ first_chunks n k xs ++ take n (drop (k * n) xs) ∷ []
+chunks-more n zero xs = let z : zero * n ≡ zero = omega arith in ap (λ t. take n (drop t xs) ∷ []) (sym z)
+chunks-more n (suc k) xs =
+    let one : n + k * n ≡ suc k * n = omega arith in
+    let e : drop (k * n) (drop n xs) ≡ drop (suc k * n) xs = drop-drop (k * n) n xs ∙ ap (λ m. drop m xs) one in
+    ap (λ t. take n xs ∷ t) (chunks-more n k (drop n xs) ∙ ap (λ t. first_chunks n k (drop n xs) ++ take n t ∷ []) e)
+
+take-front : {X : Type 0} (m n : ℕ) (xs : List X) → take m (take (m + n) xs) ≡ take m xs
+take-front m n xs = take-take m (m + n) xs (omega arith)
+
+-- lists that begin alike have the same chunks there
+pub chunks-same : {X : Type 0} (n k : ℕ) (xs ys : List X) → take (k * n) xs ≡ take (k * n) ys → first_chunks n k xs ≡ first_chunks n k ys
+chunks-same n zero xs ys e = refl
+chunks-same n (suc k) xs ys e =
+    let one : suc k * n ≡ n + k * n = omega arith in
+    let a : take n (take (suc k * n) xs) ≡ take n xs = ap (λ m. take n (take m xs)) one ∙ take-front n (k * n) xs in
+    let b : take n (take (suc k * n) ys) ≡ take n ys = ap (λ m. take n (take m ys)) one ∙ take-front n (k * n) ys in
+    let c : drop n (take (suc k * n) xs) ≡ take (k * n) (drop n xs) = ap (λ m. drop n (take m xs)) one ∙ drop-take n (k * n) xs in
+    let d : drop n (take (suc k * n) ys) ≡ take (k * n) (drop n ys) = ap (λ m. drop n (take m ys)) one ∙ drop-take n (k * n) ys in
+    let f : take n xs ≡ take n ys = sym a ∙ ap (λ t. take n t) e ∙ b in
+    let g : take (k * n) (drop n xs) ≡ take (k * n) (drop n ys) = sym c ∙ ap (λ t. drop n t) e ∙ d in
+    let r = chunks-same n k (drop n xs) (drop n ys) g in
+    cc
+
+-- a vector whose bytes were written as a slice has these bytes
+pub write_back : (size : ℕ) (xs ys : List ℕ) → length ys ≡ length xs → length xs ≡ size → take size (ys ++ drop (length ys) xs) ≡ ys
+write_back size xs ys same whole =
+    ap (λ t. take size (ys ++ t)) (drop_all (length ys) xs (omega arith)) ∙ ap (λ t. take size t) (append-nil ys) ∙ take_all size ys (omega arith)
+
+-- ---- entries of 12 bytes
 
 pub entry-of-bytes : (t d n : ℕ) → t < 2 ^ 32 → d < 2 ^ 32 → n < 2 ^ 32 → entry_in (bytes_of t d n) ≡ record { term = t; doc = d; count = n }
 unfolding number_in bytes_of
@@ -22,40 +59,11 @@ pub length-bytes_of : (t d n : ℕ) → length (bytes_of t d n) ≡ 12
 unfolding bytes_of
 length-bytes_of t d n = refl
 
-pub chunks-more : (k : ℕ) (xs : List ℕ) → first_chunks 12 (suc k) xs ≡ first_chunks 12 k xs ++ take 12 (drop (k * 12) xs) ∷ []
-chunks-more zero xs = grind (arith, common_steps)
-chunks-more (suc k) xs =
-    let one : 12 + k * 12 ≡ suc k * 12 = omega arith in
-    let e : drop (k * 12) (drop 12 xs) ≡ drop (suc k * 12) xs = drop-drop (k * 12) 12 xs ∙ ap (λ n. drop n xs) one in
-    ap (λ t. take 12 xs ∷ t) (chunks-more k (drop 12 xs) ∙ ap (λ t. first_chunks 12 k (drop 12 xs) ++ take 12 t ∷ []) e)
-
-take-front : (m n : ℕ) (xs : List ℕ) → take m (take (m + n) xs) ≡ take m xs
-take-front m n xs = grind (arith, common_steps)
-
-drop-front : (m n : ℕ) (xs : List ℕ) → drop m (take (m + n) xs) ≡ take n (drop m xs)
-drop-front m n xs = drop-take m n xs
-
 front-put : (a b k : ℕ) (xs ys : List ℕ) → b ≡ a → a + k ≤ length xs → length ys ≡ k → take b (put_mid a k xs ys) ≡ take b xs
-front-put a b k xs ys e h w = grind (arith, common_steps)
+front-put a b k xs ys e h w = take-put_mid_below a k xs ys b (omega arith) (omega arith)
 
-here-put : (a b k : ℕ) (xs ys : List ℕ) → b ≡ a → a + k ≤ length xs → length ys ≡ k → take k (drop b (put_mid a k xs ys)) ≡ ys
+pub here-put : (a b k : ℕ) (xs ys : List ℕ) → b ≡ a → a + k ≤ length xs → length ys ≡ k → take k (drop b (put_mid a k xs ys)) ≡ ys
 here-put a b k xs ys e h w = grind (arith, common_steps)
-
-length-put : (a k : ℕ) (xs ys : List ℕ) → a + k ≤ length xs → length ys ≡ k → length (put_mid a k xs ys) ≡ length xs
-length-put a k xs ys h w = grind (arith, common_steps)
-
-pub chunks-same : (k : ℕ) (xs ys : List ℕ) → take (k * 12) xs ≡ take (k * 12) ys → first_chunks 12 k xs ≡ first_chunks 12 k ys
-chunks-same zero xs ys e = refl
-chunks-same (suc k) xs ys e =
-    let one : suc k * 12 ≡ 12 + k * 12 = omega arith in
-    let a : take 12 (take (suc k * 12) xs) ≡ take 12 xs = ap (λ n. take 12 (take n xs)) one ∙ take-front 12 (k * 12) xs in
-    let b : take 12 (take (suc k * 12) ys) ≡ take 12 ys = ap (λ n. take 12 (take n ys)) one ∙ take-front 12 (k * 12) ys in
-    let c : drop 12 (take (suc k * 12) xs) ≡ take (k * 12) (drop 12 xs) = ap (λ n. drop 12 (take n xs)) one ∙ drop-front 12 (k * 12) xs in
-    let d : drop 12 (take (suc k * 12) ys) ≡ take (k * 12) (drop 12 ys) = ap (λ n. drop 12 (take n ys)) one ∙ drop-front 12 (k * 12) ys in
-    let f : take 12 xs ≡ take 12 ys = sym a ∙ ap (λ t. take 12 t) e ∙ b in
-    let g : take (k * 12) (drop 12 xs) ≡ take (k * 12) (drop 12 ys) = sym c ∙ ap (λ t. drop 12 t) e ∙ d in
-    let r = chunks-same k (drop 12 xs) (drop 12 ys) g in
-    cc
 
 pub entries-put : (count : ℕ) (xs made : List ℕ) → 12 * count + 12 ≤ length xs → length made ≡ 12 →
     entries_in (count + 1) (put_mid (12 * count) (12 * count + 12 - 12 * count) xs made) ≡ entries_in count xs ++ entry_in made ∷ []
@@ -67,12 +75,8 @@ entries-put count xs made room whole =
     let here : take 12 (drop (count * 12) ys) ≡ made = ap (λ t. take 12 (drop (count * 12) t)) (sym put) ∙ here-put (12 * count) (count * 12) 12 xs made (omega arith) room whole in
     let one : count + 1 ≡ suc count = omega arith in
     ap (λ n. entries_in n ys) one
-    ∙ ap (λ t. map entry_in t) (chunks-more count ys ∙ ap (λ t. t ++ take 12 (drop (count * 12) ys) ∷ []) (chunks-same count ys xs front) ∙ ap (λ t. first_chunks 12 count xs ++ t ∷ []) here)
-    ∙ map_end entry_in (first_chunks 12 count xs) made
-
-pub length-chunks : (n k : ℕ) (xs : List ℕ) → length (first_chunks n k xs) ≡ k
-length-chunks n zero xs = refl
-length-chunks n (suc k) xs = ap (λ m. suc m) (length-chunks n k (drop n xs))
+    ∙ ap (λ t. map entry_in t) (chunks-more 12 count ys ∙ ap (λ t. t ++ take 12 (drop (count * 12) ys) ∷ []) (chunks-same 12 count ys xs front) ∙ ap (λ t. first_chunks 12 count xs ++ t ∷ []) here)
+    ∙ map-append entry_in (first_chunks 12 count xs) (made ∷ [])
 
 -- where there are no chunks, none were asked for
 pub no_chunks : (k : ℕ) (xs : List ℕ) → first_chunks 64 k xs ≡ [] → k ≡ 0
@@ -80,11 +84,6 @@ no_chunks k xs e = sym (length-chunks 64 k xs) ∙ ap (λ t. length t) e
 
 pub length_entries : (count : ℕ) (bytes : List ℕ) → length (entries_in count bytes) ≡ count
 length_entries count bytes = length-map (first_chunks 12 count bytes) entry_in ∙ length-chunks 12 count bytes
-
-pub length-entry_put : (count : ℕ) (xs made : List ℕ) → 12 * count + 12 ≤ length xs → length made ≡ 12 → length (put_mid (12 * count) (12 * count + 12 - 12 * count) xs made) ≡ length xs
-length-entry_put count xs made room whole =
-    let size : 12 * count + 12 - 12 * count ≡ 12 = omega arith in
-    ap (λ k. length (put_mid (12 * count) k xs made)) size ∙ length-put (12 * count) 12 xs made room whole
 
 -- where there are no entries, none are counted, and none are found in other bytes
 pub no_entries : (count : ℕ) (bytes : List ℕ) → entries_in count bytes ≡ [] → count ≡ 0

@@ -1,7 +1,6 @@
 -- What a slot has of a file's bits.
 use Rattle.std.proofs.Common.{◌≡◌, ℕ, zero, suc, ◌+◌, ◌-◌, ◌*◌, ◌/◌, ◌%◌, ◌≤◌, List, [], ◌∷◌, ◌++◌, length, refl, sym, ap, ◌∙◌, arith, take, drop, min, length-append, append_assoc, length-drop}
-use Rattle.std.proofs.lemmas.Grind.{common_steps}
-use Rattle.std.proofs.lemmas.List.{drop-drop, drop-take}
+use Rattle.std.proofs.lemmas.List.{drop-drop, drop-take, drop_all, take_all, take_min}
 use Rattle.std.proofs.Math.Seq.{drop-append-add, take-append-add}
 use Rattle.mg_defs.specs.Bits.{Bits, bits_of, digits}
 use Rattle.mg_defs.specs.Codes.{gamma}
@@ -26,7 +25,7 @@ use Rattle.mg_dev.specs.declared.part_err.PartErr.TheVariants.{Device, Memory, B
 bits_take : (n : ℕ) (xs : List ℕ) → bits_of (take n xs) ≡ take (8 * n) (bits_of xs)
 unfolding bits_of
 bits_take zero xs = let z : 0 ≡ 8 * zero = omega arith in ap (λ k. take k (bits_of xs)) z
-bits_take (suc n) [] = let none : take (8 * suc n) [] ≡ [] = grind (arith, common_steps) in sym none
+bits_take (suc n) [] = sym (take_all (8 * suc n) [] (omega arith))
 bits_take (suc n) (x ∷ xs) =
     let e : length (digits 8 x) + 8 * n ≡ 8 * suc n = omega (arith, length_digits 8 x) in
     ap (λ l. digits 8 x ++ l) (bits_take n xs) ∙ sym (take-append-add (digits 8 x) (bits_of xs) (8 * n)) ∙ ap (λ k. take k (digits 8 x ++ bits_of xs)) e
@@ -34,13 +33,10 @@ bits_take (suc n) (x ∷ xs) =
 bits_drop : (n : ℕ) (xs : List ℕ) → bits_of (drop n xs) ≡ drop (8 * n) (bits_of xs)
 unfolding bits_of
 bits_drop zero xs = let z : 0 ≡ 8 * zero = omega arith in ap (λ k. drop k (bits_of xs)) z
-bits_drop (suc n) [] = let none : drop (8 * suc n) [] ≡ [] = grind (arith, common_steps) in sym none
+bits_drop (suc n) [] = sym (drop_all (8 * suc n) [] (omega arith))
 bits_drop (suc n) (x ∷ xs) =
     let e : length (digits 8 x) + 8 * n ≡ 8 * suc n = omega (arith, length_digits 8 x) in
     bits_drop n xs ∙ sym (drop-append-add (digits 8 x) (bits_of xs) (8 * n)) ∙ ap (λ k. drop k (digits 8 x ++ bits_of xs)) e
-
-drop_of_take : (m k : ℕ) (bs : Bits) → drop m (take (m + k) bs) ≡ take k (drop m bs)
-drop_of_take m k bs = drop-take m k bs
 
 -- what stands at a place of the file stands in the slot too, as far as the slot goes
 pub in_slot : (n start place offset room : ℕ) (slot file : List ℕ) (code rest : Bits) → slot ≡ take n (drop start file) → place ≡ 8 * start + offset →
@@ -50,7 +46,7 @@ in_slot n start place offset room slot file code rest is at size fits e =
     let r : length code + (room - length code) ≡ room = omega arith in
     ap (λ l. drop offset (bits_of l)) is
     ∙ ap (λ l. drop offset l) (bits_take n (drop start file) ∙ ap (λ k. take k (bits_of (drop start file))) (sym size))
-    ∙ drop_of_take offset room (bits_of (drop start file))
+    ∙ drop-take offset room (bits_of (drop start file))
     ∙ ap (λ l. take room (drop offset l)) (bits_drop start file)
     ∙ ap (λ l. take room l) (drop-drop offset (8 * start) (bits_of file) ∙ ap (λ k. drop k (bits_of file)) (sym at) ∙ e)
     ∙ ap (λ k. take k (code ++ rest)) (sym r)
@@ -84,9 +80,6 @@ place_below place bits code rest below e =
 pub first_bytes : (n count : ℕ) (all slot : List ℕ) → n ≡ min count (length all) → all ≡ slot → take n all ≡ take (min count (length slot)) slot
 first_bytes n count all slot e same =
     ap (λ k. take k all) e ∙ ap (λ l. take (min count (length l)) l) same
-
-take_min : (n : ℕ) (xs : List ℕ) → take (min n (length xs)) xs ≡ take n xs
-take_min n xs = grind (arith, common_steps)
 
 -- the next posting stands first in the slot, behind the offset
 pub stands : (cursor : Cursor) (slot file bytes : List ℕ) (x y : TermPosting) (ys : List TermPosting) (offset : ℕ) →

@@ -2,6 +2,7 @@
 use Rattle.std.proofs.Common.{◌≡◌, ℕ, zero, suc, ◌+◌, ◌-◌, ◌*◌, ◌/◌, ◌%◌, ◌<◌, ◌≤◌, ◌^◌, min, max, List, [], ◌∷◌, ◌++◌, length, sym, ap, ◌∙◌, subst}
 use Rattle.std.proofs.Common.{arith, drop, map, IsSome, is_some, length-append, append-nil}
 use Rattle.std.specs.declared.option.Option.{Option}
+use Rattle.std.proofs.Math.Nat.{lt-div-mul-add}
 use Rattle.std.proofs.lemmas.List.{length-map}
 use Rattle.std.proofs.lemmas.List.Concat.{flat_map-append}
 use Rattle.mg_dev.specs.Files.{Files}
@@ -62,7 +63,7 @@ fed_length runs files fed is =
     ∙ length_rest fed (finished (cap_of runs.pool) (length fed) * cap_of runs.pool)
 
 finished-high : (cap n : ℕ) → 1 ≤ cap → n - 1 < suc (finished cap n) * cap
-finished-high cap n some = grind arith
+finished-high cap n some = let high = lt-div-mul-add {a = n - 1} {b = cap} some in let next : suc (finished cap n) * cap ≡ cap + finished cap n * cap = omega arith in omega (arith, high)
 
 -- the writer may put a run behind those that are finished
 pub fed_may_end : (runs : Inverting) (files : Option Files) (fed : List (ℕ × ℕ)) → IsFed runs files fed → MayEnd runs.writer files
@@ -79,12 +80,6 @@ fed_most runs files fed is =
     let high : length fed - 1 < suc q * cap = finished-high cap (length fed) some in
     let next : suc q * cap ≡ cap + q * cap = omega arith in
     let len : length runs.pool.entries ≡ length fed - q * cap = fed_length runs files fed is in
-    omega arith
-
-pub fed_place : (runs : Inverting) (files : Option Files) (fed : List (ℕ × ℕ)) → IsFed runs files fed → length fed < 2 ^ 32 → runs.writer.place ≤ 2 ^ 62
-fed_place runs files fed is few =
-    let low = finished-low (cap_of runs.pool) (length fed) (some_cap runs.pool.limit is.least) in
-    let p = is.below in
     omega arith
 
 -- the peak, where the pool has room: none was finished, or one was

@@ -1,6 +1,7 @@
 -- Groups of runs, joined one after the other.
 use Rattle.std.proofs.Common.{◌≡◌, ℕ, Bool, ◌+◌, ◌-◌, ◌<◌, ◌≤◌, List, [], ◌∷◌, ◌++◌, length, refl, sym, ap, ◌∙◌, subst, arith, take, drop, min, is_some, IsSome, ◌≢◌, ◌%◌}
 use Rattle.std.specs.declared.option.Option.{Option}
+use Rattle.std.proofs.lemmas.List.{nil_from_length}
 use Rattle.mg_dev.specs.Files.{Files}
 use Rattle.mg_dev.specs.Names.{full_name}
 use Rattle.mg_dev.specs.declared.part.Part.{Part}
@@ -73,11 +74,7 @@ other_apart base part is = absurd (omega (arith, is.low, is.high))
 
 -- nothing was put by a writer that stands at the first bit
 nothing_put : (w : BitWriting) (f : Option Files) → IsSome f → Holds w f → w.place ≡ 0 → bits_put w f ≡ []
-nothing_put w f told holds zero = empty (bits_put w f) (holds.count told ∙ zero)
-  where
-    empty : (bits : Bits) → length bits ≡ 0 → bits ≡ []
-    empty [] h = refl
-    empty (b ∷ bits) h = absurd (omega arith)
+nothing_put w f told holds zero = nil_from_length (bits_put w f) (holds.count told ∙ zero)
 
 -- the runs that a round leaves
 pub round_stored : (file places : List ℕ) (whole : List TermPosting) (width : ℕ) (next made : List ℕ) (f0 f1 : Option Files) (w0 w1 : BitWriting) (is : AreStored file places whole) →

@@ -121,10 +121,6 @@ put_start slots cursors file f w left has run room = record {
   room = room;
 }
 
--- a writer's refusal
-pub put_cause : (T : Type 0) (f g h : ℕ) (e : PartErr) → f ≤ g → HasPartCause {T = ℕ} g h (Err e) → HasPartCause {T = T} f h (Err e)
-put_cause T f g h e le cause = let later = cause.later in record { later = omega arith; device = caused_as ℕ T f g h e le cause.device }
-
 pub passed_none : (part : Part) (name : List ℕ) (f : Option Files) (r : Reads) (n : ℕ) → Passed part name f f r r n n
 passed_none part name f r n = record { told = refl; others = λ m apart. refl; later = λ p. omega arith; reads = λ p apart. refl; faults = omega arith }
 
@@ -158,6 +154,9 @@ passed_wrote wrote le = record {
 -- the bytes of a file that is not written to
 pub passed_bytes : {part : Part} {name other : List ℕ} {f g : Option Files} {r s : Reads} {m n : ℕ} → Passed part name f g r s m n → other ≢ name → bytes_at g other ≡ bytes_at f other
 passed_bytes {other = other} passed apart = ap (λ b. unwrap_or b []) (passed.others other apart)
+
+pub wrote_bytes : {name other : List ℕ} {f g : Option Files} {r s : Reads} → WroteTo name f g r s → other ≢ name → bytes_at g other ≡ bytes_at f other
+wrote_bytes {other = other} wrote apart = ap (λ b. unwrap_or b []) (wrote.others other apart)
 
 -- the number of postings, the postings and zero-bits to a byte are a run
 pub run_written : {f0 f1 f2 f3 : Option Files} {w0 w1 w2 w3 : BitWriting} {n : ℕ} (xs : List TermPosting) → w0.place % 8 ≡ 0 → n ≡ length xs →

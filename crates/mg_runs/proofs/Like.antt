@@ -1,8 +1,7 @@
 -- The group of like entries, step by step.
 use Rattle.std.proofs.Common.{◌≡◌, ℕ, zero, suc, ◌+◌, ◌-◌, ◌<◌, ◌≤◌, ◌⊎◌, inl, inr, List, [], ◌∷◌, length, refl, sym, ap, ◌∙◌, subst, arith, get_or, drop, map}
 use Rattle.std.specs.List.{AllByRecursion}
-use Rattle.std.proofs.lemmas.Grind.{common_steps}
-use Rattle.std.proofs.lemmas.List.{drop_more}
+use Rattle.std.proofs.lemmas.List.{drop_all, drop_more}
 use Rattle.mg_defs.specs.declared.TermPosting.{TermPosting}
 use Rattle.mg_defs.specs.Postings.{IsBefore, AllAfter, with_count, added, gathered}
 use Rattle.mg_runs.specs.PostingOrder.{NoLater, NotFalling, added_times}
@@ -71,7 +70,7 @@ after-rest : (entries : List (List ℕ)) (from next t d : ℕ) → from < next �
     (length entries ≤ next) ⊎ ((next < length entries) × ((number_in 0 (get_or entries next []) ≡ t → number_in 4 (get_or entries next []) ≡ d → ⊥))) →
     AllAfter (one_of t d) (map entry_in (drop next entries))
 after-rest entries from next t d h up p q (inl over) =
-    let none : drop next entries ≡ [] = grind (arith, common_steps) in
+    let none = drop_all next entries over in
     subst (λ xs. AllAfter (one_of t d) (map entry_in xs)) (sym none) tt
 after-rest entries from next t d h up p q (inr other) =
     let k : NoLater (entry_in (get_or entries from [])) (entry_in (get_or entries next [])) = no_later-far entries from next h other.0 up in

@@ -4,6 +4,7 @@ use Rattle.std.specs.List.{AllByRecursion, All}
 use Rattle.std.proofs.lemmas.Bool.{cases_eq}
 use Rattle.std.proofs.lemmas.Bool.Decides.{nat_tests}
 use Rattle.std.proofs.lemmas.List.{get_or-set_same, get_or-set_other}
+use Rattle.std.proofs.lemmas.List.Elements.{All-set, All-tail}
 use Rattle.std.proofs.lemmas.List.Sums.{sum_by-set, sum_by-cons}
 use Rattle.mg_defs.specs.declared.TermPosting.{TermPosting}
 use Rattle.mg_defs.specs.Postings.{IsBefore, AllAfter, RisingByTerm, AllCount, part_at, times, with_count, merged_two, merged}
@@ -22,9 +23,6 @@ pub times-merged : (t d : ℕ) (lefts : List (List TermPosting)) → times t d (
 times-merged t d [] = refl
 times-merged t d (run ∷ runs) =
     times-joined t d run (merged runs) ∙ ap (λ n. times t d run + n) (times-merged t d runs) ∙ sym (sum_by-cons (λ (left : List TermPosting). times t d left) run runs)
-
-All-tail : (P : List TermPosting → Type 0) (x : List TermPosting) (xs : List (List TermPosting)) → All P (x ∷ xs) → All P xs
-All-tail P x xs all k d h = all (suc k) d (omega arith)
 
 pub Rising-merged : (lefts : List (List TermPosting)) → All (λ left. IsRun left) lefts → RisingByTerm (merged lefts)
 Rising-merged [] all = tt
@@ -60,13 +58,6 @@ part-own p n = grind (arith, nat_tests)
 part-like : (p y : TermPosting) (t d : ℕ) → y.term ≡ p.term → y.doc ≡ p.doc → part_at t d y ≡ part_at t d (with_count p y.count)
 part-like p y t d a b = grind (arith, nat_tests)
 
-pub All-set : (xs : List (List TermPosting)) (i : ℕ) (y : List TermPosting) → All (λ l. IsRun l) xs → IsRun y → All (λ l. IsRun l) (set xs i y)
-All-set [] i y all one k d h = all k d h
-All-set (x ∷ xs) zero y all one zero d h = one
-All-set (x ∷ xs) zero y all one (suc k) d h = all (suc k) d (omega arith)
-All-set (x ∷ xs) (suc i) y all one zero d h = all 0 d (omega arith)
-All-set (x ∷ xs) (suc i) y all one (suc k) d h = All-set xs i y (All-tail (λ l. IsRun l) x xs all) one k d (omega arith)
-
 within : (xs : List (List TermPosting)) (i : ℕ) (y : TermPosting) (ys : List TermPosting) → get_or xs i [] ≡ y ∷ ys → i < length xs
 within [] i y ys e = absurd cc
 within (x ∷ xs) zero y ys e = omega arith
@@ -99,7 +90,7 @@ pub taking_first : (base : List (List TermPosting)) (w : ℕ) (p : TermPosting) 
 taking_first base w p ps runs e from =
     let run : IsRun (p ∷ ps) = run_at base w p ps runs e in
     record {
-      runs = All-set base w ps runs (tail_run p ps run);
+      runs = All-set (λ l. IsRun l) base w ps (tail_run p ps run) runs;
       from = λ k. elim (cases_eq k w) [
         | inl same ↦ subst (λ l. AllFrom p l) (sym (ap (λ n. get_or (set base w ps) n []) same ∙ get_or-set_same base w ps [] (within base w p ps e))) (after_like p p refl refl ps run.rising.0)
         | inr other ↦ subst (λ l. AllFrom p l) (sym (get_or-set_other base w k ps [] other)) (from k)
@@ -113,7 +104,7 @@ pub taking_more : (p : TermPosting) (base now : List (List TermPosting)) (count 
 taking_more p base now count w y ys t e a b =
     let run : IsRun (y ∷ ys) = run_at now w y ys t.runs e in
     record {
-      runs = All-set now w ys t.runs (tail_run y ys run);
+      runs = All-set (λ l. IsRun l) now w ys (tail_run y ys run) t.runs;
       from = λ k. elim (cases_eq k w) [
         | inl same ↦ subst (λ l. AllFrom p l) (sym (ap (λ n. get_or (set now w ys) n []) same ∙ get_or-set_same now w ys [] (within now w y ys e))) (after_like y p a b ys run.rising.0)
         | inr other ↦ subst (λ l. AllFrom p l) (sym (get_or-set_other now w k ys [] other)) (t.from k)

@@ -1,6 +1,6 @@
 -- Occurrences, their first ones and those behind these, and one more.
-use Rattle.std.proofs.Common.{◌≡◌, ℕ, zero, suc, ◌+◌, ◌-◌, ◌≤◌, List, [], ◌∷◌, ◌++◌, length, refl, arith, take, drop, map}
-use Rattle.std.proofs.lemmas.Grind.{common_steps}
+use Rattle.std.proofs.Common.{◌≡◌, ℕ, zero, suc, ◌+◌, ◌-◌, ◌≤◌, List, [], ◌∷◌, ◌++◌, length, length-append, refl, take, drop, map}
+use Rattle.std.proofs.lemmas.List.{drop-append-le, length-drop, drop_all as none_behind}
 use Rattle.mg_defs.specs.Postings.{once}
 use Rattle.mg_runs.specs.Bytes.{AreEntries}
 use Rattle.mg_runs.specs.Fed.{IsOccurrence, AreOccurrences}
@@ -8,16 +8,16 @@ use Rattle.mg_runs.specs.Fed.{IsOccurrence, AreOccurrences}
 -- ---- how many there are
 
 pub length_end : (s : List (ℕ × ℕ)) (o : ℕ × ℕ) → length (s ++ o ∷ []) ≡ length s + 1
-length_end s o = grind (arith, common_steps)
+length_end s o = length-append s (o ∷ [])
 
 pub length_rest : (s : List (ℕ × ℕ)) (k : ℕ) → length (drop k s) ≡ length s - k
-length_rest s k = grind (arith, common_steps)
+length_rest s k = length-drop k s
 
 pub drop_end : (s : List (ℕ × ℕ)) (k : ℕ) (o : ℕ × ℕ) → k ≤ length s → drop k (s ++ o ∷ []) ≡ drop k s ++ o ∷ []
-drop_end s k o h = grind (arith, common_steps)
+drop_end s k o h = drop-append-le k s (o ∷ []) h
 
 pub drop_all : (s : List (ℕ × ℕ)) (k : ℕ) → length s ≤ k → drop k s ≡ []
-drop_all s k h = grind (arith, common_steps)
+drop_all s k h = none_behind k s h
 
 -- ---- their terms and documents fit
 

@@ -1,9 +1,9 @@
 -- A run, one posting after the other.
 use Rattle.std.proofs.Common.{◌≡◌, ℕ, suc, ◌+◌, ◌-◌, ◌*◌, ◌<◌, ◌≤◌, List, [], ◌∷◌, ◌++◌, Ok, length, refl, sym, ap, ◌∙◌, subst, arith}
-use Rattle.std.proofs.Common.{drop, map, get_or, append_assoc}
+use Rattle.std.proofs.Common.{drop, map, get_or, append-nil, append_assoc}
 use Rattle.std.specs.List.{All}
 use Rattle.std.specs.declared.option.Option.{Option}
-use Rattle.std.proofs.lemmas.Grind.{common_steps}
+use Rattle.std.proofs.lemmas.List.{drop_all}
 use Rattle.mg_dev.specs.Files.{Files, Reads}
 use Rattle.mg_defs.specs.Codes.{gamma}
 use Rattle.mg_defs.specs.declared.TermPosting.{TermPosting}
@@ -77,10 +77,9 @@ pub on_run_end : {Store : Type 0} {files : Store → Option Files} {reads : Stor
     {entries : List (List ℕ)} {from : ℕ} {last : TermPosting} → IsOnRun files reads faults start now v w entries from last → length entries ≤ from →
     PutsBits {T = Unit {0}} (run_bits (gathered (map entry_in entries))) files reads faults v w start now (Ok tt)
 on_run_end {files = files} {reads = reads} {faults = faults} {start = start} {now = now} {v = v} {w = w} {entries = entries} {from = from} {last = last} run h =
-    let none : drop from entries ≡ [] = grind (arith, common_steps) in
+    let none = drop_all from entries h in
     let e : run.done ++ [] ≡ run_bits (gathered (map entry_in entries)) = ap (λ es. run.done ++ postings_bits last (gathered (map entry_in es))) (sym none) ∙ run.rest in
-    let f : run.done ≡ run.done ++ [] = grind (arith, common_steps) in
-    subst (λ bits. PutsBits {T = Unit {0}} bits files reads faults v w start now (Ok tt)) (f ∙ e) run.puts
+    subst (λ bits. PutsBits {T = Unit {0}} bits files reads faults v w start now (Ok tt)) (sym (append-nil run.done) ∙ e) run.puts
 
 added_some : (x : TermPosting) (xs : List TermPosting) → added x xs ≡ [] → ⊥
 added_some x [] e = cc

@@ -3,7 +3,7 @@ use Rattle.std.proofs.Common.{◌≡◌, ℕ, zero, suc, ◌+◌, ◌-◌, ◌*�
 use Rattle.std.specs.List.{AllByRecursion, All}
 use Rattle.std.specs.Prelude.{sum_by}
 use Rattle.std.specs.Simd.{first_chunks}
-use Rattle.std.proofs.Math.Nat.{div-mul-le_self}
+use Rattle.std.proofs.Math.Nat.{div-mul-le_self, lt-div-mul-add}
 use Rattle.std.proofs.lemmas.Bool.{cases_lt}
 use Rattle.std.proofs.lemmas.Bool.Decides.{nat_tests}
 use Rattle.std.proofs.lemmas.Nat.{div_below, le-div}
@@ -13,41 +13,27 @@ use Rattle.std.proofs.lemmas.List.Sums.{sum_by-cons, sum_by-take-drop, sum_by-ta
 use Rattle.mg_defs.specs.declared.TermPosting.{TermPosting}
 use Rattle.mg_defs.specs.Postings.{AllCount, part_at, times, added, merged_two, merged}
 use Rattle.mg_defs.proofs.Gathering.{added-cases, only_one}
+use Rattle.mg_runs.proofs.Chunks.{chunks-more}
 use Rattle.mg_runs.proofs.Segments.{map_end}
 use Rattle.mg_runs.specs.Decoding.{IsSmall}
 use Rattle.mg_runs.specs.Cursors.{IsRun}
 use Rattle.mg_runs.specs.Merging.{AreRuns, times_all}
-use Rattle.mg_runs.specs.Rounds.{groups_of, first_joined, joined_runs, all_postings, AreWritten}
+use Rattle.mg_runs.specs.Rounds.{groups_of, first_joined, joined_runs, all_postings, AreWritten, IsWritten}
 use Rattle.mg_runs.proofs.Merges.{times-merged, Rising-merged, AllCount-merged}
 
 -- ---- groups
 
-pub chunks_more : {X : Type 0} (n k : ℕ) (xs : List X) → first_chunks n (suc k) xs ≡ first_chunks n k xs ++ take n (drop (k * n) xs) ∷ []
-chunks_more n zero xs = let z : zero * n ≡ zero = omega arith in ap (λ t. take n (drop t xs) ∷ []) (sym z)
-chunks_more n (suc k) xs =
-    let one : n + k * n ≡ suc k * n = omega arith in
-    let e : drop (k * n) (drop n xs) ≡ drop (suc k * n) xs = drop-drop (k * n) n xs ∙ ap (λ m. drop m xs) one in
-    ap (λ t. take n xs ∷ t) (chunks_more n k (drop n xs) ∙ ap (λ t. first_chunks n k (drop n xs) ++ take n t ∷ []) e)
-
-pub groups_more : (w k : ℕ) (runs : List (List TermPosting)) → first_chunks w (suc k) runs ≡ first_chunks w k runs ++ take w (drop (k * w) runs) ∷ []
-groups_more w k runs = chunks_more w k runs
-
 -- one more group joined
 pub joined_more : (w k : ℕ) (runs : List (List TermPosting)) → first_joined w (suc k) runs ≡ first_joined w k runs ++ merged (take w (drop (k * w) runs)) ∷ []
 joined_more w k runs =
-    ap (λ t. map (λ group. merged group) t) (groups_more w k runs) ∙ map_end (λ group. merged group) (first_chunks w k runs) (take w (drop (k * w) runs))
-
-pub joined_next : (w k : ℕ) (runs : List (List TermPosting)) → first_joined w (k + 1) runs ≡ first_joined w k runs ++ merged (take w (drop (k * w) runs)) ∷ []
-joined_next w k runs =
-    let one : k + 1 ≡ suc k = omega arith in
-    ap (λ n. first_joined w n runs) one ∙ joined_more w k runs
+    ap (λ t. map (λ group. merged group) t) (chunks-more w k runs) ∙ map_end (λ group. merged group) (first_chunks w k runs) (take w (drop (k * w) runs))
 
 -- a quotient that is rounded up
 pub ceil_low : (n w : ℕ) → 1 ≤ w → (n + w - 1) / w * w < n + w
 ceil_low n w some = let h : (n + w - 1) / w * w ≤ n + w - 1 = div-mul-le_self (n + w - 1) w in omega arith
 
 pub ceil_high : (n w : ℕ) → 1 ≤ w → n ≤ (n + w - 1) / w * w
-ceil_high n w some = grind arith
+ceil_high n w some = let high = lt-div-mul-add {a = n + w - 1} {b = w} some in omega (arith, high)
 
 pub ceil_is : (n w q : ℕ) → 1 ≤ w → q * w < n + w → n ≤ q * w → (n + w - 1) / w ≡ q
 ceil_is n w q some low high =
@@ -55,45 +41,6 @@ ceil_is n w q some low high =
     let h : (n + w - 1) / w < suc q = div_below (n + w - 1) w (suc q) some (omega arith) in
     let l : q ≤ (n + w - 1) / w = le-div q (n + w - 1) w some (omega arith) in
     omega arith
-
-count_step : (n w : ℕ) → 1 ≤ w → 1 ≤ n → (n + w - 1) / w ≡ suc ((n - w + w - 1) / w)
-count_step n w some more =
-    let q : ℕ = (n - w + w - 1) / w in
-    let next : suc q * w ≡ w + q * w = omega arith in
-    let high : n - w ≤ q * w = ceil_high (n - w) w some in
-    let low : q * w < n - w + w = ceil_low (n - w) w some in
-    elim (cases_lt n w) as (λ _. (n + w - 1) / w ≡ suc q) [
-      | inl less ↦
-          let z : 0 * w ≡ 0 = omega arith in
-          let none : q ≡ 0 = ceil_is (n - w) w 0 some (omega arith) (omega arith) in
-          let one : q * w ≡ 0 = ap (λ k. k * w) none ∙ z in
-          ceil_is n w (suc q) some (omega arith) (omega arith)
-      | inr not ↦ ceil_is n w (suc q) some (omega arith) (omega arith)
-    ]
-
--- the first group, and those of the other runs
-pub groups_step : (w : ℕ) (runs : List (List TermPosting)) → 1 ≤ w → 1 ≤ length runs → groups_of w runs ≡ take w runs ∷ groups_of w (drop w runs)
-groups_step w runs some more =
-    ap (λ n. first_chunks w n runs) (count_step (length runs) w some more) ∙ ap (λ n. take w runs ∷ first_chunks w ((n + w - 1) / w) (drop w runs)) (sym (length-drop w runs))
-
--- where the groups so far have all runs, they are all groups
-pub groups_all : (w k : ℕ) (runs : List (List TermPosting)) → 1 ≤ w → length runs ≤ k * w → (k - 1) * w < length runs → first_joined w k runs ≡ joined_runs w runs
-groups_all w zero runs some high low = let z : zero * w ≡ 0 = omega arith in absurd (omega arith)
-groups_all w (suc k) runs some high low =
-    let one : suc k - 1 ≡ k = omega arith in
-    let less : k * w < length runs = subst (λ n. n * w < length runs) one low in
-    let next : suc k * w ≡ w + k * w = omega arith in
-    ap (λ n. first_joined w n runs) (sym (ceil_is (length runs) w (suc k) some (omega arith) high))
-
-pub length_chunks : {X : Type 0} (n k : ℕ) (xs : List X) → length (first_chunks n k xs) ≡ k
-length_chunks n zero xs = refl
-length_chunks n (suc k) xs = ap (λ m. suc m) (length_chunks n k (drop n xs))
-
-pub length_first_joined : (w k : ℕ) (runs : List (List TermPosting)) → length (first_joined w k runs) ≡ k
-length_first_joined w k runs = length-map (first_chunks w k runs) (λ group. merged group) ∙ length_chunks w k runs
-
-pub length_joined_runs : (w : ℕ) (runs : List (List TermPosting)) → length (joined_runs w runs) ≡ (length runs + w - 1) / w
-length_joined_runs w runs = length_first_joined w ((length runs + w - 1) / w) runs
 
 less_than_product : (a b : ℕ) → 2 + a + (2 + b) - 1 < (2 + a) * (2 + b)
 less_than_product a b = omega arith
@@ -103,13 +50,6 @@ fewer n w more some =
     let a : 2 + (n - 2) ≡ n = omega arith in
     let b : 2 + (w - 2) ≡ w = omega arith in
     subst (λ k. k + w - 1 < k * w) a (subst (λ k. 2 + (n - 2) + k - 1 < (2 + (n - 2)) * k) b (less_than_product (n - 2) (w - 2)))
-
-pub fewer_groups : (n w : ℕ) → 2 ≤ w → 2 ≤ n → (n + w - 1) / w < n
-fewer_groups n w more some = div_below (n + w - 1) w n (omega arith) (fewer n w more some)
-
--- a round leaves fewer runs
-pub fewer_runs : (w : ℕ) (runs : List (List TermPosting)) → 2 ≤ w → 2 ≤ length runs → length (joined_runs w runs) < length runs
-fewer_runs w runs more some = omega (arith, fewer_groups (length runs) w more some, length_joined_runs w runs)
 
 more_groups : (k r w n : ℕ) → (suc k + r) * w < n + w → k * w < n
 more_groups k r w n h =
@@ -243,17 +183,13 @@ length_joined : (xs ys : List TermPosting) → length (merged_two xs ys) ≤ len
 length_joined [] ys = omega arith
 length_joined (x ∷ xs) ys = let a = (length_added x (merged_two xs ys)).most in omega (arith, length_joined xs ys)
 
-joined_more_than : (xs ys : List TermPosting) → length ys ≤ length (merged_two xs ys)
-joined_more_than [] ys = omega arith
-joined_more_than (x ∷ xs) ys = let a = (length_added x (merged_two xs ys)).least in omega (arith, joined_more_than xs ys)
-
 pub length_merged : (runs : List (List TermPosting)) → length (merged runs) ≤ all_postings runs
 length_merged [] = omega arith
 length_merged (run ∷ runs) = omega (arith, length_joined run (merged runs), length_merged runs, sum_by-cons (λ (l : List TermPosting). length l) run runs)
 
-pub some_merged : (runs : List (List TermPosting)) → 1 ≤ length runs → All (λ run. 1 ≤ length run) runs → 1 ≤ length (merged runs)
+pub some_merged : (runs : List (List TermPosting)) → 1 ≤ length runs → All (λ run. IsWritten run) runs → 1 ≤ length (merged runs)
 some_merged [] more all = absurd (omega arith)
-some_merged (run ∷ runs) more all = first_some run (all 0 run (omega arith))
+some_merged (run ∷ runs) more all = first_some run ((all 0 run (omega arith)).some)
   where
     first_some : (run : List TermPosting) → 1 ≤ length run → 1 ≤ length (merged_two run (merged runs))
     first_some [] h = absurd (omega arith)
@@ -269,39 +205,37 @@ pub all_joined : (w : ℕ) (runs : List (List TermPosting)) → all_postings (jo
 all_joined w runs = all_first_joined w ((length runs + w - 1) / w) runs
 
 -- no run is empty, so there are no more runs than postings
-runs_at_most : (runs : List (List TermPosting)) → All (λ run. 1 ≤ length run) runs → length runs ≤ all_postings runs
+runs_at_most : (runs : List (List TermPosting)) → All (λ run. IsWritten run) runs → length runs ≤ all_postings runs
 runs_at_most [] all = omega arith
 runs_at_most (run ∷ runs) all =
-    let one : 1 ≤ length run = all 0 run (omega arith) in
-    omega (arith, one, sum_by-cons (λ (l : List TermPosting). length l) run runs, runs_at_most runs (All-tail (λ l. 1 ≤ length l) run runs all))
+    let one : 1 ≤ length run = (all 0 run (omega arith)).some in
+    omega (arith, one, sum_by-cons (λ (l : List TermPosting). length l) run runs, runs_at_most runs (All-tail (λ l. IsWritten l) run runs all))
 
 -- a part of the runs has fewer postings than all of them
-slice_less : (n k : ℕ) (runs : List (List TermPosting)) → n < length runs → All (λ run. 1 ≤ length run) runs → all_postings (take n (drop k runs)) < all_postings runs
+slice_less : (n k : ℕ) (runs : List (List TermPosting)) → n < length runs → All (λ run. IsWritten run) runs → all_postings (take n (drop k runs)) < all_postings runs
 slice_less n k runs less all =
     let f : List TermPosting → ℕ = λ l. length l in
-    let rest : All (λ run. 1 ≤ length run) (drop k runs) = All-drop (λ l. 1 ≤ length l) k runs all in
-    let a = runs_at_most (take k runs) (All-take (λ l. 1 ≤ length l) k runs all) in
-    let b = runs_at_most (drop n (drop k runs)) (All-drop (λ l. 1 ≤ length l) n (drop k runs) rest) in
+    let rest : All (λ run. IsWritten run) (drop k runs) = All-drop (λ l. IsWritten l) k runs all in
+    let a = runs_at_most (take k runs) (All-take (λ l. IsWritten l) k runs all) in
+    let b = runs_at_most (drop n (drop k runs)) (All-drop (λ l. IsWritten l) n (drop k runs) rest) in
     omega (arith, a, b, sum_by-take-drop f runs k, sum_by-take-drop f (drop k runs) n, length-take k runs, length-drop n (drop k runs), length-drop k runs)
 
 pub written_slice : (n k : ℕ) (runs : List (List TermPosting)) → AreWritten runs → AreWritten (take n (drop k runs))
 written_slice n k runs is = record {
   are = runs_slice n k runs is.are;
-  some = All-take (λ l. 1 ≤ length l) n (drop k runs) (All-drop (λ l. 1 ≤ length l) k runs is.some);
-  short = All-take (λ l. 1 + length l < 2 ^ 32) n (drop k runs) (All-drop (λ l. 1 + length l < 2 ^ 32) k runs is.short);
+  each = All-take (λ l. IsWritten l) n (drop k runs) (All-drop (λ l. IsWritten l) k runs is.each);
   few = omega (arith, is.few, sum_of_slice (λ l. length l) n k runs);
 }
 
 -- a group that is joined can be written
 pub group_is : (w k : ℕ) (runs : List (List TermPosting)) → 1 ≤ w → w < length runs → k * w < length runs → AreWritten runs →
-    IsRun (merged (take w (drop (k * w) runs))) × (1 ≤ length (merged (take w (drop (k * w) runs)))) × (1 + length (merged (take w (drop (k * w) runs))) < 2 ^ 32)
+    IsRun (merged (take w (drop (k * w) runs))) × IsWritten (merged (take w (drop (k * w) runs)))
 group_is w k runs some more less is =
     let group : List (List TermPosting) = take w (drop (k * w) runs) in
     let whole : AreWritten group = written_slice w (k * w) runs is in
     let there : 1 ≤ length group = omega (arith, length-take w (drop (k * w) runs), length-drop (k * w) runs) in (
       run_merged group whole.are,
-      some_merged group there whole.some,
-      omega (arith, length_merged group, slice_less w (k * w) runs more is.some, is.few),
+      record { some = some_merged group there whole.each; short = omega (arith, length_merged group, slice_less w (k * w) runs more is.each, is.few) },
     )
 
 pub written_joined : (w : ℕ) (runs : List (List TermPosting)) → 1 ≤ w → w < length runs → AreWritten runs → AreWritten (joined_runs w runs)
@@ -309,7 +243,6 @@ written_joined w runs some more is =
     let count : ℕ = (length runs + w - 1) / w in
     record {
       are = runs_joined w runs some is.are;
-      some = all_groups (λ l. 1 ≤ length l) w count runs (λ i less. (group_is w i runs some more (some_group w i (length runs) some less) is).1);
-      short = all_groups (λ l. 1 + length l < 2 ^ 32) w count runs (λ i less. (group_is w i runs some more (some_group w i (length runs) some less) is).2);
+      each = all_groups (λ l. IsWritten l) w count runs (λ i less. (group_is w i runs some more (some_group w i (length runs) some less) is).1);
       few = omega (arith, is.few, all_joined w runs);
     }

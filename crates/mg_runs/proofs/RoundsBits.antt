@@ -15,7 +15,7 @@ use Rattle.mg_defs.proofs.BitLaws.{length_digits}
 use Rattle.mg_runs.specs.Cursors.{IsRun, IsRunAt}
 use Rattle.mg_runs.specs.Fed.{starts}
 use Rattle.mg_runs.specs.Merging.{AreRunsAt}
-use Rattle.mg_runs.specs.Rounds.{first_joined, all_postings, AreWritten}
+use Rattle.mg_runs.specs.Rounds.{first_joined, all_postings, AreWritten, IsWritten}
 use Rattle.mg_runs.proofs.Short.{gamma_short}
 use Rattle.mg_runs.proofs.Decoding.{behind_code}
 use Rattle.mg_runs.proofs.CursorLaws.{after_start, posting_short, place_below}
@@ -43,37 +43,36 @@ to_byte_short n = omega arith
 pub run_whole : (run : List TermPosting) → length (filled (run_bits run)) % 8 ≡ 0
 run_whole run = ap (λ n. n % 8) (length_filled (run_bits run)) ∙ to_next_byte (length (run_bits run))
 
-pub run_short : (run : List TermPosting) → IsRun run → 1 ≤ length run → 1 + length run < 2 ^ 32 → length (filled (run_bits run)) ≤ 80 + 198 * length run
+pub run_short : (run : List TermPosting) → IsRun run → IsWritten run → length (filled (run_bits run)) ≤ 80 + 198 * length run
 unfolding run_bits
-run_short run is some few =
+run_short run is written =
+    let few = written.short in
     let bits : Bits = postings_bits before_first run in
-    let head : length (gamma (length run)) ≤ 66 = gamma_short (length run) some (omega arith) in
+    let head : length (gamma (length run)) ≤ 66 = gamma_short (length run) written.some (omega arith) in
     let rest : length bits ≤ 198 * length run = postings_short before_first run (after_start run is.small) is in
     let all : length (gamma (length run) ++ bits) ≡ length (gamma (length run)) + length bits = length-append (gamma (length run)) bits in
     let pad : to_byte (length (gamma (length run) ++ bits)) ≤ 7 = to_byte_short (length (gamma (length run) ++ bits)) in
     let size = length_filled (gamma (length run) ++ bits) in
     omega (arith, head, rest, all, pad, size)
 
-pub runs_short_by : (runs : List (List TermPosting)) → All (λ run. IsRun run) runs → All (λ run. 1 ≤ length run) runs →
-    All (λ run. 1 + length run < 2 ^ 32) runs → length (runs_bits runs) ≤ 512 * all_postings runs
-runs_short_by [] is some few = omega arith
-runs_short_by (run ∷ runs) is some few =
-    let more : 1 ≤ length run = some 0 run (omega arith) in
-    let one : length (filled (run_bits run)) ≤ 80 + 198 * length run = run_short run (is 0 run (omega arith)) more (few 0 run (omega arith)) in
-    let rest = runs_short_by runs (All-tail (λ l. IsRun l) run runs is) (All-tail (λ l. 1 ≤ length l) run runs some) (All-tail (λ l. 1 + length l < 2 ^ 32) run runs few) in
-    omega (arith, more, one, rest, length-append (filled (run_bits run)) (runs_bits runs), sum_by-cons (λ (l : List TermPosting). length l) run runs)
+pub runs_short_by : (runs : List (List TermPosting)) → All (λ run. IsRun run) runs → All (λ run. IsWritten run) runs → length (runs_bits runs) ≤ 512 * all_postings runs
+runs_short_by [] is written = omega arith
+runs_short_by (run ∷ runs) is written =
+    let first : IsWritten run = written 0 run (omega arith) in
+    let one : length (filled (run_bits run)) ≤ 80 + 198 * length run = run_short run (is 0 run (omega arith)) first in
+    let rest = runs_short_by runs (All-tail (λ l. IsRun l) run runs is) (All-tail (λ l. IsWritten l) run runs written) in
+    omega (arith, first.some, one, rest, length-append (filled (run_bits run)) (runs_bits runs), sum_by-cons (λ (l : List TermPosting). length l) run runs)
 
 -- the runs are short
 pub runs_short : (runs : List (List TermPosting)) → AreWritten runs → length (runs_bits runs) ≤ 512 * all_postings runs
-runs_short runs is = runs_short_by runs is.are.runs is.some is.short
+runs_short runs is = runs_short_by runs is.are.runs is.each
 
 -- so are those that a round has written so far
 pub first_joined_short : (w k : ℕ) (runs : List (List TermPosting)) → 1 ≤ w → w < length runs → k ≤ (length runs + w - 1) / w → AreWritten runs →
     length (runs_bits (first_joined w k runs)) ≤ 512 * all_postings runs
 first_joined_short w k runs some more within is =
     let bound = runs_short_by (first_joined w k runs) (first_joined_run w k runs is.are)
-    (all_groups (λ l. 1 ≤ length l) w k runs (λ i less. (group_is w i runs some more (some_group w i (length runs) some (omega arith)) is).1))
-    (all_groups (λ l. 1 + length l < 2 ^ 32) w k runs (λ i less. (group_is w i runs some more (some_group w i (length runs) some (omega arith)) is).2)) in
+    (all_groups (λ l. IsWritten l) w k runs (λ i less. (group_is w i runs some more (some_group w i (length runs) some (omega arith)) is).1)) in
     omega (arith, bound, all_first_joined w k runs)
 
 pub runs_whole : (runs : List (List TermPosting)) → length (runs_bits runs) % 8 ≡ 0
@@ -113,13 +112,13 @@ cons_at file place places run runs one rest = record {
     here zero h = one
     here (suc k) h = rest.at k (omega arith)
 
-first_run_at : (file : List ℕ) (place : ℕ) (run : List TermPosting) (rest : Bits) → IsRun run → 1 ≤ length run → 1 + length run < 2 ^ 32 →
+first_run_at : (file : List ℕ) (place : ℕ) (run : List TermPosting) (rest : Bits) → IsRun run → IsWritten run →
     drop place (bits_of file) ≡ filled (run_bits run) ++ rest → place ≤ length (bits_of file) → length (bits_of file) ≤ 2 ^ 61 →
     IsRunAt file place run
 unfolding filled
-first_run_at file place run rest is some few e below short = record {
-  some = some;
-  few = few;
+first_run_at file place run rest is written e below short = record {
+  some = written.some;
+  few = written.short;
   run = is;
   more = digits (to_byte (length (run_bits run))) 0 ++ rest;
   bits = e ∙ append_assoc (run_bits run) (digits (to_byte (length (run_bits run))) 0) rest;
@@ -128,21 +127,20 @@ first_run_at file place run rest is some few e below short = record {
 }
 
 runs_from : (file : List ℕ) (at : ℕ) (runs : List (List TermPosting)) (more : Bits) → drop at (bits_of file) ≡ runs_bits runs ++ more →
-    at ≤ length (bits_of file) → length (bits_of file) ≤ 2 ^ 61 → All (λ run. IsRun run) runs → All (λ run. 1 ≤ length run) runs →
-    All (λ run. 1 + length run < 2 ^ 32) runs → AreRunsAt file (starts at runs) runs
-runs_from file at [] more e below short is some few = record { size = refl; at = λ k h. absurd (omega arith) }
-runs_from file at (run ∷ runs) more e below short is some few =
+    at ≤ length (bits_of file) → length (bits_of file) ≤ 2 ^ 61 → All (λ run. IsRun run) runs → All (λ run. IsWritten run) runs → AreRunsAt file (starts at runs) runs
+runs_from file at [] more e below short is written = record { size = refl; at = λ k h. absurd (omega arith) }
+runs_from file at (run ∷ runs) more e below short is written =
     let code : Bits = filled (run_bits run) in
     let rest : Bits = runs_bits runs ++ more in
     let split : drop at (bits_of file) ≡ code ++ rest = e ∙ append_assoc code (runs_bits runs) more in
     cons_at file at (starts (at + length code) runs) run runs
-    (first_run_at file at run rest (is 0 run (omega arith)) (some 0 run (omega arith)) (few 0 run (omega arith)) split below short)
+    (first_run_at file at run rest (is 0 run (omega arith)) (written 0 run (omega arith)) split below short)
     (runs_from file (at + length code) runs more (behind_code at (bits_of file) code rest split) (place_below at (bits_of file) code rest below split) short
-    (All-tail (λ l. IsRun l) run runs is) (All-tail (λ l. 1 ≤ length l) run runs some) (All-tail (λ l. 1 + length l < 2 ^ 32) run runs few))
+    (All-tail (λ l. IsRun l) run runs is) (All-tail (λ l. IsWritten l) run runs written))
 
 pub runs_at : (file : List ℕ) (runs : List (List TermPosting)) (more : Bits) → bits_of file ≡ runs_bits runs ++ more → length (bits_of file) ≤ 2 ^ 61 →
     AreWritten runs → AreRunsAt file (starts 0 runs) runs
-runs_at file runs more e short is = runs_from file 0 runs more e (omega arith) short is.are.runs is.some is.short
+runs_at file runs more e short is = runs_from file 0 runs more e (omega arith) short is.are.runs is.each
 
 -- where a file is the runs' bits, these stand at their places
 pub all_runs_at : (file : List ℕ) (runs : List (List TermPosting)) → bits_of file ≡ runs_bits runs → AreWritten runs → AreRunsAt file (starts 0 runs) runs

@@ -17,13 +17,14 @@ use Rattle.mg_runs.specs.FinishedRuns.{finished}
 use Rattle.mg_defs.proofs.Gathering.{Rising-gathered, AllCount-gathered, times-gathered}
 use Rattle.mg_defs.proofs.Joining.{AllCount-once, merged-all}
 use Rattle.mg_runs.proofs.Occurrences.{occurrences_drop, occurrences_take}
+use Rattle.mg_runs.proofs.Chunks.{chunks-more, length-chunks}
 use Rattle.mg_runs.proofs.Segments.{map_end, rest_fits}
 use Rattle.mg_runs.specs.Cursors.{IsRun}
 use Rattle.mg_runs.specs.Fed.{IsOccurrence, AreOccurrences, starts}
 use Rattle.mg_runs.specs.Merging.{AreRuns}
-use Rattle.mg_runs.specs.Rounds.{all_postings, AreWritten}
+use Rattle.mg_runs.specs.Rounds.{all_postings, AreWritten, IsWritten}
 use Rattle.mg_runs.proofs.Merges.{times-merged}
-use Rattle.mg_runs.proofs.Rounds.{IsPlaced, placed_added, small_of, length_added, chunks_more, length_chunks, ceil_is, some_group}
+use Rattle.mg_runs.proofs.Rounds.{IsPlaced, placed_added, small_of, length_added, ceil_is, some_group}
 use Rattle.mg_runs.proofs.RoundsBits.{runs_bits_more, starts_more}
 
 -- ---- one run
@@ -43,21 +44,6 @@ times_at_most t d (o ∷ s) = omega (arith, part_once t d o, times_at_most t d s
 
 pub times_postings : (t d : ℕ) (s : List (ℕ × ℕ)) → times t d (term_postings s) ≤ length s
 times_postings t d s = omega (arith, times-gathered t d (map once s), times_at_most t d s)
-
--- whether it is this term in this document
-abbrev pub is_here : ℕ → ℕ → ℕ × ℕ → Bool
-is_here t d o = (o.0 == t) && (o.1 == d)
-
-part_here : (t d : ℕ) (o : ℕ × ℕ) → part_at t d (once o) ≡ cond (is_here t d o) 1 0
-part_here t d o = grind (arith, nat_tests)
-
-times_once : (t d : ℕ) (s : List (ℕ × ℕ)) → times t d (map once s) ≡ count_by (λ o. is_here t d o) s
-times_once t d [] = refl
-times_once t d (o ∷ s) = omega (arith, part_here t d o, times_once t d s, sum_by-cons (λ (o : ℕ × ℕ). cond (is_here t d o) 1 0) o s)
-
--- a term stands in a document as often as it occurs there
-pub times_counted : (t d : ℕ) (s : List (ℕ × ℕ)) → times t d (term_postings s) ≡ count_by (λ o. is_here t d o) s
-times_counted t d s = times-gathered t d (map once s) ∙ times_once t d s
 
 -- the postings of occurrences are a run
 pub postings_run : (s : List (ℕ × ℕ)) → AreOccurrences s → length s < 2 ^ 32 → IsRun (term_postings s)
@@ -83,21 +69,14 @@ runs_are cap (suc count) s all few =
     (postings_run (take cap s) (occurrences_take cap s all) (omega (arith, few, length-take cap s)))
     (runs_are cap count (drop cap s) (occurrences_drop cap s all) (omega (arith, few, length-drop cap s)))
 
-runs_some : (cap count : ℕ) (s : List (ℕ × ℕ)) → 1 ≤ cap → ((i : ℕ) → i < count → i * cap < length s) → All (λ run. 1 ≤ length run) (first_runs cap count s)
-runs_some cap zero s some more = All-nil (λ run. 1 ≤ length run)
-runs_some cap (suc count) s some more =
+runs_written : (cap count : ℕ) (s : List (ℕ × ℕ)) → 1 ≤ cap → cap < 2 ^ 31 → ((i : ℕ) → i < count → i * cap < length s) → All (λ run. IsWritten run) (first_runs cap count s)
+runs_written cap zero s some small more = All-nil (λ run. IsWritten run)
+runs_written cap (suc count) s some small more =
     let z : 0 * cap ≡ 0 = omega arith in
     let there : 1 ≤ length (take cap s) = omega (arith, more 0 (omega arith), z, length-take cap s) in
-    All-cons (λ run. 1 ≤ length run) (term_postings (take cap s)) (first_runs cap count (drop cap s))
-    (some_postings (take cap s) there)
-    (runs_some cap count (drop cap s) some (λ i less. let next : suc i * cap ≡ cap + i * cap = omega arith in omega (arith, more (suc i) (omega arith), next, length-drop cap s)))
-
-runs_short : (cap count : ℕ) (s : List (ℕ × ℕ)) → cap < 2 ^ 31 → All (λ run. 1 + length run < 2 ^ 32) (first_runs cap count s)
-runs_short cap zero s small = All-nil (λ run. 1 + length run < 2 ^ 32)
-runs_short cap (suc count) s small =
-    All-cons (λ run. 1 + length run < 2 ^ 32) (term_postings (take cap s)) (first_runs cap count (drop cap s))
-    (omega (arith, small, length_postings (take cap s), length-take cap s))
-    (runs_short cap count (drop cap s) small)
+    All-cons (λ run. IsWritten run) (term_postings (take cap s)) (first_runs cap count (drop cap s))
+    (record { some = some_postings (take cap s) there; short = omega (arith, small, length_postings (take cap s), length-take cap s) })
+    (runs_written cap count (drop cap s) some small (λ i less. let next : suc i * cap ≡ cap + i * cap = omega arith in omega (arith, more (suc i) (omega arith), next, length-drop cap s)))
 
 pub all_first_runs : (cap count : ℕ) (s : List (ℕ × ℕ)) → all_postings (first_runs cap count s) ≤ length s
 all_first_runs cap zero s = omega arith
@@ -125,8 +104,7 @@ fed_written cap fed some small all few =
     } in
     record {
       are = are;
-      some = runs_some cap count fed some (λ i less. some_group cap i (length fed) some less);
-      short = runs_short cap count fed small;
+      each = runs_written cap count fed some small (λ i less. some_group cap i (length fed) some less);
       few = omega (arith, few, fed_all cap fed);
     }
 
@@ -138,7 +116,7 @@ runs_count cap n some more =
     ap (λ m. m / cap) order ∙ add-div_right (n - 1) some
 
 pub length_runs_of : (cap : ℕ) (fed : List (ℕ × ℕ)) → length (runs_of cap fed) ≡ (length fed + cap - 1) / cap
-length_runs_of cap fed = length-map (first_chunks cap ((length fed + cap - 1) / cap) fed) (λ s. term_postings s) ∙ length_chunks cap ((length fed + cap - 1) / cap) fed
+length_runs_of cap fed = length-map (first_chunks cap ((length fed + cap - 1) / cap) fed) (λ s. term_postings s) ∙ length-chunks cap ((length fed + cap - 1) / cap) fed
 
 pub runs_of_none : (cap : ℕ) → 1 ≤ cap → runs_of cap [] ≡ []
 runs_of_none cap some =
@@ -153,7 +131,7 @@ runs_of_last cap fed some more =
     let one : q + 1 ≡ suc q = omega arith in
     let all : take cap rest ≡ rest = take_all cap rest (omega (arith, length-drop (q * cap) fed, rest_fits cap (length fed) some)) in
     ap (λ k. first_runs cap k fed) (runs_count cap (length fed) some more ∙ one)
-    ∙ ap (λ t. map (λ s. term_postings s) t) (chunks_more cap q fed)
+    ∙ ap (λ t. map (λ s. term_postings s) t) (chunks-more cap q fed)
     ∙ map_end (λ s. term_postings s) (first_chunks cap q fed) (take cap rest)
     ∙ ap (λ t. first_runs cap q fed ++ term_postings t ∷ []) all
 

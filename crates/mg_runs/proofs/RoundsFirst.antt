@@ -1,7 +1,7 @@
 -- The first runs, once the last of them is written; and the last runs, opened.
 use Rattle.std.proofs.Common.{◌≡◌, ℕ, ◌-◌, ◌*◌, ◌/◌, ◌%◌, ◌<◌, ◌≤◌, ◌^◌, List, [], ◌∷◌, ◌++◌, length, refl, sym, ap, ◌∙◌, arith, drop, IsSome, append-nil}
 use Rattle.std.specs.declared.option.Option.{Option}
-use Rattle.std.proofs.lemmas.Nat.{div_below}
+use Rattle.std.proofs.lemmas.List.{nil_from_length}
 use Rattle.mg_dev.specs.Files.{Files}
 use Rattle.mg_defs.specs.declared.TermPosting.{TermPosting}
 use Rattle.mg_defs.specs.Bits.{Bits, bits_of, digits, filled, to_byte}
@@ -14,7 +14,7 @@ use Rattle.mg_runs.specs.Fed.{Inverting, IsFed, cap_of, starts}
 use Rattle.mg_runs.specs.Merging.{AreLeft, StandFor}
 use Rattle.mg_runs.specs.Rounds.{AreStored}
 use Rattle.mg_runs.specs.declared.cursor.Cursor.{Cursor}
-use Rattle.mg_runs.proofs.Segments.{finished-low}
+use Rattle.mg_runs.proofs.Segments.{finished-low, none_finished}
 use Rattle.mg_runs.proofs.Feeding.{fed_length}
 use Rattle.mg_runs.proofs.RoundsFed.{runs_of_none, bits_of_last, starts_of_last}
 use Rattle.mg_runs.proofs.RoundsLoop.{stored_fed, stored_count}
@@ -66,13 +66,10 @@ no_runs runs files fed is none =
     let cap : ℕ = cap_of runs.pool in
     let some = (fed_cap runs files fed is).0 in
     let empty : fed ≡ [] = fed_none runs files fed is none in
-    let zero_finished : finished cap 0 ≡ 0 = div_is_none cap some in (
+    let zero_finished = none_finished cap some in (
       ap (λ s. first_runs cap (finished cap (length s)) s) empty ∙ ap (λ k. first_runs cap k []) zero_finished,
       ap (λ s. runs_of cap s) empty ∙ runs_of_none cap some,
     )
-  where
-    div_is_none : (cap : ℕ) → 1 ≤ cap → finished cap 0 ≡ 0
-    div_is_none cap some = let h : 0 / cap < 1 = div_below 0 cap 1 some (omega arith) in omega arith
 
 pub fed_bits_none : (runs : Inverting) (files : Option Files) (fed : List (ℕ × ℕ)) → IsFed runs files fed → length runs.pool.entries ≡ 0 →
     IsSome files → bits_put runs.writer files ≡ run_part_bits (cap_of runs.pool) fed
@@ -108,8 +105,4 @@ stored_left slots cursors file places whole is stand = record { lefts = is.runs;
 -- where there are no runs there is no posting
 pub stored_none : (file places : List ℕ) (whole : List TermPosting) → AreStored file places whole → length places ≡ 0 → whole ≡ []
 stored_none file places whole is none =
-    none_of is.runs (stored_count file places whole is ∙ none) is.same
-  where
-    none_of : (runs : List (List TermPosting)) → length runs ≡ 0 → merged runs ≡ whole → whole ≡ []
-    none_of [] h e = sym e
-    none_of (run ∷ runs) h e = absurd (omega arith)
+    sym is.same ∙ ap (λ runs. merged runs) (nil_from_length is.runs (stored_count file places whole is ∙ none))

@@ -1,6 +1,7 @@
 -- A round, group by group, and one round after another.
 use Rattle.std.proofs.Common.{◌≡◌, ℕ, zero, suc, ◌+◌, ◌-◌, ◌*◌, ◌/◌, ◌%◌, ◌<◌, ◌≤◌, ◌^◌, min, max, List, [], ◌∷◌, ◌++◌, length, refl, sym, ap, ◌∙◌, subst, arith, take, drop, length-drop, length-take}
 use Rattle.std.proofs.lemmas.List.{take_min}
+use Rattle.std.proofs.lemmas.Grind.{div_ceil_times}
 use Rattle.std.proofs.lemmas.Nat.{le-div}
 use Rattle.mg_defs.specs.Heads.{run_count}
 use Rattle.mg_defs.specs.declared.TermPosting.{TermPosting}
@@ -12,7 +13,7 @@ use Rattle.mg_defs.proofs.Joining.{merged-all}
 use Rattle.mg_runs.specs.Fed.{AreOccurrences, starts}
 use Rattle.mg_runs.specs.Merging.{AreRunsAt}
 use Rattle.mg_runs.specs.Rounds.{first_joined, joined_runs, AreWritten, AreStored, AreJoined, IsGroupAt, AreCounted}
-use Rattle.mg_runs.proofs.Rounds.{joined_more, ceil_is, runs_slice, group_is, written_joined, merged_joined, fewer_runs, fewer_groups, length_first_joined}
+use Rattle.mg_runs.proofs.Rounds.{joined_more, ceil_is, runs_slice, group_is, written_joined, merged_joined}
 use Rattle.mg_runs.proofs.RoundsBits.{runs_bits_more, runs_whole, first_joined_short, length_starts, starts_more, all_runs_at, runs_at_slice}
 use Rattle.mg_runs.proofs.RoundsFed.{fed_written, length_runs_of}
 
@@ -28,9 +29,6 @@ pub group_slice : {X : Type 0} (w at end : ℕ) (xs : List X) → end ≡ min (a
 group_slice w at end xs e less =
     let size : end - at ≡ min w (length (drop at xs)) = omega (arith, e, less, length-drop at xs) in
     ap (λ n. take n (drop at xs)) size ∙ take_min w (drop at xs)
-
-pub length_group : {X : Type 0} (w at end : ℕ) (xs : List X) → end ≡ min (at + w) (length xs) → at < length xs → length (take w (drop at xs)) ≡ end - at
-length_group w at end xs e less = omega (arith, e, less, length-take w (drop at xs), length-drop at xs)
 
 pub joined_group : (w at end : ℕ) (runs : List (List TermPosting)) (bits : Bits) (places : List ℕ) → AreJoined w runs at bits places →
     at < length runs → end ≡ min (at + w) (length runs) →
@@ -81,8 +79,8 @@ group_at w at runs bits places is some more less written =
     subst (λ n. IsGroupAt (take w (drop n runs)) (length bits)) there (record {
       are = runs_slice w (k * w) runs written.are;
       run = group.0;
-      some = group.1;
-      few = group.2;
+      some = group.1.some;
+      few = group.1.short;
       below = omega (arith, size, short, few);
       whole = subst (λ n. n % 8 ≡ 0) (sym size) (runs_whole (first_joined w k runs));
     })
@@ -91,11 +89,6 @@ group_at w at runs bits places is some more less written =
 
 pub length_slice : {X : Type 0} (at end : ℕ) (xs : List X) → end ≤ length xs → length (take (end - at) (drop at xs)) ≡ end - at
 length_slice at end xs within = omega (arith, within, length-take (end - at) (drop at xs), length-drop at xs)
-
-pub counted_none : (w many : ℕ) → 1 ≤ w → AreCounted w many 0 0
-counted_none w many some =
-    let z : 0 * w ≡ 0 = omega arith in
-    record { next = omega arith; last = omega arith }
 
 pub counted_more : (w many at end count : ℕ) → AreCounted w many at count → at < many → end ≡ min (at + w) many → AreCounted w many end (count + 1)
 counted_more w many at end count is less e =
@@ -107,18 +100,6 @@ pub counted_all : (w many at count : ℕ) → AreCounted w many at count → 1 �
 counted_all w many at count is some all =
     let here = is.next in
     sym (ceil_is many w count some is.last (omega arith))
-
-pub counted_fewer : (w many at count : ℕ) → AreCounted w many at count → 2 ≤ w → 2 ≤ many → many ≤ at → (1 ≤ count) × (count < many)
-counted_fewer w many at count is more some all =
-    let e : count ≡ (many + w - 1) / w = counted_all w many at count is (omega arith) all in
-    let less : (many + w - 1) / w < many = fewer_groups many w more some in
-    let one : 1 ≤ (many + w - 1) / w = le-div 1 (many + w - 1) w (omega arith) (omega arith) in
-    (omega arith, omega arith)
-
-pub joined_counted : (w at : ℕ) (runs : List (List TermPosting)) (bits : Bits) (places : List ℕ) → AreJoined w runs at bits places → AreCounted w (length runs) at (length places)
-joined_counted w at runs bits places is =
-    let size : length places ≡ is.count = ap (λ p. length p) is.stand ∙ length_starts 0 (first_joined w is.count runs) ∙ length_first_joined w is.count runs in
-    subst (λ n. AreCounted w (length runs) at n) (sym size) (record { next = is.next; last = is.last })
 
 -- ---- runs that are stored
 
@@ -148,14 +129,6 @@ stored_next file places next nexts whole w is some more bits at =
       same = merged_joined w is.runs some is.written.are ∙ is.same;
     }
 
-pub stored_fewer : (file places nexts : List ℕ) (whole : List TermPosting) (w : ℕ) (is : AreStored file places whole) → 2 ≤ w → w < length places →
-    nexts ≡ starts 0 (joined_runs w is.runs) → length nexts < length places
-stored_fewer file places nexts whole w is some more at =
-    let size = stored_count file places whole is in
-    let new : length nexts ≡ length (joined_runs w is.runs) = ap (λ p. length p) at ∙ length_starts 0 (joined_runs w is.runs) in
-    let fewer = fewer_runs w is.runs some (omega arith) in
-    omega arith
-
 -- the runs of occurrences
 pub stored_fed : (file places : List ℕ) (cap : ℕ) (fed : List (ℕ × ℕ)) → bits_of file ≡ run_part_bits cap fed → places ≡ starts 0 (runs_of cap fed) →
     1 ≤ cap → cap < 2 ^ 31 → AreOccurrences fed → length fed < 2 ^ 32 → AreStored file places (term_postings fed)
@@ -169,24 +142,40 @@ stored_fed file places cap fed bits at some small all few = record {
 
 -- as many groups of occurrences as runs
 pub groups_are_runs : (n cap : ℕ) → 1 ≤ cap → (n + cap - 1) / cap ≡ run_count n cap
-groups_are_runs n cap some = grind arith
+groups_are_runs n cap some = let up = div_ceil_times n cap some in ceil_is n cap (run_count n cap) some up.1 up.0
 
 pub fed_count : (places : List ℕ) (cap : ℕ) (fed : List (ℕ × ℕ)) → 1 ≤ cap → places ≡ starts 0 (runs_of cap fed) → length places ≡ run_count (length fed) cap
 fed_count places cap fed some at = ap (λ p. length p) at ∙ length_starts 0 (runs_of cap fed) ∙ length_runs_of cap fed ∙ groups_are_runs (length fed) cap some
 
 -- ---- the peak: 64 bytes a run in use
 
+peak_first : (few old now next : ℕ) → now ≡ max old (64 * 0) → next ≡ max now (64 * few) → next ≡ max old (64 * few)
+peak_first few old now next is more = omega arith
+
+peak_within : (few w old next now : ℕ) → few ≤ w → now ≡ max old (64 * w) → next ≡ max now (64 * few) → next ≡ max old (64 * w)
+peak_within few w old next now less is more = omega arith
+
+peak_stays : (few w now next top : ℕ) → few ≤ w → max now (64 * w) ≡ top → next ≡ max now (64 * w) → max next (64 * few) ≡ top
+peak_stays few w now next top less is more = omega arith
+
 -- within a round of more runs than the width: after the groups up to `at`
 pub peak_group : (w count n at end old now next : ℕ) → at ≡ min (count * w) n → at < n → end ≡ min (at + w) n → now ≡ max old (64 * min at w) →
     next ≡ max now (64 * (end - at)) → next ≡ max old (64 * min end w)
-peak_group w zero n at end old now next here less e is more = let z : zero * w ≡ 0 = omega arith in omega arith
-peak_group w (suc count) n at end old now next here less e is more = let z : suc count * w ≡ w + count * w = omega arith in omega arith
+peak_group w zero n at end old now next here less e is more =
+    let z : zero * w ≡ 0 = omega arith in
+    let none : min at w ≡ 0 = omega arith in
+    let size : end - at ≡ min end w = omega arith in
+    peak_first (min end w) old now next (is ∙ ap (λ k. max old (64 * k)) none) (more ∙ ap (λ k. max now (64 * k)) size)
+peak_group w (suc count) n at end old now next here less e is more =
+    let z : suc count * w ≡ w + count * w = omega arith in
+    let before : min at w ≡ w = omega arith in
+    let after : min end w ≡ w = omega arith in
+    let within : end - at ≤ w = omega arith in
+    peak_within (end - at) w old next now within (is ∙ ap (λ k. max old (64 * k)) before) more ∙ ap (λ k. max old (64 * k)) (sym after)
 
 -- from round to round: `first` runs at first, `many` now, `few` after the round
 pub peak_round : (w first many few start now next : ℕ) → max now (64 * min many w) ≡ max start (64 * min first w) → w < many → next ≡ max now (64 * w) →
     max next (64 * min few w) ≡ max start (64 * min first w)
-peak_round w first many few start now next is more e = omega arith
-
--- where the last runs are opened
-pub peak_end : (w first many start now last : ℕ) → max now (64 * min many w) ≡ max start (64 * min first w) → many ≤ w → last ≡ max now (64 * many) → last ≡ max start (64 * min first w)
-peak_end w first many start now last is few e = omega arith
+peak_round w first many few start now next is more e =
+    let all : min many w ≡ w = omega arith in
+    peak_stays (min few w) w now next _ (omega arith) (ap (λ k. max now (64 * k)) (sym all) ∙ is) e

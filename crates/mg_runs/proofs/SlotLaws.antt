@@ -1,10 +1,9 @@
 -- A slot that is filled, among others.
-use Rattle.std.proofs.Common.{◌≡◌, ℕ, zero, suc, ◌+◌, ◌*◌, ◌<◌, ◌≤◌, List, [], ◌∷◌, length, refl, sym, ap, ◌∙◌, subst, arith, take, drop, set, get_or, inl, inr}
+use Rattle.std.proofs.Common.{◌≡◌, ℕ, zero, suc, ◌+◌, ◌*◌, ◌<◌, ◌≤◌, List, [], ◌∷◌, length, refl, sym, ap, ◌∙◌, subst, arith, take, drop, set, get_or, length-set, inl, inr}
 use Rattle.std.specs.Simd.{first_chunks}
 use Rattle.std.specs.declared.option.Option.{Option}
-use Rattle.std.proofs.lemmas.Grind.{common_steps}
-use Rattle.std.proofs.lemmas.Bool.{cases_lt}
-use Rattle.std.proofs.lemmas.List.{drop-drop, drop-take}
+use Rattle.std.proofs.lemmas.Bool.{cases_eq, cases_lt}
+use Rattle.std.proofs.lemmas.List.{drop-drop, drop-take, ext_get_or, get_or-set_other, get_or-set_same}
 use Rattle.std.proofs.Math.Nat.{mul-le-mul_right}
 use Rattle.std.proofs.lemmas.Slice.{take-put_mid_below, drop-put_mid}
 use borrow.Rule.Slice.PartMut.{put_mid}
@@ -12,6 +11,7 @@ use Rattle.mg_dev.specs.declared.part.Part.{Part}
 use Rattle.mg_dev.specs.Files.{Files, Reads, OneRead}
 use Rattle.mg_dev.specs.Laws.{with_read-other, with_read-later}
 use Rattle.mg_bits.specs.Pages.{Looked}
+use Rattle.mg_runs.proofs.Chunks.{here-put, length-chunks}
 
 pub looked_once : (part : Part) (f g : Option Files) (r s : Reads) (m n : ℕ) → g ≡ f → m ≤ n → OneRead r s part → Looked part f g r s m n
 looked_once part f g r s m n files faults one = record {
@@ -20,10 +20,6 @@ looked_once part f g r s m n files faults one = record {
   later = λ p. subst (λ k. r p ≤ k) (sym (one p)) (with_read-later r part p);
   others = λ p apart. one p ∙ with_read-other r part p apart;
 }
-
-length-chunks : (n k : ℕ) (xs : List ℕ) → length (first_chunks n k xs) ≡ k
-length-chunks n zero xs = refl
-length-chunks n (suc k) xs = ap (λ m. suc m) (length-chunks n k (drop n xs))
 
 -- one of the chunks
 pub chunk_at : (n count k : ℕ) (xs : List ℕ) → k < count → get_or (first_chunks n count xs) k [] ≡ take n (drop (k * n) xs)
@@ -37,35 +33,19 @@ chunk_at n (suc count) (suc k) xs h =
 chunks_put : (n count k : ℕ) (xs ys : List ℕ) → k < count →
     ((j : ℕ) → j < count → (j ≡ k → ⊥) → get_or (first_chunks n count ys) j [] ≡ get_or (first_chunks n count xs) j []) →
     first_chunks n count ys ≡ set (first_chunks n count xs) k (get_or (first_chunks n count ys) k [])
-chunks_put n count k xs ys h same = by_places (first_chunks n count xs) (first_chunks n count ys) k count (length-chunks n count xs) (length-chunks n count ys) same
-  where
-    all_same : (us vs : List (List ℕ)) (count : ℕ) → length us ≡ count → length vs ≡ count → ((j : ℕ) → j < count → get_or vs j [] ≡ get_or us j []) → vs ≡ us
-    all_same [] [] count p q same = refl
-    all_same [] (b ∷ vs) count p q same = absurd (omega arith)
-    all_same (a ∷ us) [] count p q same = absurd (omega arith)
-    all_same (a ∷ us) (b ∷ vs) zero p q same = absurd (omega arith)
-    all_same (a ∷ us) (b ∷ vs) (suc count) p q same =
-        let head : b ≡ a = same 0 (omega arith) in
-        let tail : vs ≡ us = all_same us vs count (omega arith) (omega arith) (λ j h. same (suc j) (omega arith)) in
-        cc
-
-    by_places : (us vs : List (List ℕ)) (k count : ℕ) → length us ≡ count → length vs ≡ count → ((j : ℕ) → j < count → (j ≡ k → ⊥) → get_or vs j [] ≡ get_or us j []) → vs ≡ set us k (get_or vs k [])
-    by_places [] [] k count p q same = refl
-    by_places [] (b ∷ vs) k count p q same = absurd (omega arith)
-    by_places (a ∷ us) [] k count p q same = absurd (omega arith)
-    by_places (a ∷ us) (b ∷ vs) k zero p q same = absurd (omega arith)
-    by_places (a ∷ us) (b ∷ vs) zero (suc count) p q same =
-        ap (λ t. b ∷ t) (all_same us vs count (omega arith) (omega arith) (λ j h. same (suc j) (omega arith) (λ e. omega arith)))
-    by_places (a ∷ us) (b ∷ vs) (suc k) (suc count) p q same =
-        let head : b ≡ a = same 0 (omega arith) (λ e. omega arith) in
-        let tail : vs ≡ set us k (get_or vs k []) = by_places us vs k count (omega arith) (omega arith) (λ j h other. same (suc j) (omega arith) (λ e. other (omega arith))) in
-        cc
+chunks_put n count k xs ys h same =
+    let us : List (List ℕ) = first_chunks n count xs in
+    let vs : List (List ℕ) = first_chunks n count ys in
+    let size = length-chunks n count xs in
+    let next = length-chunks n count ys in
+    ext_get_or [] vs (set us k (get_or vs k [])) (next ∙ sym (length-set us k (get_or vs k []) ∙ size))
+    (λ j low. elim (cases_eq j k) [
+      | inl here ↦ ap (λ i. get_or vs i []) here ∙ sym (ap (λ i. get_or (set us k (get_or vs k [])) i []) here ∙ get_or-set_same us k (get_or vs k []) [] (omega arith))
+      | inr other ↦ same j (omega arith) other ∙ sym (get_or-set_other us k j (get_or vs k []) [] other)
+    ])
 
 front-put : (n m a k : ℕ) (xs ys : List ℕ) → m + n ≤ a → a + k ≤ length xs → length ys ≡ k → take (m + n) (put_mid a k xs ys) ≡ take (m + n) xs
 front-put n m a k xs ys below h w = take-put_mid_below a k xs ys (m + n) below (omega arith)
-
-here-put : (a b k : ℕ) (xs ys : List ℕ) → b ≡ a → a + k ≤ length xs → length ys ≡ k → take k (drop b (put_mid a k xs ys)) ≡ ys
-here-put a b k xs ys e h w = grind (arith, common_steps)
 
 -- a chunk before or behind the part that was put
 chunk_other : (n a k j : ℕ) (xs ys : List ℕ) → a ≡ k * n → a + n ≤ length xs → length ys ≡ n → (j ≡ k → ⊥) → take n (drop (j * n) (put_mid a n xs ys)) ≡ take n (drop (j * n) xs)

@@ -61,17 +61,6 @@ tells_err T U P Q Device h = tt
 tells_err T U P Q Memory h = tt
 tells_err T U P Q (Bad bad) h = h
 
--- what is told of an answer, and that it is no damage
-pub tells_ok : {T : Type 0} (P : T → Type 0) (r : Result T PartErr) → Tells r P → IfOk r P
-tells_ok P (Ok x) h = h
-tells_ok P (Err e) h = tt
-
-pub tells_undamaged : {T : Type 0} (P : T → Type 0) (r : Result T PartErr) → Tells r P → NoDamage r
-tells_undamaged P (Ok x) h = tt
-tells_undamaged P (Err Device) h = tt
-tells_undamaged P (Err Memory) h = tt
-tells_undamaged P (Err (Bad bad)) h = h
-
 pub memory_as : (T U : Type 0) (e : PartErr) → NoMemory {T = T} (Err e) → NoMemory {T = U} (Err e)
 memory_as T U Device h = tt
 memory_as T U Memory h = h

@@ -1,27 +1,15 @@
 -- Tournaments, one node after the other.
-use Rattle.std.proofs.Common.{◌≡◌, ◌≢◌, ℕ, zero, suc, ◌+◌, ◌-◌, ◌*◌, ◌/◌, ◌<◌, ◌≤◌, ◌⊎◌, inl, inr, List, [], ◌∷◌, length, refl, sym, ap, ◌∙◌, subst, arith, get_or, set, drop, length-set}
+use Rattle.std.proofs.Common.{◌≡◌, ◌≢◌, ℕ, zero, suc, ◌+◌, ◌-◌, ◌*◌, ◌/◌, ◌<◌, ◌≤◌, ◌⊎◌, inl, inr, List, [], ◌∷◌, length, refl, sym, ap, ◌∙◌, subst, arith, get_or, set, drop, length-set, length-drop}
 use Rattle.std.proofs.lemmas.Bool.{cases_lt, cases_eq}
-use Rattle.std.proofs.lemmas.List.{get_or-drop, get_or-set_other, get_or-set_same, get_or_default}
-use Rattle.std.proofs.lemmas.Grind.{common_steps}
+use Rattle.std.proofs.lemmas.List.{ext_get_or, get_or-drop, get_or-set_other, get_or-set_same, get_or_default}
 use Rattle.mg_runs.specs.Tournament.{IsLesser, IsNode, IsPlayedAt, IsPlayedBut, IsPlayedFrom, IsTournament}
 
 -- ---- lists by their places
 
-ext : (xs ys : List ℕ) → length xs ≡ length ys → ((k : ℕ) → get_or xs k 0 ≡ get_or ys k 0) → xs ≡ ys
-ext [] [] e same = refl
-ext [] (y ∷ ys) e same = absurd (omega arith)
-ext (x ∷ xs) [] e same = absurd (omega arith)
-ext (x ∷ xs) (y ∷ ys) e same =
-    let head : x ≡ y = same 0 in
-    let tail : xs ≡ ys = ext xs ys (omega arith) (λ k. same (suc k)) in
-    cc
-
 drop_same : (n : ℕ) (xs ys : List ℕ) → length xs ≡ length ys → ((k : ℕ) → n ≤ k → get_or xs k 0 ≡ get_or ys k 0) → drop n xs ≡ drop n ys
-drop_same zero xs ys e same = ext xs ys e (λ k. same k (omega arith))
-drop_same (suc n) [] [] e same = refl
-drop_same (suc n) [] (y ∷ ys) e same = absurd (omega arith)
-drop_same (suc n) (x ∷ xs) [] e same = absurd (omega arith)
-drop_same (suc n) (x ∷ xs) (y ∷ ys) e same = drop_same n xs ys (omega arith) (λ k h. same (suc k) (omega arith))
+drop_same n xs ys e same =
+    ext_get_or 0 (drop n xs) (drop n ys) (length-drop n xs ∙ ap (λ k. k - n) e ∙ sym (length-drop n ys))
+    (λ i h. get_or-drop n xs i 0 ∙ same (n + i) (omega arith) ∙ sym (get_or-drop n ys i 0))
 
 drop-set : (n i j : ℕ) (xs : List ℕ) (v : ℕ) → j ≡ n + i → drop n (set xs j v) ≡ set (drop n xs) i v
 drop-set zero i j xs v e = let z : j ≡ i = omega arith in ap (λ k. set xs k v) z
@@ -192,7 +180,7 @@ up (suc fuel) count i ks ws t enough low high = elim (cases_lt 1 i) [
     odd_is i h = omega arith
 
 length-contestants : (count : ℕ) (ks : List ℕ) → length ks ≡ 2 * count → length (drop count ks) ≡ count
-length-contestants count ks e = grind (arith, common_steps)
+length-contestants count ks e = omega (arith, length-drop count ks)
 
 pub how_many : (count : ℕ) (ks ws : List ℕ) → IsTournament count ks ws → length (drop count ks) ≡ count
 how_many count ks ws t = length-contestants count ks t.played.keys_length

@@ -1,9 +1,10 @@
 -- Runs of one file that are joined into a run of another.
-use Rattle.std.specs.Prelude.{◌≡◌, ◌≢◌, ◌≤◌, ◌+◌, ◌*◌, ◌++◌, ◌^◌, ℕ, false, List, length, drop, is_some, Some, None, OnOk}
+use Rattle.std.specs.Prelude.{◌≡◌, ◌≢◌, ◌≤◌, ◌+◌, ◌*◌, ◌++◌, ◌^◌, ℕ, false, List, length, drop, is_some, Some, None}
 use Rattle.std.specs.declared.option.Option.{Option}
 use Rattle.std.specs.declared.result.Result.{Result}
 use Rattle.mg_dev.specs.declared.part.Part.{Part}
 use Rattle.mg_dev.specs.declared.part.Part.TheVariants.{Run, MergeA, MergeB}
+use Rattle.mg_dev.specs.declared.part_err.PartErr.{PartErr}
 use Rattle.mg_dev.specs.Files.{Files, Reads, file_at}
 use Rattle.mg_dev.specs.Names.{full_name, number, same_part}
 use Rattle.mg_defs.specs.Bits.{Bits, filled}
@@ -11,7 +12,7 @@ use Rattle.mg_defs.specs.Postings.{AllAfter, merged}
 use Rattle.mg_defs.specs.RunBits.{before_first, postings_bits, run_bits, runs_bits}
 use Rattle.mg_defs.specs.declared.TermPosting.{TermPosting}
 use Rattle.mg_bits.specs.BitWriting.{BitWriting, WroteBits}
-use Rattle.mg_runs.specs.Cursors.{IsRun}
+use Rattle.mg_runs.specs.Cursors.{IsRun, Tells}
 use Rattle.mg_runs.specs.Fed.{starts}
 use Rattle.mg_runs.specs.Rounds.{AreJoined, joined_runs}
 use Rattle.mg_runs.specs.Merging.{AreLeft}
@@ -92,14 +93,14 @@ abbrev pub WrotePostings : {X : Type 0} → (X → Option Files) → X → X →
     Type 0
 WrotePostings files before now old new xs = WroteBits old new (files before) (files now) (postings_bits before_first xs)
 
--- at `Ok` these postings were written as a run that ends at a byte
-abbrev pub WritesPostings : {X T E : Type 0} → (X → Option Files) → X → X → BitWriting → BitWriting → Result T E →
+-- these postings were written as a run that ends at a byte, and there is no damage
+abbrev pub WritesPostings : {X T : Type 0} → (X → Option Files) → X → X → BitWriting → BitWriting → Result T PartErr →
     List TermPosting → Type 0
 WritesPostings files before now old new result xs =
-    OnOk result (WroteBits old new (files before) (files now) (filled (run_bits xs)))
+    Tells result (λ _. WroteBits old new (files before) (files now) (filled (run_bits xs)))
 
--- at `Ok` these runs were written as one, merged
-abbrev pub WritesRun : {X T E : Type 0} → (X → Option Files) → X → X → BitWriting → BitWriting → Result T E →
+-- these runs were written as one, merged, and there is no damage
+abbrev pub WritesRun : {X T : Type 0} → (X → Option Files) → X → X → BitWriting → BitWriting → Result T PartErr →
     List (List TermPosting) → Type 0
 WritesRun files before now old new result runs = WritesPostings files before now old new result (merged runs)
 

@@ -109,6 +109,17 @@ pub record AreOpen (slots : List (List ℕ)) (cursors : List Cursor) (file : Lis
   pub at : (k : ℕ) → k < seen → IsAt (slice_index_or cursors k no_cursor) (slice_index_or slots k []) file
       (slice_index_or runs k [])
 
+-- so many cursors are opened: each that has postings left is at one, and they have no more left than so many runs may have
+pub record AreBegun (count : ℕ) (cursors : List Cursor) : Type 0 where
+  pub len : length cursors ≡ count
+  pub postings : All (λ c. HasPosting c) cursors
+  pub total : left_together cursors ≤ 2 ^ 32 * count
+
+-- the posting is one of the first one's document, and counts no less
+pub record AddsTo (p sum : TermPosting) : Type 0 where
+  pub doc : sum.doc ≡ p.doc
+  pub count : p.count ≤ sum.count
+
 -- those of all places are
 abbrev pub AllOpen : List (List ℕ) → List Cursor → List ℕ → List (List TermPosting) → List ℕ → Type 0
 AllOpen slots cursors file runs places = AreOpen slots cursors file runs (length places)

@@ -26,11 +26,15 @@ joined_runs width runs = first_joined width ((length runs + width - 1) / width) 
 abbrev pub all_postings : List (List TermPosting) → ℕ
 all_postings runs = sum_by (λ run. length run) runs
 
--- runs that can be written and read again: each has a posting, and its header fits
+-- a run that can be written and read again: it has a posting, and its header fits
+pub record IsWritten (run : List TermPosting) : Type 0 where
+  pub some : 1 ≤ length run
+  pub short : 1 + length run < 2 ^ 32
+
+-- runs that can
 pub record AreWritten (runs : List (List TermPosting)) : Type 0 where
   pub are : AreRuns runs
-  pub some : All (λ run. 1 ≤ length run) runs
-  pub short : All (λ run. 1 + length run < 2 ^ 32) runs
+  pub each : All (λ run. IsWritten run) runs
   pub few : all_postings runs < 2 ^ 32
 
 -- The file has runs, one after another, and nothing else. They begin at these places, and are these postings, merged.

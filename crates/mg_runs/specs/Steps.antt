@@ -1,5 +1,5 @@
 -- What one step of a merge of runs does, told of the moments before it and after it.
-use Rattle.std.specs.Prelude.{◌≡◌, ◌≢◌, ◌≤◌, ◌+◌, ◌-◌, ◌*◌, ◌/◌, ◌%◌, ◌^◌, ℕ, List, [], length, max, OnOk, IfOk, IfErr}
+use Rattle.std.specs.Prelude.{◌≡◌, ◌≢◌, ◌<◌, ◌≤◌, ◌+◌, ◌-◌, ◌*◌, ◌/◌, ◌%◌, ◌^◌, ℕ, List, [], length, max, slice_index_or, OnOk, IfOk, IfErr}
 use Rattle.std.specs.declared.option.Option.{Option}
 use Rattle.std.specs.declared.result.Result.{Result}
 use Rattle.mg_dev.specs.Files.{Files, Reads, bytes_at}
@@ -11,10 +11,10 @@ use Rattle.mg_dev.specs.declared.part_err.PartErr.{PartErr}
 use Rattle.mg_bits.specs.BitWriting.{BitWriting, Holds}
 use Rattle.mg_bits.specs.Pages.{Looked}
 use Rattle.mg_dev.specs.declared.part.Part.TheVariants.{Run}
-use Rattle.mg_runs.specs.Cursors.{NoDamage, NoMemory}
+use Rattle.mg_runs.specs.Cursors.{NoMemory, Tells}
 use Rattle.mg_runs.specs.Damages.{NamesItsPart, NamesPart, TellsBit, TellsBitOf}
 use Rattle.mg_runs.specs.Joins.{IsRunPart, Passed, Worked, other}
-use Rattle.mg_runs.specs.Merging.{left_together}
+use Rattle.mg_runs.specs.Merging.{left_together, no_cursor}
 use Rattle.mg_runs.specs.Pooled.{Pooled, SamePool}
 use Rattle.mg_runs.specs.Reading.{ForRound, ForRuns, GroupShaped, GroupStands, RoundHas, next_name, peak_with}
 use Rattle.mg_runs.specs.Rounds.{AreStored}
@@ -115,21 +115,29 @@ pub record PoolBack (count : ℕ) (old new : Pooled) : Type 0 where
   pub limit : new.limit ≡ old.limit
   pub peak : new.peak ≡ max old.peak (64 * count)
 
+-- a run of a group has postings left
+pub record HasLeft (group : Group) (run : ℕ) : Type 0 where
+  pub within : run < length group.cursors.items
+  pub left : 1 ≤ (slice_index_or group.cursors.items run no_cursor).left
+
+-- a group of the runs that begin at these places of a file, with this pool
+pub record IsLoaded (before : Pooled) (from : FileRef) (places : List ℕ) (group : Group) : Type 0 where
+  -- each cursor has its slot and its key
+  pub shape : GroupShaped group
+  -- they have no more left together than so many runs may have
+  pub total : left_together group.cursors.items ≤ 2 ^ 32 * length places
+  -- the group has the pool, and the file
+  pub pool : PoolBack (length places) before group.pool
+  pub file : group.file ≡ from
+
 -- the runs that begin at these places of a file stand in a group, each at its first posting
 pub record GroupLoaded (before : Pooled) (from : FileRef) (places : List ℕ) (result : Result Group PartErr)
     (files_before files_now : Option Files)
     (reads_before reads_now : Reads) (faults_before faults_now : ℕ) : Type 0 where
-  -- each cursor has its slot and its key
-  pub shape : IfOk result (λ group. GroupShaped group)
-  -- they have no more left together than so many runs may have
-  pub total : IfOk result (λ group. left_together group.cursors.items ≤ 2 ^ 32 * length places)
-  -- by the file, all of each run is left
-  pub told : ForRuns from files_before places (λ bytes runs. IfOk result (λ group. GroupStands group bytes runs))
-  -- where the file has such runs, there is no damage
-  pub undamaged : ForRuns from files_before places (λ _ _. NoDamage result)
-  -- the group has the pool, and the file
-  pub pool : IfOk result (λ group. PoolBack (length places) before group.pool)
-  pub file : IfOk result (λ group. group.file ≡ from)
+  -- the group
+  pub loaded : IfOk result (λ group. IsLoaded before from places group)
+  -- by the file, all of each run is left, and there is no damage
+  pub told : ForRuns from files_before places (λ bytes runs. Tells result (λ group. GroupStands group bytes runs))
   -- nothing but that file was read
   pub read : LookStep from.part result files_before files_now reads_before reads_now faults_before faults_now
 
@@ -192,20 +200,42 @@ pub record WorkStep {T : Type 0} (base : List ℕ) (result : Result T PartErr) (
 
 -- ---- rounds
 
+-- so many runs are joined, so many at a time: how many that gives, and the pool
+pub record IsMade (width many : ℕ) (before : Pooled) (made : Joined) : Type 0 where
+  pub count : length made.places.items ≡ (many + width - 1) / width
+  pub pool : PoolBack width before made.pool
+
+-- the round behind another one
+pub record IsNext (width : ℕ) (old next : Round) : Type 0 where
+  -- how many runs it has
+  pub count : length next.places.items ≡ (length old.places.items + width - 1) / width
+  -- the pool, and the part that was written
+  pub pool : PoolBack width old.pool next.pool
+  pub base : next.file.base ≡ old.file.base
+  pub part : next.file.part ≡ other old.file.part
+
+-- the last of some rounds
+pub record IsLast (width : ℕ) (old last : Round) : Type 0 where
+  -- how many runs are left, and none only where there was none
+  pub few : length last.places.items ≤ width
+  pub count : length last.places.items ≡ 0 → length old.places.items ≡ 0
+  -- the pool holds no entry, and what its greatest use will be is as before
+  pub entries : last.pool.entries ≡ []
+  pub limit : last.pool.limit ≡ old.pool.limit
+  pub peak : peak_with width last ≡ peak_with width old
+  -- the runs stand in a part of the base
+  pub base : last.file.base ≡ old.file.base
+  pub part : IsRunPart last.file.part
+
 -- the runs of a round, so many at a time, are joined into runs of the file of this name, which is ended
 pub record RoundWritten (width : ℕ) (old : Round) (name : List ℕ) (result : Result Joined PartErr)
     (files_before files_now : Option Files)
     (reads_before reads_now : Reads) (faults_before faults_now : ℕ) : Type 0 where
-  -- they are the same postings
+  -- they are the same postings, and there is no damage
   pub told : ForRound old files_before (λ whole.
-      IfOk result (λ made. AreStored (bytes_at files_now name) made.places.items whole))
-  -- where the file has such runs, there is no damage
-  pub undamaged : ForRound old files_before (λ _. NoDamage result)
-  -- how many runs these are
-  pub count : IfOk result
-      (λ made. length made.places.items ≡ (length old.places.items + width - 1) / width)
-  -- the pool
-  pub pool : IfOk result (λ made. PoolBack width old.pool made.pool)
+      Tells result (λ made. AreStored (bytes_at files_now name) made.places.items whole))
+  -- how many runs these are, and the pool
+  pub made : IfOk result (λ made. IsMade width (length old.places.items) old.pool made)
   -- nothing else was read or written
   pub step : PassStep old.file.part name result files_before files_now reads_before reads_now
       faults_before faults_now
@@ -213,17 +243,10 @@ pub record RoundWritten (width : ℕ) (old : Round) (name : List ℕ) (result : 
 -- the runs of a round, so many at a time, are joined into the runs of the next one
 pub record RoundJoined (width : ℕ) (old : Round) (result : Result Round PartErr) (files_before files_now : Option Files)
     (reads_before reads_now : Reads) (faults_before faults_now : ℕ) : Type 0 where
-  -- they are the same postings
-  pub told : ForRound old files_before (λ whole. IfOk result (λ next. RoundHas next files_now whole))
-  -- where the file has such runs, there is no damage
-  pub undamaged : ForRound old files_before (λ _. NoDamage result)
-  -- how many runs these are
-  pub count : IfOk result
-      (λ next. length next.places.items ≡ (length old.places.items + width - 1) / width)
-  -- the pool, and the part that was written
-  pub pool : IfOk result (λ next. PoolBack width old.pool next.pool)
-  pub base : IfOk result (λ next. next.file.base ≡ old.file.base)
-  pub part : IfOk result (λ next. next.file.part ≡ other old.file.part)
+  -- they are the same postings, and there is no damage
+  pub told : ForRound old files_before (λ whole. Tells result (λ next. RoundHas next files_now whole))
+  -- the round
+  pub next : IfOk result (λ next. IsNext width old next)
   -- nothing else was read or written
   pub step : PassStep old.file.part (next_name old.file) result files_before files_now reads_before reads_now
       faults_before faults_now
@@ -231,20 +254,11 @@ pub record RoundJoined (width : ℕ) (old : Round) (result : Result Round PartEr
 -- as many rounds are done as leave no more runs than this width
 pub record RoundsDone (width : ℕ) (old : Round) (result : Result Round PartErr) (files_before files_now : Option Files)
     (reads_before reads_now : Reads) (faults_before faults_now : ℕ) : Type 0 where
-  -- the runs have the same postings
-  pub told : ForRound old files_before (λ whole. IfOk result (λ last. RoundHas last files_now whole))
-  -- where the file has such runs, there is no damage
-  pub undamaged : ForRound old files_before (λ _. NoDamage result)
-  -- how many runs are left, and none only where there was none
-  pub few : IfOk result (λ last. length last.places.items ≤ width)
-  pub count : IfOk result (λ last. length last.places.items ≡ 0 → length old.places.items ≡ 0)
-  -- the pool holds no entry, and what its greatest use will be is as before
-  pub entries : IfOk result (λ last. last.pool.entries ≡ [])
-  pub limit : IfOk result (λ last. last.pool.limit ≡ old.pool.limit)
-  pub peak : IfOk result (λ last. peak_with width last ≡ peak_with width old)
-  -- the runs stand in a part of the base, and Run is as before
-  pub base : IfOk result (λ last. last.file.base ≡ old.file.base)
-  pub part : IfOk result (λ last. IsRunPart last.file.part)
+  -- the runs have the same postings, and there is no damage
+  pub told : ForRound old files_before (λ whole. Tells result (λ last. RoundHas last files_now whole))
+  -- the last round
+  pub last : IfOk result (λ last. IsLast width old last)
+  -- Run is as before
   pub run : SamePart old.file.base.now Run files_before files_now
   -- nothing else was read or written
   pub step : WorkStep old.file.base.now result files_before files_now reads_before reads_now faults_before faults_now

@@ -88,10 +88,22 @@ pub fn posting_in(bytes: &[u8], at: u64, last: &TermPosting) -> Option<Decoded>
     ensures next { IfSome result (λ found. found.next ≤ at + 198) }
     ensures onward { IfSome result (λ found. at ≤ found.next) }
 {
-    let term_gap = number_in(bytes, at, MOST_GAP)?;
-    let doc_gap = number_in(bytes, term_gap.next, MOST)?;
-    let count = number_in(bytes, doc_gap.next, MOST)?;
-    let (term, doc) = behind(last, term_gap.value, doc_gap.value)?;
+    let term_gap = match number_in(bytes, at, MOST_GAP) {
+        Some(number) => number,
+        None => return None,
+    };
+    let doc_gap = match number_in(bytes, term_gap.next, MOST) {
+        Some(number) => number,
+        None => return None,
+    };
+    let count = match number_in(bytes, doc_gap.next, MOST) {
+        Some(number) => number,
+        None => return None,
+    };
+    let (term, doc) = match behind(last, term_gap.value, doc_gap.value) {
+        Some(found) => found,
+        None => return None,
+    };
     Some(Decoded {
         posting: TermPosting {
             term,

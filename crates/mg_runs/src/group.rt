@@ -1,14 +1,13 @@
 //! Runs that are merged.
 ghost use Rattle.std.specs.Prelude.{◌≡◌, ◌≤◌, ◌<◌, ◌+◌, ◌-◌, ◌*◌, ◌^◌, ℕ, Some, IfOk, IfSome, OnOk, OnSome, length, slice_index, slice_index_or, drop};
-ghost use Rattle.std.specs.List.{All};
 ghost use Rattle.mg_defs.specs.declared.TermPosting.{TermPosting};
 ghost use Rattle.mg_dev.specs.Moments.{Between};
 ghost use Rattle.mg_runs.specs.Pooled.{SamePool};
-ghost use Rattle.mg_runs.specs.Cursors.{HasPosting, NoDamage};
+ghost use Rattle.mg_runs.specs.Cursors.{NoDamage, Tells};
 ghost use Rattle.mg_runs.specs.Decoding.{IsInDocument};
-ghost use Rattle.mg_runs.specs.Merging.{IsAlike, IsHead, key_of as key, left_together, no_cursor, first as first_of, NoneBefore, AllOpen};
+ghost use Rattle.mg_runs.specs.Merging.{AddsTo, AreBegun, IsAlike, IsHead, key_of as key, left_together, no_cursor, first as first_of, NoneBefore, AllOpen};
 ghost use Rattle.mg_runs.specs.Reading.{GroupHas, GroupMerged, GroupShaped, GroupStands, ForLefts, ForRuns, ForStep, ForTaken, ForLeft};
-ghost use Rattle.mg_runs.specs.Steps.{GroupLoaded, GroupStep, HasSlots, LookStep};
+ghost use Rattle.mg_runs.specs.Steps.{GroupLoaded, GroupStep, HasLeft, HasSlots, LookStep};
 
 use crate::Pool;
 use crate::cursor::Cursor;
@@ -47,15 +46,11 @@ fn open_all<S: Store>(
     places: &[u64],
 ) -> Result<Vec<Cursor>, PartErr>
     requires slots { length pool.old.slots ≡ length places.now }
-    ensures len { IfOk result (λ cursors. length cursors.items ≡ length places.now) }
     ensures slots { length pool.new.slots ≡ length places.now }
-    ensures postings { IfOk result (λ cursors. All (λ c. HasPosting c) cursors.items) }
-    ensures total { IfOk result (λ cursors. left_together cursors.items
-        ≤ 2 ^ 32 * length places.now) }
+    ensures begun { IfOk result (λ made. AreBegun (length places.now) made.items) }
     ensures told { ForRuns file.now (S.files store.old) places.now
-        (λ bytes runs. IfOk result (λ made.
+        (λ bytes runs. Tells result (λ made.
         AllOpen pool.new.slots made.items bytes runs places.now)) }
-    ensures undamaged { ForRuns file.now (S.files store.old) places.now (λ _ _. NoDamage result) }
     ensures pool { SamePool pool.old pool.new }
     ensures read { Between S.files S.reads S.faults store.old store.new
         (LookStep file.now.part result) }
@@ -132,9 +127,7 @@ impl<'a> Group<'a> {
     fn head(&self) -> Option<(u32, TermPosting)>
         requires shape { GroupShaped self.now }
         ensures told { ForLefts self.now (λ lefts. IsHead result lefts) }
-        ensures within { IfSome result (λ head. head.0 < length self.now.cursors.items) }
-        ensures left { IfSome result
-            (λ head. 1 ≤ (slice_index_or self.now.cursors.items head.0 no_cursor).left) }
+        ensures left { IfSome result (λ head. HasLeft self.now head.0) }
         ensures in_document { IfSome result (λ head. IsInDocument head.1) }
     {
         let run = self.tournament.least();
@@ -148,11 +141,9 @@ impl<'a> Group<'a> {
     /// Moves a cursor to the next posting of its run.
     fn step<S: Store>(&mut self, store: &mut S, run: u32) -> Result<(), PartErr>
         requires shape { GroupShaped self.old }
-        requires within { run < length self.old.cursors.items }
-        requires left { 1 ≤ (slice_index_or self.old.cursors.items run no_cursor).left }
+        requires left { HasLeft self.old run }
         ensures told { ForStep run self.old (S.files store.old)
-            (λ bytes lefts. OnOk result (GroupStands self.new bytes lefts)) }
-        ensures undamaged { ForStep run self.old (S.files store.old) (λ _ _. NoDamage result) }
+            (λ bytes lefts. Tells result (λ _. GroupStands self.new bytes lefts)) }
         ensures total { OnOk result
             (left_together self.new.cursors.items + 1 ≡ left_together self.old.cursors.items) }
         ensures step { Between S.files S.reads S.faults store.old store.new
@@ -175,9 +166,7 @@ impl<'a> Group<'a> {
         requires shape { GroupShaped self.now }
         ensures some { ForLefts self.now (λ lefts. NoneBefore posting.now lefts →
             IsAlike posting.now lefts result) }
-        ensures within { IfSome result (λ found. found.0 < length self.now.cursors.items) }
-        ensures left { IfSome result
-            (λ found. 1 ≤ (slice_index_or self.now.cursors.items found.0 no_cursor).left) }
+        ensures left { IfSome result (λ found. HasLeft self.now found.0) }
     {
         match self.head() {
             Some((run, head)) if head.term == posting.term && head.doc == posting.doc => {
@@ -196,11 +185,8 @@ impl<'a> Group<'a> {
         requires shape { GroupShaped self.old }
         ensures told { ForTaken first.now self.old (S.files store.old)
             (λ bytes base. 1 ≤ first.now.count →
-            IfOk result (λ p. GroupMerged self.new bytes base p)) }
-        ensures undamaged { ForTaken first.now self.old (S.files store.old)
-            (λ _ _. NoDamage result) }
-        ensures doc { IfOk result (λ p. p.doc ≡ first.now.doc) }
-        ensures count { IfOk result (λ p. first.now.count ≤ p.count) }
+            Tells result (λ p. GroupMerged self.new bytes base p)) }
+        ensures adds { IfOk result (λ p. AddsTo first.now p) }
         ensures step { Between S.files S.reads S.faults store.old store.new
             (GroupStep self.old self.new result) }
     {

@@ -6,7 +6,7 @@ ghost use Rattle.mg_dev.specs.Moments.{Between};
 ghost use Rattle.mg_dev.specs.PartCauses.{HasPartCause};
 ghost use Rattle.mg_defs.specs.Postings.{merged};
 ghost use Rattle.mg_defs.specs.declared.TermPosting.{TermPosting};
-ghost use Rattle.mg_runs.specs.Cursors.{NoDamage};
+ghost use Rattle.mg_runs.specs.Cursors.{NoDamage, Tells};
 ghost use Rattle.mg_runs.specs.Damages.{NamesItsPart, NamesPart};
 ghost use Rattle.mg_runs.specs.Merging.{AreRuns, left_together};
 ghost use Rattle.mg_runs.specs.PostingOrder.{Follows};
@@ -86,9 +86,7 @@ fn put_next<S: Store>(
     requires ready { MayPut group.old w.old (S.files store.old) }
     ensures shape { OnOk result (GroupShaped group.new) }
     ensures told { ForPutting last.now group.old (S.files store.old) w.old
-        (λ from. IfOk result (PutSince from group.new (S.files store.new) w.new)) }
-    ensures undamaged { ForPutting last.now group.old (S.files store.old) w.old
-        (λ _. NoDamage result) }
+        (λ from. Tells result (PutSince from group.new (S.files store.new) w.new)) }
     ensures total { IfOk result (λ put. OnSome put
         (left_together group.new.cursors.items < left_together group.old.cursors.items)) }
     ensures place { OnOk result (w.old.place ≤ 2 ^ 61 + 256 → w.new.place ≤ 2 ^ 61 + 256) }
@@ -118,10 +116,8 @@ fn put_postings<S: Store>(
 ) -> Result<(), PartErr>
     requires ready { MayPut group.old w.old (S.files store.old) }
     requires place { w.old.place ≤ 2 ^ 61 + 256 }
-    ensures told { ForLeftRun group.old (S.files store.old) w.old.place
-        (λ left. OnOk result (WrotePostings S.files store.old store.new w.old w.new left)) }
-    ensures undamaged { ForLeftRun group.old (S.files store.old) w.old.place
-        (λ _. NoDamage result) }
+    ensures told { ForLeftRun group.old (S.files store.old) w.old.place (λ left.
+        Tells result (λ _. WrotePostings S.files store.old store.new w.old w.new left)) }
     ensures place { OnOk result (w.new.place ≤ 2 ^ 61 + 256) }
     ensures step { Between S.files S.reads S.faults store.old store.new
         (GroupWrite group.old group.new w.old w.new result) }
@@ -193,8 +189,6 @@ fn put_run<S: Store>(
     ensures told { ForLeftRun group.old (S.files store.old) (w.old.place + 66) (λ left.
         count ≡ length left →
         WritesPostings S.files store.old store.new w.old w.new result left) }
-    ensures undamaged { ForLeftRun group.old (S.files store.old) (w.old.place + 66)
-        (λ _. NoDamage result) }
     ensures place { OnOk result (w.new.place ≤ 2 ^ 61 + 264) }
     ensures whole { OnOk result (w.new.place % 8 ≡ 0) }
     ensures step { Between S.files S.reads S.faults store.old store.new
@@ -230,8 +224,6 @@ fn join_counted<S: Store>(
     requires place { w.old.place ≤ 2 ^ 61 }
     ensures told { ForCounted counted file.entry (S.files store.old) places.now w.old.place
         (WritesRun S.files store.old store.new w.old w.new result) }
-    ensures undamaged { ForGroup file.entry (S.files store.old) places.now w.old.place
-        (λ _. NoDamage result) }
     ensures pool { IfOk result (λ made. PoolBack (length places.now) counted.pool made) }
     ensures step { Between S.files S.reads S.faults store.old store.new
         (RunStep file.entry.part w.old w.new result) }
@@ -260,8 +252,6 @@ pub fn join<S: Store>(
     requires ready { MayJoin pool file places.now w.old (S.files store.old) }
     ensures told { ForGroup file.entry (S.files store.old) places.now w.old.place
         (WritesRun S.files store.old store.new w.old w.new result) }
-    ensures undamaged { ForGroup file.entry (S.files store.old) places.now w.old.place
-        (λ _. NoDamage result) }
     ensures pool { IfOk result (λ made. PoolBack (length places.now) pool made) }
     ensures step { Between S.files S.reads S.faults store.old store.new
         (RunStep file.entry.part w.old w.new result) }

@@ -51,8 +51,16 @@ pub fn put_posting<S: Store>(
         w.old w.new store.old store.new result }
     ensures place { OnOk result (w.new.place ≤ w.old.place + 256) }
 {
-    put_number(w, store, u64::from(posting.term - last.term) + 1)?;
-    put_number(w, store, u64::from(doc_gap(last, posting)))?;
-    put_number(w, store, u64::from(posting.count))?;
-    Ok(())
+    match put_number(w, store, u64::from(posting.term - last.term) + 1) {
+        Ok(()) => {}
+        Err(refusal) => return Err(refusal),
+    }
+    match put_number(w, store, u64::from(doc_gap(last, posting))) {
+        Ok(()) => {}
+        Err(refusal) => return Err(refusal),
+    }
+    match put_number(w, store, u64::from(posting.count)) {
+        Ok(()) => Ok(()),
+        Err(refusal) => Err(refusal),
+    }
 }

@@ -1,10 +1,10 @@
 //! Rounds: the runs of one part, joined into fewer runs of another.
 ghost use Rattle.std.specs.Prelude.{◌≡◌, ◌≤◌, ◌<◌, ◌+◌, ◌-◌, ◌/◌, ◌++◌, [], ◌∷◌, IfOk, length};
 ghost use Rattle.mg_dev.specs.Moments.{Between};
-ghost use Rattle.mg_runs.specs.Cursors.{NoDamage};
+ghost use Rattle.mg_runs.specs.Cursors.{Tells};
 ghost use Rattle.mg_runs.specs.Joins.{IsRunPart, WritesRun, other, GroupsJoined};
 ghost use Rattle.mg_runs.specs.Reading.{ForGroup, ForStored};
-ghost use Rattle.mg_runs.specs.Steps.{HasSlots, MayJoin, MayWrite, PoolBack, RoundJoined, RoundWritten, RoundsDone, RunStep};
+ghost use Rattle.mg_runs.specs.Steps.{HasSlots, IsMade, MayJoin, MayWrite, PoolBack, RoundJoined, RoundWritten, RoundsDone, RunStep};
 
 use crate::Pool;
 use crate::join::{join, refused};
@@ -57,8 +57,6 @@ fn join_next<S: Store>(
     requires ready { MayJoin made.pool file places.now w.old (S.files store.old) }
     ensures told { ForGroup file.entry (S.files store.old) places.now w.old.place
         (WritesRun S.files store.old store.new w.old w.new result) }
-    ensures undamaged { ForGroup file.entry (S.files store.old) places.now w.old.place
-        (λ _. NoDamage result) }
     ensures pool { IfOk result (λ next. PoolBack (length places.now) made.pool next.pool) }
     ensures places { IfOk result (λ next. next.places.items
         ≡ made.places.items ++ w.old.place ∷ []) }
@@ -93,12 +91,8 @@ fn join_groups<S: Store>(
     requires writer { MayWrite stored.file w.old (S.files store.old) }
     requires place { w.old.place ≡ 0 }
     ensures told { ForStored stored.entry.file (S.files store.old) stored.entry.places.now
-        (λ runs. IfOk result (GroupsJoined width runs S.files store.old store.new w.old w.new)) }
-    ensures undamaged { ForStored stored.entry.file (S.files store.old) stored.entry.places.now
-        (λ _. NoDamage result) }
-    ensures count { IfOk result (λ made. length made.places.items
-        ≡ (length stored.entry.places.now + width - 1) / width) }
-    ensures pool { IfOk result (λ made. PoolBack width pool made.pool) }
+        (λ runs. Tells result (GroupsJoined width runs S.files store.old store.new w.old w.new)) }
+    ensures made { IfOk result (λ made. IsMade width (length stored.entry.places.now) pool made) }
     ensures step { Between S.files S.reads S.faults store.old store.new
         (RunStep stored.entry.file.part w.old w.new result) }
 {

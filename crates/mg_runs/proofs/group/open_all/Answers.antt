@@ -11,7 +11,7 @@ use Rattle.mg_dev.specs.Names.{full_name}
 use Rattle.mg_runs.specs.declared.cursor.Cursor.{Cursor}
 use Rattle.mg_dev.specs.declared.part_err.PartErr.TheVariants.{Memory}
 use Rattle.mg_runs.proofs.StepLaws.{cause_err, cause_ok, look_bad, look_none}
-use Rattle.mg_runs.proofs.Steps.{looked_more, pool_more, damage_none}
+use Rattle.mg_runs.proofs.Steps.{looked_more, pool_more, tells_err}
 use Rattle.mg_runs.proofs.Heads.{open_more}
 use Rattle.mg_runs.proofs.group.open_all.Goals as goal
 
@@ -44,12 +44,9 @@ loop-k-preserved g c =
 
 pub returns-in-Err : goal.returns-in-Err
 returns-in-Err g c = record {
-  len = tt;
   slots = c.requires.slots;
-  postings = tt;
-  total = tt;
+  begun = tt;
   told = λ told runs are. tt;
-  undamaged = λ told runs are. tt;
   pool = record { entries = λ e. e; peak = refl; limit = refl };
   read = look_bad {x = tt} Memory (look_none {T = Unit {0}} _ _ _) (λ f g. tt) tt;
 }
@@ -59,12 +56,9 @@ returns-in-Err-push g c =
     let inv = c.loop-k.invariant in
     let looked = looked_more inv.looked c.opened.ensures.step.look.looked in
     record {
-      len = tt;
       slots = slots_kept c.loop-k.k c.loop-k.pool.slots c.opened.ensures.step.slots inv.slots;
-      postings = tt;
-      total = tt;
+      begun = tt;
       told = λ told runs are. tt;
-      undamaged = λ told runs are. tt;
       pool = pool_more inv.pool c.opened.ensures.step.pool;
       read = record { looked = looked; cause = record { later = looked.faults; device = tt }; names = tt };
     }
@@ -73,15 +67,12 @@ pub returns-in-Err-opened : goal.returns-in-Err-opened
 returns-in-Err-opened g c =
     let inv = c.loop-k.invariant in
     record {
-      len = tt;
       slots = slots_kept c.loop-k.k c.loop-k.pool.slots c.opened.ensures.step.slots inv.slots;
-      postings = tt;
-      total = tt;
-      told = λ told runs are. tt;
-      undamaged = λ told runs are.
+      begun = tt;
+      told = λ told runs are.
           let next = rw inv.looked.files at c.in-Err-opened.ensures.told in
           let k : c.loop-k.k < length c.args.places.now = search rules in
-          damage_none Cursor (Vec Cursor Global) _ c.in-Err-opened.refusal (next told _ (are.at c.loop-k.k k));
+          tells_err Cursor (Vec Cursor Global) _ _ c.in-Err-opened.refusal (next told _ (are.at c.loop-k.k k));
       pool = pool_more inv.pool c.opened.ensures.step.pool;
       read = record {
         looked = looked_more inv.looked c.opened.ensures.step.look.looked;
@@ -90,7 +81,14 @@ returns-in-Err-opened g c =
       };
     }
 
-pub returns-clause-read : goal.returns-clause-read
-returns-clause-read g c =
-    let looked = c.loop-k.invariant.looked in
-    record { looked = looked; cause = cause_ok looked.faults; names = tt }
+pub returns : goal.returns
+returns g c =
+    let inv = c.loop-k.invariant in
+    let looked = inv.looked in
+    record {
+      slots = inv.slots;
+      begun = record { len = search rules; postings = inv.postings; total = omega (arith, inv.total) };
+      told = λ told runs are. let all = inv.told told runs are in record { at = λ k h. all.at k (omega arith) };
+      pool = inv.pool;
+      read = record { looked = looked; cause = cause_ok looked.faults; names = tt };
+    }

@@ -1,7 +1,10 @@
 use Rattle.std.proofs.Common.{◌∙◌, ap, sym}
+use Rattle.std.specs.declared.option.Option.{Option}
 use Rattle.mg_dev.specs.Names.{full_name}
+use Rattle.mg_defs.specs.declared.TermPosting.{TermPosting}
 use Rattle.mg_runs.proofs.Joins.{put_start, passed_bytes}
 use Rattle.mg_runs.proofs.StepLaws.{write_err, write_none, write_ok, write_then}
+use Rattle.mg_runs.proofs.Steps.{tells_err}
 use Rattle.mg_runs.proofs.join.put_postings.Goals as goal
 
 pub loop-posting-init : goal.loop-posting-init
@@ -39,8 +42,26 @@ loop-posting-preserved g c =
           rw c.in-Ok-Some.field-0-is at (next (passed.told ∙ told) _ _ _ (inv.told told left has run room));
     }
 
-pub returns-in-Ok-None-clause-step : goal.returns-in-Ok-None-clause-step
-returns-in-Ok-None-clause-step g c = write_ok (write_then c.loop-posting.invariant.step c.in-Ok-None.ensures.step)
+pub returns-in-Ok-None : goal.returns-in-Ok-None
+returns-in-Ok-None g c =
+    let inv = c.loop-posting.invariant in
+    let passed = inv.step.writer.pass.passed in
+    record {
+      told = λ told left has run room.
+          let next = rw (inv.step.file, passed_bytes passed c.requires.ready.apart.apart) at c.in-Ok-None.ensures.told in
+          rw c.in-Ok-None.field-0-is at (next (passed.told ∙ told) _ _ _ (inv.told told left has run room));
+      place = c.in-Ok-None.ensures.place inv.place;
+      step = write_ok (write_then inv.step c.in-Ok-None.ensures.step);
+    }
 
-pub returns-in-Err-clause-step : goal.returns-in-Err-clause-step
-returns-in-Err-clause-step g c = write_err (write_then c.loop-posting.invariant.step c.in-Err.ensures.step)
+pub returns-in-Err : goal.returns-in-Err
+returns-in-Err g c =
+    let inv = c.loop-posting.invariant in
+    let passed = inv.step.writer.pass.passed in
+    record {
+      told = λ told left has run room.
+          let next = rw (inv.step.file, passed_bytes passed c.requires.ready.apart.apart) at c.in-Err.ensures.told in
+          tells_err (Option TermPosting) (Unit {0}) _ _ c.in-Err.refusal (next (passed.told ∙ told) _ _ _ (inv.told told left has run room));
+      place = tt;
+      step = write_err (write_then inv.step c.in-Err.ensures.step);
+    }

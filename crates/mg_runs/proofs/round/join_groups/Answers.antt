@@ -1,23 +1,30 @@
 use Rattle.std.proofs.Common.{rules, ◌≡◌, ◌+◌, ◌-◌, ◌*◌, ◌<◌, ◌++◌, ◌∷◌, [], ℕ, length, length-append, take, drop, sym, ◌∙◌, ap, subst, arith, min, max}
 use Rattle.mg_runs.specs.Rounds.{AreCounted}
-use Rattle.mg_runs.proofs.RoundsLoop.{counted_more, length_slice, peak_group}
+use Rattle.mg_runs.proofs.RoundsLoop.{counted_all, counted_more, length_slice, peak_group}
 use Rattle.mg_dev.specs.declared.part_err.PartErr.TheVariants.{Memory}
 use Rattle.mg_runs.proofs.Joins.{passed_bytes}
 use Rattle.mg_runs.proofs.StepLaws.{run_err, run_none, run_ok, run_then, writer_bad, writer_err, writer_none, writer_then}
 use Rattle.mg_runs.specs.Joins.{IsJoining}
+use Rattle.mg_runs.specs.declared.round.Joined.{Joined}
+use Rattle.mg_runs.proofs.Steps.{tells_err}
 use Rattle.mg_runs.proofs.JoinedGroups.{joining_none, joining_next, joining_more, joining_end}
 use Rattle.mg_runs.proofs.round.join_groups.Goals as goal
 
-pub returns-in-Err-join_next-clause-undamaged : goal.returns-in-Err-join_next-clause-undamaged
-returns-in-Err-join_next-clause-undamaged g c = λ told whole is.
+pub returns-in-Err-join_next : goal.returns-in-Err-join_next
+returns-in-Err-join_next g c =
     let inv = c.loop-at.invariant in
-    let joining = inv.told told whole is in
-    let same = passed_bytes inv.step.writer.pass.passed c.requires.writer.apart in
-    let group
-    = joining_next _ c.args.stored.places.now whole c.args.width c.loop-at.at (c.loop-at.at + c.min.result) _ _ _ _ _ is joining c.requires.place c.requires.slots.some
-    c.requires.more c.loop-at-test.true (omega (arith, c.min.ensures)) in
-    let next = rw same at c.in-Err-join_next.ensures.undamaged in
-    next (inv.step.writer.pass.passed.told ∙ told) _ group.0 group.1
+    record {
+      told = λ told whole is.
+          let joining = inv.told told whole is in
+          let same = passed_bytes inv.step.writer.pass.passed c.requires.writer.apart in
+          let group
+          = joining_next _ c.args.stored.places.now whole c.args.width c.loop-at.at (c.loop-at.at + c.min.result) _ _ _ _ _ is joining c.requires.place c.requires.slots.some
+          c.requires.more c.loop-at-test.true (omega (arith, c.min.ensures)) in
+          let next = rw same at c.in-Err-join_next.ensures.told in
+          tells_err Joined Joined _ _ c.in-Err-join_next.refusal (next (inv.step.writer.pass.passed.told ∙ told) _ group.0 group.1);
+      made = tt;
+      step = run_err (writer_err (writer_then inv.step.writer c.in-Err-join_next.ensures.step.writer));
+    }
 
 pub loop-at-init : goal.loop-at-init
 loop-at-init g c = record {
@@ -63,9 +70,18 @@ loop-at-preserved g c =
           joining_more is joining c.requires.place less e inv.step.writer.pass.passed.told wrote push;
     }
 
-pub returns-clause-told : goal.returns-clause-told
-returns-clause-told g c = λ told whole is.
-    joining_end _ c.args.stored.places.now whole c.args.width c.loop-at.at _ _ _ _ _ is (c.loop-at.invariant.told told whole is) c.requires.slots.some c.loop-at-test.false
+pub returns : goal.returns
+returns g c =
+    let inv = c.loop-at.invariant in
+    let some = c.requires.slots.some in
+    record {
+      told = λ told whole is. joining_end _ c.args.stored.places.now whole c.args.width c.loop-at.at _ _ _ _ _ is (inv.told told whole is) some c.loop-at-test.false;
+      made = record {
+        count = counted_all c.args.width (length c.args.stored.places.now) c.loop-at.at _ inv.count some c.loop-at-test.false;
+        pool = record { entries = inv.entries; limit = inv.limit; peak = search rules };
+      };
+      step = run_ok inv.step;
+    }
 
 pub join_next-requires : goal.join_next-requires
 join_next-requires g c =
@@ -78,16 +94,9 @@ join_next-requires g c =
       };
     }
 
-pub returns-in-Err-clause-step : goal.returns-in-Err-clause-step
-returns-in-Err-clause-step g c = run_err (writer_bad {T = Unit {0}} {x = tt} Memory (writer_none _ _ _ c.requires.writer.holds) (λ f g. tt) tt)
-
-pub returns-in-Err-join_next-clause-step : goal.returns-in-Err-join_next-clause-step
-returns-in-Err-join_next-clause-step g c = run_err (writer_err (writer_then c.loop-at.invariant.step.writer c.in-Err-join_next.ensures.step.writer))
-
-pub returns-clause-pool : goal.returns-clause-pool
-returns-clause-pool g c =
-    let inv = c.loop-at.invariant in
-    record { entries = inv.entries; limit = inv.limit; peak = search rules }
-
-pub returns-clause-step : goal.returns-clause-step
-returns-clause-step g c = run_ok c.loop-at.invariant.step
+pub returns-in-Err : goal.returns-in-Err
+returns-in-Err g c = record {
+  told = λ told whole is. tt;
+  made = tt;
+  step = run_err (writer_bad {T = Unit {0}} {x = tt} Memory (writer_none _ _ _ c.requires.writer.holds) (λ f g. tt) tt);
+}

@@ -3,7 +3,7 @@ use Rattle.mg_dev.specs.declared.part_err.PartErr.TheVariants.{Memory}
 use Rattle.mg_runs.specs.declared.pool.Pool.{Pool}
 use Rattle.mg_runs.specs.declared.round.Joined.{Joined}
 use Rattle.mg_runs.proofs.StepLaws.{run_err, run_ok, writer_bad, writer_err, writer_none}
-use Rattle.mg_runs.proofs.Steps.{undamaged_as}
+use Rattle.mg_runs.proofs.Steps.{tells_err}
 use Rattle.mg_runs.proofs.round.join_next.Goals as goal
 
 pub join-requires : goal.join-requires
@@ -18,7 +18,6 @@ join-requires g c = record {
 pub returns-in-Err : goal.returns-in-Err
 returns-in-Err g c = record {
   told = λ told runs at is. tt;
-  undamaged = λ told runs at is. tt;
   pool = tt;
   places = tt;
   step = run_err (writer_bad {T = Unit {0}} {x = tt} Memory (writer_none _ _ _ c.requires.ready.writer.holds) (λ f g. tt) tt);
@@ -27,7 +26,6 @@ returns-in-Err g c = record {
 pub returns-in-Ok-join : goal.returns-in-Ok-join
 returns-in-Ok-join g c = record {
   told = c.in-Ok-join.ensures.told;
-  undamaged = λ told runs at is. tt;
   pool = c.in-Ok-join.ensures.pool;
   places = c.in-Ok.ensures.items ∙ ap (λ p. c.args.made.places.items ++ p ∷ []) c.place.ensures;
   step = run_ok c.in-Ok-join.ensures.step;
@@ -35,8 +33,7 @@ returns-in-Ok-join g c = record {
 
 pub returns-in-Err-join : goal.returns-in-Err-join
 returns-in-Err-join g c = record {
-  told = λ told runs at is. tt;
-  undamaged = λ told runs at is. undamaged_as Pool Joined c.in-Err-join.refusal (c.in-Err-join.ensures.undamaged told runs at is);
+  told = λ told runs at is. tells_err Pool Joined _ _ c.in-Err-join.refusal (c.in-Err-join.ensures.told told runs at is);
   pool = tt;
   places = tt;
   step = run_err (writer_err c.in-Err-join.ensures.step.writer);

@@ -5,7 +5,7 @@ use Rattle.mg_runs.specs.declared.merge.Merge.{Merge}
 use Rattle.mg_runs.proofs.RoundsLoop.{stored_at}
 use Rattle.mg_runs.proofs.RoundsFirst.{stored_left, stored_none}
 use Rattle.mg_runs.proofs.StepLaws.{look_err, look_none, look_ok}
-use Rattle.mg_runs.proofs.Steps.{undamaged_as}
+use Rattle.mg_runs.proofs.Steps.{damage_none}
 use Rattle.mg_runs.proofs.merge.Merge.open.Goals as goal
 
 pub returns-then-is_empty : goal.returns-then-is_empty
@@ -23,14 +23,14 @@ pub returns-in-Ok : goal.returns-in-Ok
 returns-in-Ok g c = record {
   left = λ whole stored. record {
     has = record {
-      shape = c.in-Ok.ensures.shape;
-      same_base = ap (λ f. f.base.now) c.in-Ok.ensures.file;
-      part = subst (λ f. IsRunPart f.part) (sym c.in-Ok.ensures.file) c.requires.part;
+      shape = c.in-Ok.ensures.loaded.shape;
+      same_base = ap (λ f. f.base.now) c.in-Ok.ensures.loaded.file;
+      part = subst (λ f. IsRunPart f.part) (sym c.in-Ok.ensures.loaded.file) c.requires.part;
       told = λ told.
           let was = ap (λ f. is_some f) (sym c.load.ensures.read.looked.files) ∙ told in
           let is = stored was in
           let next = rw c.deref.ensures.value at c.in-Ok.ensures.told in
-          rw (c.load.ensures.read.looked.files, c.in-Ok.ensures.file) (stored_left _ _ _ c.args.round.places.items whole is (next was is.runs (stored_at _ _ whole is)));
+          rw (c.load.ensures.read.looked.files, c.in-Ok.ensures.loaded.file) (stored_left _ _ _ c.args.round.places.items whole is (next was is.runs (stored_at _ _ whole is)));
     };
   };
   undamaged = λ told whole is. tt;
@@ -45,8 +45,8 @@ pub returns : goal.returns
 returns g c = record {
   left = λ whole stored. tt;
   undamaged = λ told whole is.
-      let next = rw c.deref.ensures.value at c.in-Err.ensures.undamaged in
-      undamaged_as Group Merge c.in-Err.refusal (next told is.runs (stored_at _ _ whole is));
+      let next = rw c.deref.ensures.value at c.in-Err.ensures.told in
+      damage_none Group Merge _ c.in-Err.refusal (next told is.runs (stored_at _ _ whole is));
   few = tt;
   base = tt;
   runs = tt;

@@ -4,6 +4,7 @@ use Rattle.mg_runs.proofs.Naming.{names_its}
 use Rattle.mg_runs.proofs.RoundsLoop.{peak_round}
 use Rattle.mg_runs.specs.declared.round.Round.{Round}
 use Rattle.mg_runs.proofs.StepLaws.{cause_err, cause_ok}
+use Rattle.mg_runs.proofs.Steps.{tells_err}
 use Rattle.mg_runs.proofs.Working.{other_is, passed_run, worked_passed, worked_more, some_next}
 use Rattle.mg_runs.proofs.round.Round.rounds.Goals as goal
 
@@ -13,13 +14,13 @@ loop-alloc-preserved g c =
     let passed = rw inv.base at c.joined.ensures.step.passed in
     let n = length c.loop-alloc.round.places.items in
     record {
-      entries = c.in-Ok.ensures.pool.entries;
-      limit = c.in-Ok.ensures.pool.limit ∙ inv.limit;
-      count = λ none. absurd (some_next c.args.width n _ (omega arith) (omega (arith, c.loop-alloc-test.true, c.len.ensures)) c.in-Ok.ensures.count none);
+      entries = c.in-Ok.ensures.next.pool.entries;
+      limit = c.in-Ok.ensures.next.pool.limit ∙ inv.limit;
+      count = λ none. absurd (some_next c.args.width n _ (omega arith) (omega (arith, c.loop-alloc-test.true, c.len.ensures)) c.in-Ok.ensures.next.count none);
       peak = peak_round c.args.width (length c.args.self.places.items) n _ c.args.self.pool.peak c.loop-alloc.round.pool.peak _ inv.peak
-          (omega (arith, c.loop-alloc-test.true, c.len.ensures)) c.in-Ok.ensures.pool.peak;
-      base = c.in-Ok.ensures.base ∙ inv.base;
-      part = subst (λ p. IsRunPart p) (sym c.in-Ok.ensures.part) (other_is c.loop-alloc.round.file.part);
+          (omega (arith, c.loop-alloc-test.true, c.len.ensures)) c.in-Ok.ensures.next.pool.peak;
+      base = c.in-Ok.ensures.next.base ∙ inv.base;
+      part = subst (λ p. IsRunPart p) (sym c.in-Ok.ensures.next.part) (other_is c.loop-alloc.round.file.part);
       told = λ told whole is. c.in-Ok.ensures.told (inv.worked.told ∙ told) whole (inv.told told whole is);
       run = passed_run _ c.loop-alloc.round.file.part passed ∙ inv.run;
       worked = worked_more inv.worked (worked_passed c.loop-alloc.round.file.part inv.part passed);
@@ -30,15 +31,8 @@ returns-in-Err g c =
     let inv = c.loop-alloc.invariant in
     let passed = rw inv.base at c.joined.ensures.step.passed in
     record {
-      told = λ told whole is. tt;
-      undamaged = λ told whole is. c.in-Err.ensures.undamaged (inv.worked.told ∙ told) whole (inv.told told whole is);
-      few = tt;
-      count = tt;
-      entries = tt;
-      limit = tt;
-      peak = tt;
-      base = tt;
-      part = tt;
+      told = λ told whole is. tells_err Round Round _ _ c.in-Err.refusal (c.in-Err.ensures.told (inv.worked.told ∙ told) whole (inv.told told whole is));
+      last = tt;
       run = passed_run _ c.loop-alloc.round.file.part passed ∙ inv.run;
       step = record {
         worked = worked_more inv.worked (worked_passed c.loop-alloc.round.file.part inv.part passed);
@@ -52,14 +46,7 @@ returns g c =
     let inv = c.loop-alloc.invariant in
     record {
       told = inv.told;
-      undamaged = λ told whole is. tt;
-      few = omega (arith, c.loop-alloc-test.false, c.len.ensures);
-      count = inv.count;
-      entries = inv.entries;
-      limit = inv.limit;
-      peak = inv.peak;
-      base = inv.base;
-      part = inv.part;
+      last = record { few = omega (arith, c.loop-alloc-test.false, c.len.ensures); count = inv.count; entries = inv.entries; limit = inv.limit; peak = inv.peak; base = inv.base; part = inv.part };
       run = inv.run;
       step = record { worked = inv.worked; cause = cause_ok inv.worked.faults; names = tt };
     }

@@ -14,7 +14,7 @@ use Rattle.mg_runs.proofs.RoundsLoop.{fed_count}
 use Rattle.mg_runs.proofs.RoundsFirst.{fed_cap, fed_stored}
 use Rattle.mg_runs.proofs.Naming.{refusal_names_its}
 use Rattle.mg_runs.proofs.StepLaws.{cause_err, cause_then}
-use Rattle.mg_runs.proofs.Steps.{undamaged_as}
+use Rattle.mg_runs.proofs.Steps.{damage_none, undamaged_as}
 use Rattle.mg_runs.proofs.Working.{worked_wrote, worked_more, worked_looked}
 use Rattle.mg_runs.proofs.runs.Runs.merge_by.Goals as goal
 
@@ -34,7 +34,7 @@ returns-in-Ok-rounds g c =
     let told_by = rw (c.in-Ok.ensures.base, c.in-Ok.ensures.part) at c.in-Ok-rounds.ensures.told in
     let same : bytes_at (g.S.Store.files c.open.new.store) name ≡ bytes_at (g.S.Store.files c.finish.new.store) name
     = ap (λ f. bytes_at f name) c.open.ensures.read.looked.files ∙ ap (λ b. unwrap_or b []) run in
-    let worked = worked_more (worked_wrote c.finish.ensures.wrote c.finish.ensures.cause.later) (worked_more rounds (worked_looked c.in-Ok-rounds.ensures.part c.open.ensures.read.looked)) in
+    let worked = worked_more (worked_wrote c.finish.ensures.wrote c.finish.ensures.cause.later) (worked_more rounds (worked_looked c.in-Ok-rounds.ensures.last.part c.open.ensures.read.looked)) in
     record {
       left = λ fed is.
           c.open.ensures.left (term_postings fed) (λ told.
@@ -50,7 +50,7 @@ returns-in-Ok-rounds g c =
           subst (λ k. IfOk c.open.result (λ (m : Merging). m.runs ≡ k)) (size ∙ fed_count _ _ fed (fed_cap _ _ fed is).0 (c.in-Ok.ensures.places fed is)) c.open.ensures.runs;
       peak = λ fed is.
           let count = fed_count _ _ fed (fed_cap _ _ fed is).0 (c.in-Ok.ensures.places fed is) in
-          let top = peak_all (length fed) _ c.args.width _ _ c.in-Ok.first.pool.peak _ (c.in-Ok.ensures.peak ∙ is.peak) count c.in-Ok-rounds.ensures.peak c.in-Ok-rounds.ensures.few in
+          let top = peak_all (length fed) _ c.args.width _ _ c.in-Ok.first.pool.peak _ (c.in-Ok.ensures.peak ∙ is.peak) count c.in-Ok-rounds.ensures.last.peak c.in-Ok-rounds.ensures.last.few in
           subst (λ k. IfOk c.open.result (λ (m : Merging). m.peak ≡ k)) top c.open.ensures.peak;
       few = c.open.ensures.few;
       base = search rules;
@@ -63,14 +63,14 @@ returns-in-Ok-rounds g c =
       step = record {
         worked = worked;
         cause = cause_then c.open.result (omega (arith, c.finish.ensures.cause.later, c.rounds.ensures.step.worked.faults)) c.open.ensures.read.cause;
-        names = refusal_names_its c.in-Ok-rounds.last.file.part c.open.result c.in-Ok-rounds.ensures.part c.open.ensures.read.names;
+        names = refusal_names_its c.in-Ok-rounds.last.file.part c.open.result c.in-Ok-rounds.ensures.last.part c.open.ensures.read.names;
       };
     }
 
 pub returns-in-Err-rounds : goal.returns-in-Err-rounds
 returns-in-Err-rounds g c =
     let rounds = rw c.in-Ok.ensures.base at c.rounds.ensures.step.worked in
-    let damage = rw (c.in-Ok.ensures.base, c.in-Ok.ensures.part) at c.in-Err-rounds.ensures.undamaged in
+    let damage = rw (c.in-Ok.ensures.base, c.in-Ok.ensures.part) at c.in-Err-rounds.ensures.told in
     record {
       left = λ fed is. tt;
       run = λ told fed is. tt;
@@ -84,7 +84,7 @@ returns-in-Err-rounds g c =
           let is = c.requires.fed.1 in
           let now = c.finish.ensures.wrote.told ∙ told in
           let stored = fed_stored _ _ fed _ _ is (c.in-Ok.ensures.run told fed is) (c.in-Ok.ensures.places fed is) in
-          undamaged_as Round Merge c.in-Err-rounds.refusal (damage now (term_postings fed) stored);
+          damage_none Round Merge _ c.in-Err-rounds.refusal (damage now (term_postings fed) stored);
       step = record {
         worked = worked_more (worked_wrote c.finish.ensures.wrote c.finish.ensures.cause.later) rounds;
         cause = cause_err {T = Round} c.finish.ensures.cause.later c.in-Err-rounds.ensures.step.cause;

@@ -4,9 +4,10 @@ use Rattle.mg_dev.specs.Files.{Files, Reads, SameReads}
 use Rattle.mg_dev.specs.Names.{full_name}
 use Rattle.mg_dev.specs.declared.part.Part.TheVariants.{Run, MergeA, MergeB}
 use Rattle.mg_bits.specs.Writer.{WroteTo}
+use Rattle.mg_bits.proofs.CallerLemmas.{to_none}
 use Rattle.mg_runs.specs.Stays.{SameButRuns}
+use Rattle.mg_runs.specs.declared.runs.Runs.{Runs}
 use Rattle.mg_runs.proofs.Feeding.{fed_start}
-use Rattle.mg_runs.proofs.Finishing.{wrote_none}
 use Rattle.mg_runs.proofs.Parts.{apart, started_empty}
 use Rattle.mg_runs.proofs.Puts.{cause_more}
 use Rattle.mg_runs.proofs.Steps.{put_as}
@@ -20,7 +21,7 @@ but_runs base a b c =
 
 pub returns-in-Err : goal.returns-in-Err
 returns-in-Err g c =
-    let all = but_runs c.args.base.now c.reset_part.ensures.wrote (wrote_none _ _ _) (wrote_none _ _ _) in
+    let all = but_runs c.args.base.now c.reset_part.ensures.wrote (to_none _ _ _) (to_none _ _ _) in
     record {
       fed = tt;
       pool = tt;
@@ -36,7 +37,7 @@ returns-in-Err g c =
 
 pub returns-in-Err-reset_part : goal.returns-in-Err-reset_part
 returns-in-Err-reset_part g c =
-    let all = but_runs c.args.base.now c.reset_part.ensures.wrote c.reset_part-2.ensures.wrote (wrote_none _ _ _) in
+    let all = but_runs c.args.base.now c.reset_part.ensures.wrote c.reset_part-2.ensures.wrote (to_none _ _ _) in
     record {
       fed = tt;
       pool = tt;
