@@ -1,12 +1,12 @@
 -- Groups of runs, joined one after the other.
-use Rattle.std.proofs.Common.{◌≡◌, ℕ, Bool, ◌+◌, ◌-◌, ◌<◌, ◌≤◌, List, [], ◌∷◌, ◌++◌, length, refl, sym, ap, ◌∙◌, subst, arith, take, drop, min, is_some, IsSome, ◌≢◌, ◌%◌}
+use Rattle.std.proofs.Common.{◌≡◌, ℕ, Bool, ◌+◌, ◌-◌, ◌<◌, ◌≤◌, List, [], ◌∷◌, ◌++◌, length, sym, ap, ◌∙◌, subst, arith, take, drop, min, is_some, IsSome, ◌≢◌, ◌%◌}
 use Rattle.std.specs.declared.option.Option.{Option}
 use Rattle.std.proofs.lemmas.List.{nil_from_length}
 use Rattle.mg_dev.specs.Files.{Files}
 use Rattle.mg_dev.specs.Names.{full_name}
 use Rattle.mg_dev.specs.declared.part.Part.{Part}
 use Rattle.mg_dev.specs.declared.part.Part.TheVariants.{Run, MergeA, MergeB}
-use Rattle.mg_defs.specs.Bits.{Bits, bits_of, digits, filled, to_byte}
+use Rattle.mg_defs.specs.Bits.{bits_of, digits, filled, to_byte}
 use Rattle.mg_defs.specs.Postings.{merged}
 use Rattle.mg_defs.specs.RunBits.{run_bits, runs_bits}
 use Rattle.mg_defs.specs.declared.TermPosting.{TermPosting}

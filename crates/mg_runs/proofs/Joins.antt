@@ -2,12 +2,9 @@
 use Rattle.std.proofs.Common.{◌≡◌, ℕ, zero, suc, ◌+◌, ◌*◌, ◌%◌, ◌^◌, ◌≤◌, List, [], ◌∷◌, ◌++◌, length, drop, refl, sym, ap, ◌∙◌, subst}
 use Rattle.std.proofs.Common.{arith, Some, None, is_some, unwrap_or, ◌≢◌, append_assoc, append-nil, length-append, IsSome}
 use Rattle.std.proofs.lemmas.List.{drop-drop}
-use Rattle.std.specs.Prelude.{Err}
 use Rattle.std.specs.declared.option.Option.{Option}
 use Rattle.mg_dev.specs.Files.{Files, Reads, file_at, bytes_at}
 use Rattle.mg_dev.specs.declared.part.Part.{Part}
-use Rattle.mg_dev.specs.PartCauses.{HasPartCause}
-use Rattle.mg_dev.specs.declared.part_err.PartErr.{PartErr}
 use Rattle.mg_defs.specs.Bits.{Bits, digits, filled, to_byte}
 use Rattle.mg_defs.specs.Codes.{gamma}
 use Rattle.mg_defs.specs.Postings.{IsBefore, AllAfter, merged}
@@ -24,7 +21,7 @@ use Rattle.mg_runs.specs.Joins.{IsCounting, IsPutting, Passed}
 use Rattle.mg_runs.specs.declared.cursor.Cursor.{Cursor}
 use Rattle.mg_runs.proofs.CursorLaws.{after_start}
 use Rattle.mg_runs.proofs.Puts.{to_byte_same}
-use Rattle.mg_runs.proofs.Steps.{split_first, caused_as}
+use Rattle.mg_runs.proofs.Steps.{split_first}
 
 some_left : (left : List TermPosting) (count : ℕ) (p : TermPosting) → count ≤ length left → Some p ≡ first (drop count left) → count + 1 ≤ length left
 some_left [] zero p within e = absurd cc

@@ -1,13 +1,18 @@
 -- What stands for occurrences or has postings left does so as long as the files of the runs stay as they are.
-use Rattle.std.proofs.Common.{◌≡◌, ℕ, List, [], None, Some, sym, ap, ◌∙◌, subst, is_some, unwrap_or}
+use Rattle.std.proofs.Common.{◌≡◌, ℕ, List, [], None, Some, Ok, Err, sym, ap, ◌∙◌, drop, subst, is_some, unwrap_or}
+use Rattle.std.specs.Prelude.{IfOk, OnOk}
 use Rattle.std.specs.declared.option.Option.{Option}
-use Rattle.mg_dev.specs.Files.{Files, bytes_at, file_at}
+use Rattle.std.specs.declared.result.Result.{Result}
+use Rattle.mg_dev.specs.declared.part_err.PartErr.{PartErr}
+use Rattle.mg_dev.specs.Files.{Files, Reads, bytes_at, file_at}
 use Rattle.mg_dev.specs.Names.{full_name}
 use Rattle.mg_dev.specs.declared.part.Part.{Part}
 use Rattle.mg_dev.specs.declared.part.Part.TheVariants.{Run}
 use Rattle.mg_defs.specs.declared.TermPosting.{TermPosting}
 use Rattle.mg_bits.proofs.CallerLemmas.{bits_stay, holds_stay}
-use Rattle.mg_runs.specs.Merging.{AreLeft}
+use Rattle.mg_runs.specs.Merging.{AreLeft, first}
+use Rattle.mg_runs.specs.Reading.{ForLeft, GroupHas}
+use Rattle.mg_runs.specs.Steps.{GroupStep}
 use Rattle.mg_runs.specs.Joins.{IsRunPart}
 use Rattle.mg_runs.specs.Fed.{Inverting, IsFed}
 use Rattle.mg_runs.specs.Left.{Merging, IsLeftIn, IsMerging}
@@ -54,3 +59,20 @@ fed_kept runs f g fed told same is =
       occurrences = is.occurrences;
       few = is.few;
     }
+
+-- what is left of a merge once its next posting was taken
+pub next_left : {a b : Group} {f g : Option Files} {base : List ℕ} {left : List TermPosting} {r s : Reads} {m n : ℕ} (runs peak : ℕ)
+    (result : Result (Option TermPosting) PartErr) → IsLeftIn (Some a) f base left →
+    ForLeft a f (λ bytes left. IfOk result (λ p. (p ≡ first left) × GroupHas b bytes (drop 1 left))) → GroupStep a b result f g r s m n →
+    OnOk result (IsMerging (record { group = Some b; base = base; runs = runs; peak = peak }) g (drop 1 left))
+next_left runs peak (Err e) is told step = tt
+next_left {left = left} runs peak (Ok p) is told step = record {
+  has = record {
+    shape = step.shape;
+    same_base = ap (λ f. f.base.now) step.read.file ∙ is.same_base;
+    part = subst (λ f. IsRunPart f.part) (sym step.read.file) is.part;
+    told = λ t.
+        let before = ap (λ x. is_some x) (sym step.read.look.looked.files) ∙ t in
+        rw (step.read.look.looked.files, step.read.file) ((told before left (is.told before)).1);
+  };
+}

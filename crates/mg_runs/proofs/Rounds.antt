@@ -1,13 +1,12 @@
 -- Runs that are joined in groups.
-use Rattle.std.proofs.Common.{◌≡◌, ℕ, zero, suc, ◌+◌, ◌-◌, ◌*◌, ◌/◌, ◌<◌, ◌≤◌, ◌^◌, inl, inr, List, [], ◌∷◌, ◌++◌, length, refl, sym, ap, ◌∙◌, subst, arith, take, drop, map}
+use Rattle.std.proofs.Common.{◌≡◌, ℕ, zero, suc, ◌+◌, ◌-◌, ◌*◌, ◌/◌, ◌<◌, ◌≤◌, ◌^◌, List, [], ◌∷◌, ◌++◌, length, refl, sym, ap, ◌∙◌, subst, arith, take, drop, map}
 use Rattle.std.specs.List.{AllByRecursion, All}
 use Rattle.std.specs.Prelude.{sum_by}
 use Rattle.std.specs.Simd.{first_chunks}
 use Rattle.std.proofs.Math.Nat.{div-mul-le_self, lt-div-mul-add}
-use Rattle.std.proofs.lemmas.Bool.{cases_lt}
 use Rattle.std.proofs.lemmas.Bool.Decides.{nat_tests}
 use Rattle.std.proofs.lemmas.Nat.{div_below, le-div}
-use Rattle.std.proofs.lemmas.List.{drop-drop, length-drop, length-take, length-map}
+use Rattle.std.proofs.lemmas.List.{length-drop, length-take}
 use Rattle.std.proofs.lemmas.List.Elements.{All-nil, All-push, All-take, All-drop, All-tail}
 use Rattle.std.proofs.lemmas.List.Sums.{sum_by-cons, sum_by-take-drop, sum_by-take-le}
 use Rattle.mg_defs.specs.declared.TermPosting.{TermPosting}
@@ -18,7 +17,7 @@ use Rattle.mg_runs.proofs.Segments.{map_end}
 use Rattle.mg_runs.specs.Decoding.{IsSmall}
 use Rattle.mg_runs.specs.Cursors.{IsRun}
 use Rattle.mg_runs.specs.Merging.{AreRuns, times_all}
-use Rattle.mg_runs.specs.Rounds.{groups_of, first_joined, joined_runs, all_postings, AreWritten, IsWritten}
+use Rattle.mg_runs.specs.Rounds.{first_joined, joined_runs, all_postings, AreWritten, IsWritten}
 use Rattle.mg_runs.proofs.Merges.{times-merged, Rising-merged, AllCount-merged}
 
 -- ---- groups

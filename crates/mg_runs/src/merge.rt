@@ -104,10 +104,11 @@ impl<'a> Merge<'a> {
             (Worked self.old.base) }
         ensures cause { HasPartCause (S.faults store.old) (S.faults store.new) result }
     {
-        match &mut self.group {
-            Some(group) => group.next(store),
-            None => Ok(None),
-        }
+        let group = match &mut self.group {
+            Some(group) => group,
+            None => return Ok(None),
+        };
+        group.next(store)
     }
 
     /// The number of the first runs, which were written from full pools and the last one.

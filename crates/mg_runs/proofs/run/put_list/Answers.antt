@@ -30,11 +30,13 @@ loop-from-preserved g c =
     (group_first c.args.entries.now c.loop-from.from c.group_end-next.result p c.group_end-next.ensures.group c.number_at.ensures c.number_at-in-loop-from.ensures refl)
     c.group_end-next.ensures.after c.group_end-next.ensures.within c.in-Ok-put_posting.ensures.puts c.in-Ok-put_posting.ensures.place
 
-pub returns-clause-puts : goal.returns-clause-puts
-returns-clause-puts g c = on_run_end c.loop-from.invariant c.loop-from-test.false
+pub returns-in-Err : goal.returns-in-Err
+returns-in-Err g c = record { puts = puts_err c.in-Err.ensures.puts; place = tt }
 
-pub returns-in-Err-clause-puts : goal.returns-in-Err-clause-puts
-returns-in-Err-clause-puts g c = puts_err c.in-Err.ensures.puts
+pub returns-in-Err-put_posting : goal.returns-in-Err-put_posting
+returns-in-Err-put_posting g c = record { puts = puts_err (puts_more c.loop-from.invariant.puts c.in-Err-put_posting.ensures.puts); place = tt }
 
-pub returns-in-Err-put_posting-clause-puts : goal.returns-in-Err-put_posting-clause-puts
-returns-in-Err-put_posting-clause-puts g c = puts_err (puts_more c.loop-from.invariant.puts c.in-Err-put_posting.ensures.puts)
+pub returns : goal.returns
+returns g c =
+    let inv = c.loop-from.invariant in
+    record { puts = on_run_end inv c.loop-from-test.false; place = omega (arith, inv.place, inv.within) }

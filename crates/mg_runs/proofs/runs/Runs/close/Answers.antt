@@ -1,7 +1,5 @@
-use Rattle.std.proofs.Common.{◌≡◌, sym, ◌∙◌, ap, arith, refl}
+use Rattle.std.proofs.Common.{sym, ◌∙◌, ap, arith, refl}
 use Rattle.mg_dev.specs.Files.{bytes_at}
-use Rattle.mg_dev.specs.Names.{full_name}
-use Rattle.mg_dev.specs.declared.part.Part.TheVariants.{Run}
 use Rattle.mg_defs.specs.Bits.{bits_of}
 use Rattle.mg_runs.specs.Fed.{Inverting}
 use Rattle.mg_runs.proofs.Feeding.{fed_entries, fed_may_end}

@@ -6,7 +6,6 @@ use Rattle.mg_dev.specs.declared.part.Part.TheVariants.{Run, MergeA, MergeB}
 use Rattle.mg_bits.specs.Writer.{WroteTo}
 use Rattle.mg_bits.proofs.CallerLemmas.{to_none}
 use Rattle.mg_runs.specs.Stays.{SameButRuns}
-use Rattle.mg_runs.specs.declared.runs.Runs.{Runs}
 use Rattle.mg_runs.proofs.Feeding.{fed_start}
 use Rattle.mg_runs.proofs.Parts.{apart, started_empty}
 use Rattle.mg_runs.proofs.Puts.{cause_more}
