@@ -107,9 +107,9 @@ narrow-place code head p within range is =
 pieces-few : (doc : List ℕ) → (length (pieces_in Words doc) ≤ length doc) × (length (pieces_in Others doc) ≤ length doc)
 pieces-few doc = (omega (arith, length-map (parse doc) (piece_of_pair Words), parse_short doc), omega (arith, length-map (parse doc) (piece_of_pair Others), parse_short doc))
 
-pub range-next : (code : TextCode) (head : Head) (doc : List ℕ) (p q : Progress) → IsInRange code head p → HasAdded code doc p q →
+pub range-next : {code : TextCode} {head : Head} {doc : List ℕ} {p q : Progress} → IsInRange code head p → HasAdded code doc p q →
     coded_size code doc ≤ 12 * length doc + 13 → p.bytes + length doc ≤ head.collection → p.documents < head.documents → IsInRange code head q
-range-next code head doc p q range added short left fewer =
+range-next {doc = doc} range added short left fewer =
     let few = pieces-few doc in record {
       documents = omega (arith, added.documents, fewer);
       bytes = omega (arith, added.bytes, left);
@@ -124,25 +124,25 @@ range-next code head doc p q range added short left fewer =
 -- ---- where a document does not stand
 
 -- text that no collection has
-pub refused-next : (files : Option Files) (base : List ℕ) (head : Head) (r : TextReading) (docs : List (List ℕ)) (p : Progress) (refusal : PartErr) →
+pub refused-next : {files : Option Files} {base : List ℕ} {head : Head} {r : TextReading} {docs : List (List ℕ)} {p : Progress} (refusal : PartErr) →
     IsLoaded files base head r → HasRead (parts_at files base) head.version r.code docs p → p.documents < head.documents →
     ((collection : List ℕ) → TextStands r files collection → p.bytes + length (get_or (documents collection) p.documents []) ≤ head.collection →
     IsNotBad refusal) → IfBad refusal (StandForNone (parts_at files base))
-refused-next files base head r docs p Device loaded so fewer fine = tt
-refused-next files base head r docs p Memory loaded so fewer fine = tt
-refused-next files base head r docs p (Bad bad) loaded so fewer fine = λ collection stand.
+refused-next Device loaded so fewer fine = tt
+refused-next Memory loaded so fewer fine = tt
+refused-next {files} {base} {head} {r} {docs} {p} (Bad bad) loaded so fewer fine = λ collection stand.
     fine collection (reader-stands files base head r collection loaded stand) (next-of files base head r docs p collection loaded so fewer stand).1
 
 -- a document that is the collection's own, wherever there is one, and yet does not stand next
-pub other-next : (files : Option Files) (base : List ℕ) (head : Head) (r : TextReading) (docs : List (List ℕ)) (p : Progress) (doc : List ℕ)
+pub other-next : {files : Option Files} {base : List ℕ} {head : Head} {r : TextReading} {docs : List (List ℕ)} {p : Progress} (doc : List ℕ)
     (result : Result (Unit {0}) PartErr) → IsLoaded files base head r → HasRead (parts_at files base) head.version r.code docs p →
     p.documents < head.documents →
     ((collection : List ℕ) → TextStands r files collection → p.bytes + length (get_or (documents collection) p.documents []) ≤ head.collection → doc ≡ get_or (documents collection) p.documents []) →
     OnBad result (IsNextDoc (parts_at files base) head.version r.code doc p → ⊥) → OnBad result (StandForNone (parts_at files base))
-other-next files base head r docs p doc (Ok done) loaded so fewer own other = tt
-other-next files base head r docs p doc (Err Device) loaded so fewer own other = tt
-other-next files base head r docs p doc (Err Memory) loaded so fewer own other = tt
-other-next files base head r docs p doc (Err (Bad bad)) loaded so fewer own other = λ collection stand.
+other-next doc (Ok done) loaded so fewer own other = tt
+other-next doc (Err Device) loaded so fewer own other = tt
+other-next doc (Err Memory) loaded so fewer own other = tt
+other-next {files} {base} {head} {r} {docs} {p} doc (Err (Bad bad)) loaded so fewer own other = λ collection stand.
     let next = next-of files base head r docs p collection loaded so fewer stand in
     let is = own collection (reader-stands files base head r collection loaded stand) next.1 in
     other (subst (λ (d : List ℕ). IsNextDoc (parts_at files base) head.version r.code d p) (sym is) next.0)
@@ -153,20 +153,20 @@ pub next-there : (files now : Option Files) (base : List ℕ) (version : ℕ) (c
 next-there files now base version code other doc p same_files same_code next =
     subst (λ (f : Option Files). IsNextDoc (parts_at f base) version other doc p) (sym same_files) (subst (λ (c : TextCode). IsNextDoc (parts_at files base) version c doc p) (sym same_code) next)
 
-pub told-there : (files now : Option Files) → now ≡ files → IsSome files → IsSome now
-told-there files now same told = subst (λ (f : Option Files). IsSome f) (sym same) told
+pub told-there : {files now : Option Files} → now ≡ files → IsSome files → IsSome now
+told-there same told = subst (λ (f : Option Files). IsSome f) (sym same) told
 
 -- ---- documents so far
 
-pub code-range : (code now : TextCode) (head : Head) (p : Progress) → now ≡ code → IsInRange code head p → IsInRange now head p
-code-range code now head p same range = subst (λ (c : TextCode). IsInRange c head p) (sym same) range
+pub code-range : {code now : TextCode} {head : Head} {p : Progress} → now ≡ code → IsInRange code head p → IsInRange now head p
+code-range {head = head} {p = p} same range = subst (λ (c : TextCode). IsInRange c head p) (sym same) range
 
-pub none-yet : (parts : Parts) (version : ℕ) (code now : TextCode) (p : Progress) → now ≡ code → HasRead parts version now [] p → FoundDocs parts version code p
-none-yet parts version code now p same so = record { docs = []; so = subst (λ (c : TextCode). HasRead parts version c [] p) same so }
+pub none-yet : {parts : Parts} {version : ℕ} {code now : TextCode} {p : Progress} → now ≡ code → HasRead parts version now [] p → FoundDocs parts version code p
+none-yet {parts} {version} {p = p} same so = record { docs = []; so = subst (λ (c : TextCode). HasRead parts version c [] p) same so }
 
-pub docs-more : (files files_now : Option Files) (base : List ℕ) (version : ℕ) (code now : TextCode) (p q : Progress) → files_now ≡ files → now ≡ code →
+pub docs-more : {files files_now : Option Files} (base : List ℕ) {version : ℕ} {code now : TextCode} {p q : Progress} → files_now ≡ files → now ≡ code →
     FoundDocs (parts_at files base) version code p → FoundNext (parts_at files_now base) version now p q → FoundDocs (parts_at files base) version code q
-docs-more files files_now base version code now p q same_files same found there =
+docs-more {files} base {version} {code} {now} {p} {q} same_files same found there =
     let next = subst (λ (f : Option Files). FoundNext (parts_at f base) version now p q) same_files there in record {
       docs = found.docs ++ next.doc ∷ [];
       so =
@@ -179,10 +179,10 @@ abbrev pub ShowsNone : Option Files → List ℕ → Head → TextReading → Pr
 ShowsNone files base head r p refusal = IsLoaded files base head r → (docs : List (List ℕ)) → HasRead (parts_at files base) head.version r.code docs p →
     IfBad refusal (StandForNone (parts_at files base))
 
-pub docs-none : (files files_now : Option Files) (base : List ℕ) (head : Head) (r now : TextReading) (p : Progress) (refusal : PartErr) → files_now ≡ files →
+pub docs-none : {files files_now : Option Files} {base : List ℕ} {head : Head} {r now : TextReading} {p : Progress} (refusal : PartErr) → files_now ≡ files →
     SameText r now → IsLoaded files base head r → FoundDocs (parts_at files base) head.version r.code p →
     ShowsNone files_now base head now p refusal → IfBad refusal (StandForNone (parts_at files base))
-docs-none files files_now base head r now p refusal same_files same loaded found none =
+docs-none {files} {base = base} {head = head} {r = r} {now = now} {p = p} refusal same_files same loaded found none =
     let there : ShowsNone files base head now p refusal = subst (λ (f : Option Files). ShowsNone f base head now p refusal) same_files none in
     there (still-loaded files base head r now same loaded) found.docs (subst (λ (c : TextCode). HasRead (parts_at files base) head.version c found.docs p) (sym same.code) found.so)
 
@@ -194,22 +194,17 @@ pub end-here : (files now : Option Files) (base : List ℕ) (head : Head) (code 
 end-here files now base head code other p same_files same_code ends =
     subst (λ (f : Option Files). IsAtEnd (parts_at f base) head code p) same_files (subst (λ (c : TextCode). IsAtEnd (parts_at now base) head c p) same_code ends)
 
-pub bad-less : (P Q : Type 0) (refusal : PartErr) → (Q → P) → IfBad refusal (P → ⊥) → IfBad refusal (Q → ⊥)
-bad-less P Q Device so other = tt
-bad-less P Q Memory so other = tt
-bad-less P Q (Bad bad) so other = λ q. other (so q)
-
-pub text-found : (files : Option Files) (base : List ℕ) (head : Head) (r : TextReading) (p : Progress) → IsLoaded files base head r →
+pub text-found : {files : Option Files} {base : List ℕ} {head : Head} {r : TextReading} {p : Progress} → IsLoaded files base head r →
     FoundDocs (parts_at files base) head.version r.code p → p.documents ≡ head.documents → IsAtEnd (parts_at files base) head r.code p →
     FoundText (parts_at files base) (fields_of head) r.code
-text-found files base head r p loaded found all ends = record { docs = found.docs; meant = end-means files base head r found.docs p loaded found.so all ends }
+text-found {files} {base} {head} {r} {p} loaded found all ends = record { docs = found.docs; meant = end-means files base head r found.docs p loaded found.so all ends }
 
-pub text-none : (files : Option Files) (base : List ℕ) (head : Head) (r : TextReading) (p : Progress) (refusal : PartErr) → IsLoaded files base head r →
+pub text-none : {files : Option Files} {base : List ℕ} {head : Head} {r : TextReading} {p : Progress} (refusal : PartErr) → IsLoaded files base head r →
     FoundDocs (parts_at files base) head.version r.code p → p.documents ≡ head.documents → IfBad refusal (IsAtEnd (parts_at files base) head r.code p → ⊥) →
     IfBad refusal (StandForNone (parts_at files base))
-text-none files base head r p Device loaded found all other = tt
-text-none files base head r p Memory loaded found all other = tt
-text-none files base head r p (Bad bad) loaded found all other = λ collection stand. other (end-of files base head r found.docs p collection loaded found.so all stand)
+text-none Device loaded found all other = tt
+text-none Memory loaded found all other = tt
+text-none {files} {base} {head} {r} {p} (Bad bad) loaded found all other = λ collection stand. other (end-of files base head r found.docs p collection loaded found.so all stand)
 
 -- a reader of the set that has read on
 pub reads_on : {r now : TextReading} {files files_now : Option Files} {head : Head} → ReadsBy r files head → TextFits now files_now → SameText r now → ReadsBy now files_now head

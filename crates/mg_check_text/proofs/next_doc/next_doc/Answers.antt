@@ -23,9 +23,8 @@ add_doc-requires-clause-can g c =
 pub returns-in-Err-clause-read : goal.returns-in-Err-clause-read
 returns-in-Err-clause-read g c = record {
   found = λ told. tt;
-  none = λ loaded docs so.
-      refused-next (g.S.Store.files c.args.store.now) c.args.set.now.base.now c.args.set.now.head.now c.args.reader.now docs c.args.progress.now c.in-Err.refusal loaded so
-      c.requires.more (λ collection stand short. c.in-Err.ensures.never_bad collection (record { stands = stand; short = omega (arith, short) }));
+  none = λ loaded docs so. refused-next c.in-Err.refusal loaded so c.requires.more
+      (λ collection stand short. c.in-Err.ensures.never_bad collection (record { stands = stand; short = omega (arith, short) }));
   text = c.in-Err.ensures.text;
 }
 
@@ -33,10 +32,7 @@ pub returns-clause-range : goal.returns-clause-range
 returns-clause-range g c =
     let same : c.model.result.now ≡ c.args.reader.now.code = c.model.ensures ∙ c.decode_next.ensures.text.same.code in
     let left : c.args.progress.now.bytes + length c.bytes.result.now ≤ c.args.set.now.head.now.collection = omega (arith, c.in-Ok.ensures.short, ap length c.bytes.ensures) in
-    let range = code-range c.args.reader.now.code c.model.result.now c.args.set.now.head.now c.args.progress.now same c.requires.range in
-    both-ok _ _ _ c.add_doc.result
-    (λ added short. code-range c.model.result.now c.args.reader.now.code c.args.set.now.head.now c.add_doc.new.progress (sym same)
-    (range-next c.model.result.now c.args.set.now.head.now c.bytes.result.now c.args.progress.now c.add_doc.new.progress range added short left c.requires.more))
+    both-ok _ _ _ c.add_doc.result (λ added short. code-range (sym same) (range-next (code-range same c.requires.range) added short left c.requires.more))
     c.add_doc.ensures.added c.add_doc.ensures.short
 
 pub returns-clause-read : goal.returns-clause-read
@@ -44,14 +40,13 @@ returns-clause-read g c = record {
   found = search rules;
   none = λ loaded docs so.
       let same : c.model.result.now ≡ c.args.reader.now.code = c.model.ensures ∙ c.decode_next.ensures.text.same.code in
-      let told = told-there (g.S.Store.files c.args.store.now) (g.S.Store.files c.decode_next.new.store) c.decode_next.ensures.text.looks.files loaded.told in
-      other-next (g.S.Store.files c.args.store.now) c.args.set.now.base.now c.args.set.now.head.now c.args.reader.now docs c.args.progress.now
-      c.bytes.result.now c.add_doc.result loaded so c.requires.more
+      let files = c.decode_next.ensures.text.looks.files in
+      other-next c.bytes.result.now c.add_doc.result loaded so c.requires.more
       (λ collection stand short. c.bytes.ensures ∙ c.in-Ok.ensures.own collection (record { stands = stand; short = omega (arith, short) }))
       (on-bad (IsNextDoc (parts_at (g.S.Store.files c.decode_next.new.store) c.args.set.now.base.now) c.args.set.now.head.now.version c.model.result.now c.bytes.result.now c.args.progress.now)
       (IsNextDoc (parts_at (g.S.Store.files c.args.store.now) c.args.set.now.base.now) c.args.set.now.head.now.version c.args.reader.now.code c.bytes.result.now c.args.progress.now) c.add_doc.result
       (λ next. next-there (g.S.Store.files c.args.store.now) (g.S.Store.files c.decode_next.new.store) c.args.set.now.base.now c.args.set.now.head.now.version
-      c.args.reader.now.code c.model.result.now c.bytes.result.now c.args.progress.now c.decode_next.ensures.text.looks.files same next)
-      (c.add_doc.ensures.compared.other told));
+      c.args.reader.now.code c.model.result.now c.bytes.result.now c.args.progress.now files same next)
+      (c.add_doc.ensures.compared.other (told-there files loaded.told)));
   text = text_looks c.in-Ok.ensures.text c.add_doc.ensures.compared.looks;
 }
