@@ -1,5 +1,6 @@
 -- What the calls of a writer do to the documents that it took.
-use Rattle.std.proofs.Common.{arith, ◌≡◌, ◌≢◌, ◌+◌, ◌-◌, ◌*◌, ◌/◌, ◌^◌, ◌≤◌, ◌<◌, ◌++◌, ℕ, zero, suc, true, false, List, [], ◌∷◌, length, refl, sym, ◌∙◌, ap, subst, IsSome, is_some, unwrap_or, get_or, length-append, append_assoc, append-nil}
+use Rattle.std.proofs.Common.{arith, ◌≡◌, ◌≢◌, ◌+◌, ◌-◌, ◌*◌, ◌/◌, ◌^◌, ◌≤◌, ◌<◌, ◌++◌, ℕ, zero, suc, true, false}
+use Rattle.std.proofs.Common.{List, [], ◌∷◌, length, refl, sym, ◌∙◌, ap, subst, IsSome, is_some, unwrap_or, get_or, length-append, append_assoc, append-nil}
 use Rattle.std.specs.List.{flat_map}
 use Rattle.std.specs.declared.option.Option.{Option}
 use Rattle.std.proofs.lemmas.Grind.{flat_map-append}
@@ -126,11 +127,11 @@ took_none w f g h r s t docs pairs closed left place text_name places_name empty
       bound = omega (arith, place, left);
     }
 
-pub took_begun : (w : TextWriting) (p : Writing) (q : BitWriting) (f g h : Option Files) (r s t : Reads) (docs : List Bits) (pairs : ℕ) →
+pub took_begun : {w : TextWriting} {p : Writing} {q : BitWriting} {f g h : Option Files} {r s t : Reads} (docs : List Bits) (pairs : ℕ) →
     Wrote w.places p f g (eight (w.text.place / 8)) → WroteTo w.places.name f g r s → WroteBits w.text q g h (gamma (pairs + 1)) → WroteTo w.text.name g h s t → Holds q h →
     w.is_open ≡ false → w.docs < 2 ^ 24 → w.pairs + pairs ≤ 2 ^ 32 - 1 → IsOnText w f docs [] →
     IsOnText (record w { text = q; places = p; docs = w.docs + 1; pairs = w.pairs + pairs; is_open = true; left = 2 * pairs }) h docs (gamma (pairs + 1))
-took_begun w p q f g h r s t docs pairs placed placed_to wrote to holds closed few small took =
+took_begun {w} {p} {q} {f} {g} {h} {r} {s} {t} docs pairs placed placed_to wrote to holds closed few small took =
     let apart = names_apart w f docs [] took in
     let open_too : true ≡ false → ⊥ = λ e. cc in
     let at : w.text.place / 8 ≡ length (text_bytes docs) = omega (arith, took.place) in
@@ -219,11 +220,11 @@ whole_text w files docs took =
     ap (λ n. digits n 0) e
 
 -- the text and the places stand once all is written; no number of the text is above a byte's, so that its bits tell its bytes
-pub text_finished : (w : TextWriting) (p o : Writing) (q : BitWriting) (f g h k : Option Files) (r s t u : Reads) (docs : List Bits) → IsSome f → w.is_open ≡ false →
+pub text_finished : {w : TextWriting} {p o : Writing} {q : BitWriting} {f g h k : Option Files} {r s t u : Reads} (docs : List Bits) → IsSome f → w.is_open ≡ false →
     Wrote w.places p f g (eight (w.text.place / 8)) → WroteTo w.places.name f g r s →
     (IsSome g → bits_of (bytes_at h w.text.name) ≡ bits_put w.text g ++ digits (to_byte w.text.place) 0) → WroteTo w.text.name g h s t → q.name ≡ w.text.name → Holds q h →
     Wrote p o h k [] → o.buffered ≡ [] → WroteTo p.name h k t u → IsOnText w f docs [] → DocumentsStand w.base k docs
-text_finished w p o q f g h k r s t u docs told closed placed placed_to file to name holds last empty last_to took =
+text_finished {w} {p} {o} {q} {f} {g} {h} {k} {r} {s} {t} {u} docs told closed placed placed_to file to name holds last empty last_to took =
     let apart = names_apart w f docs [] took in
     let told_g : IsSome g = placed_to.told ∙ told in
     let told_h : IsSome h = to.told ∙ told_g in

@@ -1,5 +1,5 @@
 -- A writer whose files stay holds what it held.
-use Rattle.std.proofs.Common.{◌≡◌, ℕ, List, [], ◌++◌, Option, sym, ◌∙◌, ap, is_some, unwrap_or}
+use Rattle.std.proofs.Common.{◌≡◌, List, [], ◌++◌, Option, sym, ◌∙◌, ap, is_some, unwrap_or}
 use Rattle.mg_dev.specs.Files.{Files, file_at}
 use Rattle.mg_dev.specs.Names.{full_name}
 use Rattle.mg_dev.specs.declared.part.Part.TheVariants.{Text, Places}

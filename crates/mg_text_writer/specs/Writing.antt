@@ -1,10 +1,14 @@
 -- A writer of coded documents: what contracts see of it, and which documents it took.
-use Rattle.std.specs.Prelude.{◌≡◌, ◌≤◌, ◌+◌, ◌-◌, ◌*◌, ◌%◌, ◌^◌, ◌==◌, ◌++◌, ℕ, Bool, true, false, List, [], ◌∷◌, length, map, if◌then◌else◌}
+use Rattle.std.specs.Prelude.{◌≡◌, ◌≢◌, ◌≤◌, ◌+◌, ◌-◌, ◌*◌, ◌%◌, ◌^◌, ◌==◌, ◌++◌, ℕ, Bool, true, false, List, [], ◌∷◌, length, map, if◌then◌else◌}
 use Rattle.std.specs.List.{flat_map}
-use Rattle.std.specs.Option.{IsSome}
+use Rattle.std.specs.Option.{IsSome, is_some}
 use Rattle.std.specs.declared.option.Option.{Option}
-use Rattle.mg_dev.specs.Files.{Files, bytes_at, written}
+use Rattle.std.specs.declared.result.Result.{Result}
+use Rattle.mg_dev.specs.Causes.{HasPutCause}
+use Rattle.mg_dev.specs.Files.{Files, Reads, SameReads, bytes_at, file_at, written}
+use Rattle.mg_dev.specs.Moments.{Between}
 use Rattle.mg_dev.specs.Names.{full_name}
+use Rattle.mg_dev.specs.declared.device.PutErr.{PutErr}
 use Rattle.mg_dev.specs.declared.part.Part.TheVariants.{Text, Places}
 use Rattle.mg_bits.specs.Alike.{WhereSame}
 use Rattle.mg_bits.specs.Writer.{Writing, put_to}
@@ -124,3 +128,34 @@ pub record DocumentsStand (base : List ℕ) (files : Option Files) (docs : List 
   pub text : bits_of (bytes_at files (full_name base Text)) ≡ bits_of (text_bytes docs)
   pub bytes : bytes_at files (full_name base Text) ≡ text_bytes docs
   pub places : bytes_at files (full_name base Places) ≡ flat_map eight (running 0 (sizes docs))
+
+-- ---- what calls promise
+
+-- each file but that of this name is as before
+abbrev pub KeepsBut : List ℕ → Option Files → Option Files → Type 0
+KeepsBut name files_before files_now = (n : List ℕ) → n ≢ name → file_at files_now n ≡ file_at files_before n
+
+-- what a call promises that writes on
+pub record WritesOn {T : Type 0} (claim change : Type 0) (kept : Option Files → Option Files → Type 0)
+    (old new : TextWriting) (result : Result T PutErr) (files_before files_now : Option Files)
+    (reads_before reads_now : Reads) (faults_before faults_now : ℕ) : Type 0 where
+  -- what the writer took
+  pub took : claim
+  -- how its numbers changed
+  pub numbers : change
+  -- it writes under the same base
+  pub base : new.base ≡ old.base
+  -- other files are as before
+  pub others : kept files_before files_now
+  -- the store tells its files where it did
+  pub told : is_some files_now ≡ is_some files_before
+  -- no part is read
+  pub reads : SameReads reads_before reads_now
+  -- a device's failure has a cause
+  pub cause : HasPutCause faults_before faults_now result
+
+-- the same by the functions that tell of a store
+abbrev pub Writes : {X T : Type 0} → Type 0 → Type 0 → (Option Files → Option Files → Type 0) → TextWriting →
+    TextWriting → Result T PutErr → (X → Option Files) → (X → Reads) → (X → ℕ) → X → X → Type 0
+Writes claim change kept old new result files reads faults before now = Between files reads faults before now
+    (WritesOn claim change kept old new result)

@@ -2,7 +2,7 @@
 ghost use Rattle.std.specs.Prelude.{◌≡◌, ◌≢◌, ◌≤◌, ◌<◌, ◌+◌, ◌-◌, ◌^◌, [], ℕ, List, true, false, length, IfOk, OnOk};
 ghost use Rattle.std.specs.Option.{is_some};
 ghost use Rattle.mg_dev.specs.Causes.{HasPutCause};
-ghost use Rattle.mg_dev.specs.Files.{SameReads, file_at};
+ghost use Rattle.mg_dev.specs.Files.{SameReads};
 ghost use Rattle.mg_dev.specs.Names.{full_name};
 ghost use Rattle.mg_dev.specs.declared.part.Part.TheVariants as part;
 ghost use Rattle.mg_bits.specs.Writer.{WroteTo, Wrote, KeepsOthers};
@@ -11,7 +11,7 @@ ghost use Rattle.mg_defs.specs.Canon.{codeword};
 ghost use Rattle.mg_defs.specs.Codes.{gamma};
 ghost use Rattle.mg_defs.specs.Numbers.{eight};
 ghost use Rattle.mg_defs.specs.Marks.{code_of};
-ghost use Rattle.mg_text_writer.specs.Writing.{Began, Ended, IsOnText, PutOne, DocumentsStand, text_bytes, turn, with_empty_text, TookBits, TookFirst, TookDoc, WhereClosed, text_at};
+ghost use Rattle.mg_text_writer.specs.Writing.{Began, DocumentsStand, Ended, IsOnText, KeepsBut, PutOne, TookBits, TookDoc, TookFirst, WhereClosed, Writes, text_at, text_bytes, turn, with_empty_text};
 
 use mg_bits::{BitWriter, PageWriter};
 use mg_codes::put_gamma;
@@ -119,15 +119,10 @@ impl<'a> TextWriter<'a> {
         requires closed { self.old.is_open ≡ false }
         requires docs { self.old.docs < 2 ^ 24 }
         requires pairs { self.old.pairs + pairs ≤ 2 ^ 32 - 1 }
-        ensures took { OnOk result (TookFirst self.old self.new (S.files store.old)
-            (S.files store.new) (gamma (pairs + 1))) }
-        ensures began { OnOk result (Began self.old self.new pairs) }
-        ensures base { self.new.base ≡ self.old.base }
-        ensures others { KeepsOthers (full_name self.old.base part.Text)
-            (full_name self.old.base part.Places) (S.files store.old) (S.files store.new) }
-        ensures told { is_some (S.files store.new) ≡ is_some (S.files store.old) }
-        ensures reads { SameReads (S.reads store.old) (S.reads store.new) }
-        ensures cause { HasPutCause (S.faults store.old) (S.faults store.new) result }
+        ensures { Writes (OnOk result (TookFirst self.old self.new (S.files store.old)
+            (S.files store.new) (gamma (pairs + 1)))) (OnOk result (Began self.old self.new pairs))
+            (KeepsOthers (full_name self.old.base part.Text) (full_name self.old.base part.Places))
+            self.old self.new result S.files S.reads S.faults store.old store.new }
     {
         let count = u64::from(pairs);
         put_place(&mut self.places, store, self.text.place() / 8)?;
@@ -159,15 +154,10 @@ impl<'a> TextWriter<'a> {
         requires more { 0 < self.old.left }
         requires turn { stream ≡ turn self.old.left }
         requires symbol { symbol < length (code_of stream model.now).pieces }
-        ensures took { OnOk result (TookBits self.old self.new (S.files store.old)
-            (S.files store.new) (codeword (code_of stream model.now).lengths symbol)) }
-        ensures put { OnOk result (PutOne self.old self.new) }
-        ensures base { self.new.base ≡ self.old.base }
-        ensures others { (n : List ℕ) → n ≢ full_name self.old.base part.Text →
-            file_at (S.files store.new) n ≡ file_at (S.files store.old) n }
-        ensures told { is_some (S.files store.new) ≡ is_some (S.files store.old) }
-        ensures reads { SameReads (S.reads store.old) (S.reads store.new) }
-        ensures cause { HasPutCause (S.faults store.old) (S.faults store.new) result }
+        ensures { Writes (OnOk result (TookBits self.old self.new (S.files store.old)
+            (S.files store.new) (codeword (code_of stream model.now).lengths symbol)))
+            (OnOk result (PutOne self.old self.new)) (KeepsBut (full_name self.old.base part.Text))
+            self.old self.new result S.files S.reads S.faults store.old store.new }
     {
         model.canon(stream).put(&mut self.text, store, symbol)?;
         self.left -= 1;
@@ -184,15 +174,10 @@ impl<'a> TextWriter<'a> {
             × IsOnText self.old (S.files store.old) docs bits }
         requires begun { self.old.is_open ≡ true }
         requires whole { self.old.left ≡ 0 }
-        ensures took { OnOk result (TookDoc self.old self.new (S.files store.old)
-            (S.files store.new)) }
-        ensures ended { OnOk result (Ended self.old self.new) }
-        ensures base { self.new.base ≡ self.old.base }
-        ensures others { (n : List ℕ) → n ≢ full_name self.old.base part.Text →
-            file_at (S.files store.new) n ≡ file_at (S.files store.old) n }
-        ensures told { is_some (S.files store.new) ≡ is_some (S.files store.old) }
-        ensures reads { SameReads (S.reads store.old) (S.reads store.new) }
-        ensures cause { HasPutCause (S.faults store.old) (S.faults store.new) result }
+        ensures { Writes (OnOk result (TookDoc self.old self.new (S.files store.old)
+            (S.files store.new))) (OnOk result (Ended self.old self.new))
+            (KeepsBut (full_name self.old.base part.Text)) self.old self.new result S.files S.reads
+            S.faults store.old store.new }
     {
         self.text.align(store)?;
         self.is_open = false;

@@ -6,7 +6,7 @@ pub returns-clause-finished : goal.returns-clause-finished
 returns-clause-finished g c =
     let closed = rw (← c.self.view_is) at c.requires.closed in
     rw (← c.self.view_is)
-    (λ docs took told. text_finished _ _ _ _ _ _ _ _ _ _ _ _ docs told closed (rw c.place-size.ensures at c.in_ok-put_place.ensures.bytes)
+    (λ docs took told. text_finished docs told closed (rw c.place-size.ensures at c.in_ok-put_place.ensures.bytes)
     c.in_ok-put_place.ensures.wrote (λ t. c.in_ok-finish.ensures.file t) c.in_ok-finish.ensures.wrote c.in_ok-finish.ensures.name
     c.in_ok-finish.ensures.holds c.in_ok-finish-2.ensures.bytes c.in_ok-finish-2.ensures.nothing c.in_ok-finish-2.ensures.wrote took)
 
