@@ -19,6 +19,6 @@ returns g c = record {
       let told_too : IsSome (g.S.Store.files c.end_doc.new.store) = c.end_doc.ensures.told ∙ told in
       let base : c.end_doc.new.self.base ≡ [] = c.end_doc.ensures.base ∙ c.requires.base in
       text-closed c.args.writer.now c.end_doc.new.self bits (g.S.Store.files c.end_doc.new.store) (text_in (g.S.Store.files c.finish.new.store)) whole
-      c.in_ok-end_doc.ensures.ended
+      c.in_ok-end_doc.ensures.numbers
       (ap (λ (base : List ℕ). bytes_at (g.S.Store.files c.finish.new.store) (full_name base part.Text)) (sym base) ∙ c.in_ok-finish.ensures.bytes _ whole told_too);
 }

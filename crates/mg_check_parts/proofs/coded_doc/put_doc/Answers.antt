@@ -38,12 +38,12 @@ close_text-requires-clause-base g c =
 pub close_text-requires-clause-begun : goal.close_text-requires-clause-begun
 close_text-requires-clause-begun g c =
     let put = put-there c.in-Ok-Some.field-0 _ _ c.in-Ok-Some.field-0-is c.in-Ok-Some.ensures.put in
-    put.is_open ∙ c.in_ok-begin_doc.ensures.began.is_open
+    put.is_open ∙ c.in_ok-begin_doc.ensures.numbers.is_open
 
 pub close_text-requires-clause-whole : goal.close_text-requires-clause-whole
 close_text-requires-clause-whole g c =
     let put = put-there c.in-Ok-Some.field-0 _ _ c.in-Ok-Some.field-0-is c.in-Ok-Some.ensures.put in
-    omega (arith, put.left, c.in_ok-begin_doc.ensures.began.left, c.count_pairs-count.ensures)
+    omega (arith, put.left, c.in_ok-begin_doc.ensures.numbers.left, c.count_pairs-count.ensures)
 
 pub returns-clause-coded : goal.returns-clause-coded
 returns-clause-coded g c = λ told.
@@ -52,6 +52,6 @@ returns-clause-coded g c = λ told.
     let told_too : IsSome (g.S.Store.files c.put_pairs.new.store) = put.told ∙ c.begin_doc.ensures.told ∙ told in
     doc-coded c.args.model.now c.args.doc.now (text_in (g.S.Store.files c.close_text.new.store)) c.count_pairs-count.result c.args.writer.now
     c.begin_doc.new.self c.put_pairs.new.writer (g.S.Store.files c.begin_doc.new.store) (g.S.Store.files c.put_pairs.new.store) c.args.uses.now
-    c.put_pairs.new.uses c.count_pairs-count.ensures c.requires.can.short c.requires.pairs c.requires.docs c.in_ok-begin_doc.ensures.began put
+    c.put_pairs.new.uses c.count_pairs-count.ensures c.requires.can.short c.requires.pairs c.requires.docs c.in_ok-begin_doc.ensures.numbers put
     (c.in_ok-close_text.ensures.closed (gamma (c.count_pairs-count.result + 1) ++ flat_map (coded_pair c.args.model.now) (parse c.args.doc.now))
     (put.took (gamma (c.count_pairs-count.result + 1)) began) told_too)

@@ -12,7 +12,7 @@ returns-clause-put g c =
     record {
       took = λ bits on. piece-put code c.args.piece.now c.in-Some.symbol c.args.writer.now _ (g.S.Store.files c.args.store.now) _ bits _
           (c.in-Ok.ensures.took [] bits on) (ap (codeword code.lengths) (sym number));
-      put = c.in-Ok.ensures.put;
+      put = c.in-Ok.ensures.numbers;
       base = c.put_piece.ensures.base;
       told = c.put_piece.ensures.told;
       known = known-of code c.args.piece.now c.in-Some.symbol there;

@@ -51,7 +51,7 @@ returns-in-None-term_of g c =
       behind = λ met is.
           let taken = index_kept c.runs_stay.ensures.fed _ _ _ _ _ _ (is.text_base ∙ sym is.runs_base) e.told (λ n a b. e.others n a) is.index in
           wrote_piece _ _ _ _ _ met c.args.stream c.args.piece.now None more term_is
-          (put_bits c.args.stream _ _ _ c.args.piece.now _ _ _ _ code number c.in-Ok.ensures.took) c.in-Ok.ensures.put e.base refl
+          (put_bits c.args.stream _ _ _ c.args.piece.now _ _ _ _ code number c.in-Ok.ensures.took) c.in-Ok.ensures.numbers e.base refl
           (subst (λ (fed : List (ℕ × ℕ)). HasTaken c.self.inside.index (g.S.Store.files c.put_piece.new.store) (length c.self.inside.plan.now.terms.terms) fed) (sym (append-nil _)) taken) is;
     }))
 
@@ -97,7 +97,7 @@ returns g c =
                   let took = put_bits c.args.stream _ _ _ c.args.piece.now _ _ _ _ code number c.in-Ok.ensures.took in
                   let base = is.runs_base ∙ sym is.text_base ∙ sym c.put_piece.ensures.base in
                   wrote_piece _ _ _ _ _ met c.args.stream c.args.piece.now (Some c.in-Some-term_of.term) more term_is
-                  (λ docs bits on. text_kept _ _ _ _ docs _ base c.add.ensures.wrote (took docs bits on)) c.in-Ok.ensures.put c.put_piece.ensures.base
+                  (λ docs bits on. text_kept _ _ _ _ docs _ base c.add.ensures.wrote (took docs bits on)) c.in-Ok.ensures.numbers c.put_piece.ensures.base
                   c.add.ensures.base
                   (subst (λ (d : ℕ). HasTaken c.add.new.self (g.S.Store.files c.add.new.store) (length c.self.inside.plan.now.terms.terms)
                   (occurring_by c.self.inside.plan.now met ++ with_doc d (Some c.in-Some-term_of.term))) is.doc taken) is;

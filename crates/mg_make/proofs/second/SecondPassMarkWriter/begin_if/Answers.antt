@@ -64,6 +64,6 @@ returns g c =
     (record { base = refl; plan = refl; limit = refl })
     (record {
       behind = λ met is.
-          wrote_start _ _ _ _ met c.index-pairs.result.now closed here low e.took e.began e.base
+          wrote_start _ _ _ _ met c.index-pairs.result.now closed here low e.took e.numbers e.base
           (λ terms fed taken. index_kept c.runs_stay.ensures.fed _ _ _ _ terms fed (is.text_base ∙ sym is.runs_base) e.told e.others taken) is;
     }))

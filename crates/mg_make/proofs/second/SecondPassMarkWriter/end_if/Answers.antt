@@ -34,7 +34,7 @@ returns g c =
           (record { base = refl; plan = refl; limit = refl })
           (record {
             behind = λ met is.
-                wrote_stop _ _ _ _ met none w.in-Ok.ensures.took w.in-Ok.ensures.ended e.base
+                wrote_stop _ _ _ _ met none w.in-Ok.ensures.took w.in-Ok.ensures.numbers e.base
                 (λ terms fed taken. index_kept c.runs_stay.ensures.fed _ _ _ _ terms fed (is.text_base ∙ sym is.runs_base) e.told (λ m a b. e.others m a) taken) is;
           }))
       | in-Err w ↦
