@@ -1,5 +1,5 @@
 -- Where the text of a set means documents: what the other parts and the head's numbers are to be.
-use Rattle.std.proofs.Common.{arith, ◌≡◌, ◌≤◌, ◌<◌, ◌-◌, ◌*◌, ◌⊎◌, inl, inr, ℕ, List, length, map, IfErr, OnOk, Ok, Err, sym, ap, subst, ◌∙◌}
+use Rattle.std.proofs.Common.{arith, ◌≡◌, ◌≤◌, ◌<◌, ◌*◌, ◌⊎◌, inl, inr, ℕ, List, length, map, IfErr, OnOk, Ok, Err, sym, ap, subst, ◌∙◌}
 use Rattle.std.specs.declared.option.Option.{Option}
 use Rattle.std.specs.declared.result.Result.{Result}
 use Rattle.std.proofs.Math.Nat.{eq-or-lt_of_le}
@@ -23,9 +23,11 @@ use Rattle.mg_defs.proofs.StandDocs.{most}
 use Rattle.mg_defs.proofs.StandLaws.{stands-only, told-stands}
 use Rattle.mg_defs.proofs.StandWhole.{whole-set}
 use Rattle.mg_laws.proofs.WholeBytes.{entries_sized}
+use Rattle.mg_dev.specs.declared.part.Part.{Part}
 use Rattle.mg_dev.specs.declared.part_err.PartErr.{PartErr}
 use Rattle.mg_dev.specs.declared.part_err.PartErr.TheVariants.{Device, Memory, Bad}
 use Rattle.mg_layout.specs.HeadAnswers.{fields_of}
+use Rattle.mg_layout.specs.Sizes.{AnswersSize}
 use Rattle.mg_layout.specs.Stands.{parts_at}
 use Rattle.mg_layout.specs.declared.head.Head.{Head}
 use Rattle.mg_model.specs.Terms.{TermNumbers, terms_and_numbers}
@@ -173,6 +175,18 @@ compares-so P Q r so back is = record { stand = ok-so P Q r so is.stand; other =
 -- a refusal tells of what is so only where that is which it refutes
 pub refuted : (P Q : Type 0) (refusal : PartErr) → (Q → P) → Refutes P refusal → Compares {T = Unit {0}} Q (Err refusal)
 refuted P Q refusal back other = record { stand = tt; other = refutes-so P Q refusal back other }
+
+-- the size of a part
+pub size-refuted : (P : Type 0) (part : Part) (wanted : ℕ) (bytes : List ℕ) (refusal : PartErr) → AnswersSize part wanted bytes (Err refusal) →
+    (P → length bytes ≡ wanted) → Compares {T = Unit {0}} P (Err refusal)
+size-refuted P part wanted bytes Device answer of = record { stand = tt; other = tt }
+size-refuted P part wanted bytes Memory answer of = record { stand = tt; other = tt }
+size-refuted P part wanted bytes (Bad bad) answer of = record { stand = tt; other = λ p. answer.0 (of p) }
+
+pub size-compared : (P : Type 0) (part : Part) (wanted : ℕ) (bytes : List ℕ) (result : Result (Unit {0}) PartErr) → AnswersSize part wanted bytes result →
+    (length bytes ≡ wanted → P) → (P → length bytes ≡ wanted) → Compares P result
+size-compared P part wanted bytes (Ok value) answer so of = record { stand = so answer; other = tt }
+size-compared P part wanted bytes (Err refusal) answer so of = size-refuted P part wanted bytes refusal answer of
 
 -- what was compared of a head and of the parts is all
 pub rest-of : (files : Option Files) (base : List ℕ) (head : Head) (terms : ℕ) (collection : List ℕ) → terms ≡ length (dictionary collection) →

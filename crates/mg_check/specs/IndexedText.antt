@@ -11,7 +11,7 @@ use Rattle.mg_defs.specs.Terms.{dictionary, docs}
 use Rattle.mg_text.specs.Reading.{TextReading, TextStands}
 use Rattle.mg_check_parts.specs.Refusals.{Refutes}
 use Rattle.mg_check_text.specs.Reads.{HasTerms, ReadsText}
-use Rattle.mg_check_index.specs.Listing.{AreSizes, CanCompareIn, ComparedIn, HasRoomFor, HasRoomForAll, HoldsLists, IndexStands, ListsStand, Ranged, lists_upto}
+use Rattle.mg_check_index.specs.Listing.{AreSizes, CanCompareIn, ComparedIn, HasRoomFor, HasRoomForAll, HoldsLists, IndexStands, IsLaidOut, ListsStand, Ranged, SameRooms, lists_upto}
 use Rattle.mg_check_index.specs.declared.indexed.Indexed.{Indexed}
 use Rattle.mg_check_index.specs.declared.lists.Compared.{Compared}
 
@@ -40,6 +40,18 @@ ForNextLists reader files lists before claim = (collection : List ℕ) → TextS
 abbrev pub ForIndex : TextReading → Option Files → Indexed → (List ℕ → Type 0) → Type 0
 ForIndex reader files of claim = (collection : List ℕ) →
     IsIndexOf reader files of.table.now.terms of.docs.now collection → claim collection
+
+-- ---- lists that are read of the text
+
+-- postings are read into the lists of a range, told of the moments before and after
+pub record FillsLists {T : Type 0} (r now : TextReading) (old new : Ranged) (result : Result T PartErr)
+    (files files_now : Option Files) (reads reads_now : Reads) (faults faults_now : ℕ) : Type 0 where
+  -- each list is within its room
+  pub laid : IsLaidOut new
+  -- their rooms are as before
+  pub rooms : SameRooms old new
+  -- only the text was read
+  pub text : ReadsText r now result files files_now reads reads_now faults faults_now
 
 -- ---- what a comparison of the index starts from
 

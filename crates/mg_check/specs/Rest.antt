@@ -2,7 +2,8 @@
 use Rattle.std.specs.Prelude.{◌≡◌, ◌*◌, ℕ, List, length, IfErr, OnOk}
 use Rattle.std.specs.declared.option.Option.{Option}
 use Rattle.std.specs.declared.result.Result.{Result}
-use Rattle.mg_dev.specs.Files.{Files}
+use Rattle.std.specs.Option.{IsSome}
+use Rattle.mg_dev.specs.Files.{Files, Reads}
 use Rattle.mg_dev.specs.declared.part_err.PartErr.{PartErr}
 use Rattle.mg_defs.specs.Means.{StandForNone}
 use Rattle.mg_defs.specs.Occurrences.{occurrences}
@@ -13,6 +14,8 @@ use Rattle.mg_layout.specs.declared.head.Head.{Head}
 use Rattle.mg_check_index.specs.Counting.{TermsStand}
 use Rattle.mg_check.specs.Found.{StandsWith}
 use Rattle.mg_check_index.specs.Listing.{IndexStands}
+use Rattle.mg_text.specs.Reading.{TextReading, WhereTextStands}
+use Rattle.mg_check_parts.specs.Looks.{LooksAtSet}
 use Rattle.mg_check_parts.specs.Refusals.{OnBad, Refutes}
 
 -- the head has as many terms and occurrences as a collection, and the sizes of its lists and skip entries
@@ -49,13 +52,31 @@ pub record Compares {T : Type 0} (holds : Type 0) (result : Result T PartErr) : 
   pub stand : OnOk result holds
   pub other : IfErr result (Refutes holds)
 
+-- something that a store tells is compared, told of the moments before and after
+pub record ComparesTold {T : Type 0} (holds : Type 0) (result : Result T PartErr)
+    (files files_now : Option Files) (reads reads_now : Reads) (faults faults_now : ℕ) : Type 0 where
+  -- it is so, or where a part is told as bad it is not
+  pub compares : IsSome files → Compares holds result
+  -- only parts of the set were read
+  pub looks : LooksAtSet result files files_now reads reads_now faults faults_now
+
+-- parts of a set are compared with the collection whose text is read
+pub record ComparesByText {T : Type 0} (r : TextReading) (holds : List ℕ → Type 0) (result : Result T PartErr)
+    (files files_now : Option Files) (reads reads_now : Reads) (faults faults_now : ℕ) : Type 0 where
+  -- this is so of the collection, or where a part is told as bad it is not
+  pub compares : WhereTextStands r files (λ collection. Compares (holds collection) result)
+  -- only parts of the set were read
+  pub looks : LooksAtSet result files files_now reads reads_now faults faults_now
+
 -- a set is checked, where this is known of it
-pub record SetChecked {T : Type 0} (known : Type 0) (files : Option Files) (base : List ℕ) (head : Head)
-    (result : Result T PartErr) : Type 0 where
+pub record SetChecked {T : Type 0} (known : Type 0) (base : List ℕ) (head : Head) (result : Result T PartErr)
+    (files files_now : Option Files) (reads reads_now : Reads) (faults faults_now : ℕ) : Type 0 where
   -- yes: its files stand for a collection of as many documents and bytes as the head has
   pub stands : known → OnOk result (StandsWith files base head.documents head.collection)
   -- a damage: they stand for none
   pub none : known → OnBad result (StandForNone (parts_at files base))
+  -- only parts of the set were read
+  pub looks : LooksAtSet result files files_now reads reads_now faults faults_now
 
 -- a refusal tells that Weights and Run are not those of the collection
 abbrev pub RefutesTerms : {T : Type 0} → Option Files → List ℕ → ℕ → Result T PartErr → List ℕ → Type 0

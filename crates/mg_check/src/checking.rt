@@ -4,12 +4,11 @@ ghost use Rattle.mg_dev.specs.Moments.{Between};
 ghost use Rattle.mg_defs.specs.Heads.{IsWithin};
 ghost use Rattle.mg_layout.specs.HeadAnswers.{fields_of};
 ghost use Rattle.mg_layout.specs.Stands.{parts_at};
-ghost use Rattle.mg_text.specs.Reading.{TextReading, WhereTextStands};
+ghost use Rattle.mg_text.specs.Reading.{TextReading};
 ghost use Rattle.mg_check_text.specs.Checking.{HasHead, IsLoaded};
 ghost use Rattle.mg_check_text.specs.Reads.{HasTerms, ReadsBy};
-ghost use Rattle.mg_check_parts.specs.Looks.{LooksAtSet};
 ghost use Rattle.mg_check_parts.specs.Refusals.{IsNotDevice};
-ghost use Rattle.mg_check.specs.Rest.{Compares, HaveSizes, IsTold, PartsStand, RestStands, SetChecked};
+ghost use Rattle.mg_check.specs.Rest.{Compares, ComparesByText, ComparesTold, HaveSizes, IsTold, PartsStand, RestStands, SetChecked};
 ghost use Rattle.mg_model.specs.Terms.{terms_and_numbers};
 
 use crate::counting::check_terms;
@@ -59,9 +58,8 @@ fn expect_number(at: u64, counted: u64, found: u64) -> Result<(), PartErr>
 // Sees that Post and Skip have the sizes that the head tells.
 fn expect_sizes<S: Store>(store: &mut S, base: &str, head: &Head) -> Result<(), PartErr>
     requires entries { head.now.skip_count < 2 ^ 32 }
-    ensures sizes { IsSome (S.files store.old) →
-        Compares (HaveSizes (parts_at (S.files store.old) base.now) head.now) result }
-    ensures looks { Between S.files S.reads S.faults store.old store.new (LooksAtSet result) }
+    ensures sizes { Between S.files S.reads S.faults store.old store.new
+        (ComparesTold (HaveSizes (parts_at (S.files store.old) base.now) head.now) result) }
 {
     let post = FileRef {
         base,
@@ -97,9 +95,8 @@ fn run_size(head: &Head) -> u32
 // Sees that the head tells so many terms, and that Post and Skip have the sizes that it tells.
 fn expect_told<S: Store>(store: &mut S, base: &str, head: &Head, terms: u64) -> Result<(), PartErr>
     requires entries { head.now.skip_count < 2 ^ 32 }
-    ensures told { IsSome (S.files store.old) →
-        Compares (IsTold (parts_at (S.files store.old) base.now) head.now terms) result }
-    ensures looks { Between S.files S.reads S.faults store.old store.new (LooksAtSet result) }
+    ensures told { Between S.files S.reads S.faults store.old store.new
+        (ComparesTold (IsTold (parts_at (S.files store.old) base.now) head.now terms) result) }
 {
     match expect_number(TERMS_AT, terms, u64::from(head.terms)) {
         Ok(()) => {}
@@ -120,10 +117,8 @@ fn check_parts<S: Store>(
 ) -> Result<(), PartErr>
     requires reads { ReadsBy reader.old (S.files store.old) head.now }
     requires text { HasTerms reader.old (S.files store.old) table.now head.now.documents }
-    ensures parts { WhereTextStands reader.old (S.files store.old)
-        (λ collection. Compares (PartsStand (S.files store.old) base.now head.now collection)
-        result) }
-    ensures looks { Between S.files S.reads S.faults store.old store.new (LooksAtSet result) }
+    ensures parts { Between S.files S.reads S.faults store.old store.new
+        (ComparesByText reader.old (PartsStand (S.files store.old) base.now head.now) result) }
 {
     let documents = head.documents;
     let size = run_size(head);
@@ -157,10 +152,8 @@ fn check_told<S: Store>(
 ) -> Result<(), PartErr>
     requires reads { ReadsBy reader.old (S.files store.old) head.now }
     requires table { table.now ≡ terms_and_numbers reader.old.code.words.pieces }
-    ensures rest { WhereTextStands reader.old (S.files store.old)
-        (λ collection. Compares (RestStands (S.files store.old) base.now head.now collection)
-        result) }
-    ensures looks { Between S.files S.reads S.faults store.old store.new (LooksAtSet result) }
+    ensures rest { Between S.files S.reads S.faults store.old store.new
+        (ComparesByText reader.old (RestStands (S.files store.old) base.now head.now) result) }
 {
     let terms = u64::from(table.count());
     match expect_told(store, base, head, terms) {
@@ -179,10 +172,8 @@ fn check_rest<S: Store>(
     reader: &mut TextReader<'_, S>,
 ) -> Result<(), PartErr>
     requires reads { ReadsBy reader.old (S.files store.old) head.now }
-    ensures rest { WhereTextStands reader.old (S.files store.old)
-        (λ collection. Compares (RestStands (S.files store.old) base.now head.now collection)
-        result) }
-    ensures looks { Between S.files S.reads S.faults store.old store.new (LooksAtSet result) }
+    ensures rest { Between S.files S.reads S.faults store.old store.new
+        (ComparesByText reader.old (RestStands (S.files store.old) base.now head.now) result) }
 {
     match TermTable::of(alloc, reader.model()) {
         Ok(table) => check_told(alloc, store, base, head, reader, &table),
@@ -199,9 +190,8 @@ fn check_loaded<S: Store>(
     reader: &mut TextReader<'_, S>,
 ) -> Result<(), PartErr>
     requires reads { ReadsBy reader.old (S.files store.old) head.now }
-    ensures set { SetChecked (IsLoaded (S.files store.old) base.now head.now reader.old)
-        (S.files store.old) base.now head.now result }
-    ensures looks { Between S.files S.reads S.faults store.old store.new (LooksAtSet result) }
+    ensures set { Between S.files S.reads S.faults store.old store.new
+        (SetChecked (IsLoaded (S.files store.old) base.now head.now reader.old) base.now head.now result) }
 {
     match read_text(alloc, store, base, head, reader) {
         Ok(()) => {}
@@ -224,9 +214,9 @@ trait LoadedText<S: Store> {
         head: &Head,
     ) -> Result<(), PartErr>
         requires reads { ReadsBy (reading self.old) (S.files store.old) head.now }
-        ensures set { SetChecked (IsLoaded (S.files store.old) base.now head.now (reading self.old))
-            (S.files store.old) base.now head.now result }
-        ensures looks { Between S.files S.reads S.faults store.old store.new (LooksAtSet result) };
+        ensures set { Between S.files S.reads S.faults store.old store.new
+            (SetChecked (IsLoaded (S.files store.old) base.now head.now (reading self.old)) base.now
+            head.now result) };
 }
 
 impl<'a, S: Store> LoadedText<S> for TextReader<'a, S> {
@@ -252,9 +242,8 @@ fn check_by<S: Store, T: LoadedText<S> + Drop>(
     text: T,
 ) -> Result<(), PartErr>
     requires reads { ReadsBy (T.reading text) (S.files store.old) head.now }
-    ensures set { SetChecked (IsLoaded (S.files store.old) base.now head.now (T.reading text))
-        (S.files store.old) base.now head.now result }
-    ensures looks { Between S.files S.reads S.faults store.old store.new (LooksAtSet result) }
+    ensures set { Between S.files S.reads S.faults store.old store.new
+        (SetChecked (IsLoaded (S.files store.old) base.now head.now (T.reading text)) base.now head.now result) }
 {
     let mut text = text;
     text.check(alloc, store, base, head)
@@ -268,9 +257,8 @@ pub(crate) fn check_set<S: Store>(
     head: &Head,
 ) -> Result<(), PartErr>
     requires within { IsWithin (fields_of head.now) }
-    ensures set { SetChecked (HasHead (S.files store.old) base.now head.now)
-        (S.files store.old) base.now head.now result }
-    ensures looks { Between S.files S.reads S.faults store.old store.new (LooksAtSet result) }
+    ensures set { Between S.files S.reads S.faults store.old store.new
+        (SetChecked (HasHead (S.files store.old) base.now head.now) base.now head.now result) }
 {
     match load_text(alloc, store, base, head) {
         Ok(reader) => check_by(alloc, store, base, head, reader),

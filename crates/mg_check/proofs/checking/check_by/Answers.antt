@@ -1,7 +1,4 @@
 use Rattle.mg_check.proofs.checking.check_by.Goals as goal
 
-pub returns-clause-set : goal.returns-clause-set
-returns-clause-set g c = c.check.ensures.set
-
-pub returns-clause-looks : goal.returns-clause-looks
-returns-clause-looks g c = c.check.ensures.looks
+pub returns : goal.returns
+returns g c = record { set = c.check.ensures.set }

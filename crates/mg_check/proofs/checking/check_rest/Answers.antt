@@ -8,14 +8,13 @@ use Rattle.mg_check.proofs.checking.check_rest.Goals as goal
 pub check_told-requires-clause-table : goal.check_told-requires-clause-table
 check_told-requires-clause-table g c = c.in-Ok.ensures ∙ ap (λ (code : TextCode). terms_and_numbers code.words.pieces) c.model.ensures
 
-pub returns-in-Ok-clause-rest : goal.returns-in-Ok-clause-rest
-returns-in-Ok-clause-rest g c = c.check_told.ensures.rest
+pub returns-in-Ok : goal.returns-in-Ok
+returns-in-Ok g c = record { rest = c.check_told.ensures.rest }
 
-pub returns-in-Ok-clause-looks : goal.returns-in-Ok-clause-looks
-returns-in-Ok-clause-looks g c = c.check_told.ensures.looks
-
-pub returns-in-Err-clause-rest : goal.returns-in-Err-clause-rest
-returns-in-Err-clause-rest g c = λ collection stand. record { stand = tt; other = tt }
-
-pub returns-in-Err-clause-looks : goal.returns-in-Err-clause-looks
-returns-in-Err-clause-looks g c = looks_own Memory _ _ _ tt
+pub returns-in-Err : goal.returns-in-Err
+returns-in-Err g c = record {
+  rest = record {
+    compares = λ collection stand. record { stand = tt; other = tt };
+    looks = looks_own Memory _ _ _ tt;
+  };
+}

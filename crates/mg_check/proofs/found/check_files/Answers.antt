@@ -42,9 +42,9 @@ returns-in-Ok-check_set g c = record {
         (loaded-head (bytes_at (g.S.Store.files c.args.store.now) (full_name c.args.base.now part.Head)) c.in-Ok.loaded c.in-Some.head c.in-Some.is (c.in-Ok.ensures.answer told));
     cause = tt;
     early = λ told none. early-found _;
-    same = c.check_set.ensures.looks.files ∙ c.load.ensures.files;
-    unread = c.check_set.ensures.looks.unread ∙ head_read _ _ c.load.ensures.reads;
-    later = omega (arith, c.in-Ok.ensures.cause.later, c.check_set.ensures.looks.cause.later);
+    same = c.check_set.ensures.set.looks.files ∙ c.load.ensures.files;
+    unread = c.check_set.ensures.set.looks.unread ∙ head_read _ _ c.load.ensures.reads;
+    later = omega (arith, c.in-Ok.ensures.cause.later, c.check_set.ensures.set.looks.cause.later);
   };
 }
 
@@ -57,12 +57,12 @@ returns-in-Err-check_set g c = record {
         (λ told. set-none-here (g.S.Store.files c.args.store.now) (g.S.Store.files c.load.new.store) c.args.base.now c.in-Some.head c.in-Err-check_set.refusal
         c.load.ensures.files (λ some is. c.in-Err-check_set.ensures.set.none (record { told = some; is = is })) told
         (loaded-head (bytes_at (g.S.Store.files c.args.store.now) (full_name c.args.base.now part.Head)) c.in-Ok.loaded c.in-Some.head c.in-Some.is (c.in-Ok.ensures.answer told)))
-        (cause_behind c.in-Ok.ensures.cause.later c.in-Err-check_set.ensures.looks.cause));
+        (cause_behind c.in-Ok.ensures.cause.later c.in-Err-check_set.ensures.set.looks.cause));
     early = λ told none.
         absurd (no_empty_head (bytes_at (g.S.Store.files c.args.store.now) (full_name c.args.base.now part.Head)) (fields_of c.in-Some.head)
         (loaded-head (bytes_at (g.S.Store.files c.args.store.now) (full_name c.args.base.now part.Head)) c.in-Ok.loaded c.in-Some.head c.in-Some.is (c.in-Ok.ensures.answer told)) none);
-    same = c.check_set.ensures.looks.files ∙ c.load.ensures.files;
-    unread = c.check_set.ensures.looks.unread ∙ head_read _ _ c.load.ensures.reads;
-    later = omega (arith, c.in-Ok.ensures.cause.later, c.check_set.ensures.looks.cause.later);
+    same = c.check_set.ensures.set.looks.files ∙ c.load.ensures.files;
+    unread = c.check_set.ensures.set.looks.unread ∙ head_read _ _ c.load.ensures.reads;
+    later = omega (arith, c.in-Ok.ensures.cause.later, c.check_set.ensures.set.looks.cause.later);
   };
 }

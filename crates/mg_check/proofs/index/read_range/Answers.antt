@@ -21,12 +21,12 @@ range_end-end-requires-clause-each g c = λ k lt. omega (arith, c.requires.index
 pub returns-in-Ok-read_postings-clause-range : goal.returns-in-Ok-read_postings-clause-range
 returns-in-Ok-read_postings-clause-range g c =
     let rooms = c.in-Ok.ensures.rooms in
-    let same = c.in-Ok-read_postings.ensures.rooms in
+    let same = c.in-Ok-read_postings.ensures.filled.rooms in
     let sizes = c.requires.index.sizes in
     record {
       some = omega (arith, rooms.count, same.count, c.range_end-end.ensures.after);
       range = omega (arith, rooms.first_is, rooms.count, same.first, same.count, c.range_end-end.ensures.after, c.range_end-end.ensures.within, sizes.each);
-      laid = c.in-Ok-read_postings.ensures.laid;
+      laid = c.in-Ok-read_postings.ensures.filled.laid;
       rooms = rooms_stay c.in-Ok.lists c.read_postings.new.lists c.args.of.now.documents same
           (rooms_of c.in-Ok.lists c.args.of.now.docs.now c.args.first c.range_end-end.result _ c.args.of.now.documents rooms sizes
           c.range_end-end.ensures.within);
@@ -36,17 +36,17 @@ returns-in-Ok-read_postings-clause-range g c =
     }
 
 pub returns-in-Ok-read_postings-clause-first : goal.returns-in-Ok-read_postings-clause-first
-returns-in-Ok-read_postings-clause-first g c = omega (arith, c.in-Ok.ensures.rooms.first_is, c.in-Ok-read_postings.ensures.rooms.first)
+returns-in-Ok-read_postings-clause-first g c = omega (arith, c.in-Ok.ensures.rooms.first_is, c.in-Ok-read_postings.ensures.filled.rooms.first)
 
 pub returns-in-Ok-read_postings-clause-held : goal.returns-in-Ok-read_postings-clause-held
 returns-in-Ok-read_postings-clause-held g c = λ collection is.
     let room = room_of_docs c.in-Ok.lists c.args.reader.now _ _ c.args.of.now.docs.now collection c.args.first c.range_end-end.result is c.in-Ok.ensures.rooms c.range_end-end.ensures.within in
     range_of_index c.in-Ok.lists c.read_postings.new.lists c.args.reader.now _ _ c.args.of.now.docs.now collection c.args.first c.range_end-end.result
-    c.args.of.now.documents is c.in-Ok.ensures.rooms c.range_end-end.ensures.within c.read_postings.ensures.rooms c.requires.index.text.all
+    c.args.of.now.documents is c.in-Ok.ensures.rooms c.range_end-end.ensures.within c.in-Ok-read_postings.ensures.filled.rooms c.requires.index.text.all
     (c.in-Ok-read_postings.ensures.held collection is.stands room)
 
 pub returns-in-Ok-read_postings-clause-text : goal.returns-in-Ok-read_postings-clause-text
-returns-in-Ok-read_postings-clause-text g c = text_ok c.in-Ok-read_postings.ensures.text
+returns-in-Ok-read_postings-clause-text g c = text_ok c.in-Ok-read_postings.ensures.filled.text
 
 pub returns-in-Err-read_postings-clause-never_bad : goal.returns-in-Err-read_postings-clause-never_bad
 returns-in-Err-read_postings-clause-never_bad g c = λ collection is.
@@ -54,7 +54,7 @@ returns-in-Err-read_postings-clause-never_bad g c = λ collection is.
     c.in-Err-read_postings.ensures.never_bad collection is.stands room
 
 pub returns-in-Err-read_postings-clause-text : goal.returns-in-Err-read_postings-clause-text
-returns-in-Err-read_postings-clause-text g c = text_err c.in-Err-read_postings.ensures.text
+returns-in-Err-read_postings-clause-text g c = text_err c.in-Err-read_postings.ensures.filled.text
 
 pub read_postings-requires-clause-text : goal.read_postings-requires-clause-text
 read_postings-requires-clause-text g c = c.requires.index.text

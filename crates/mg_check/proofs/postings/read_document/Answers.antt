@@ -10,8 +10,8 @@ use Rattle.mg_check.proofs.postings.read_document.Goals as goal
 pub returns-in-Err-clause-never_bad : goal.returns-in-Err-clause-never_bad
 returns-in-Err-clause-never_bad g c = λ collection stand holds room. c.in-Err.ensures.never_bad collection stand
 
-pub returns-in-Err-clause-text : goal.returns-in-Err-clause-text
-returns-in-Err-clause-text g c = c.in-Err.ensures.text
+pub returns-in-Err-clause-filled : goal.returns-in-Err-clause-filled
+returns-in-Err-clause-filled g c = record { laid = c.requires.fill.laid; rooms = record { first = refl; starts = refl; count = refl }; text = c.in-Err.ensures.text }
 
 pub returns-then-not-add_document-clause-never_bad : goal.returns-then-not-add_document-clause-never_bad
 returns-then-not-add_document-clause-never_bad g c = λ collection stand holds room.
@@ -26,8 +26,12 @@ returns-then-not-add_document-clause-never_bad g c = λ collection stand holds r
     let ok = c.add_document.ensures.room (lists_upto c.args.before collection) holds there in
     search rules
 
-pub returns-then-not-add_document-clause-text : goal.returns-then-not-add_document-clause-text
-returns-then-not-add_document-clause-text g c = text_bad (Bad c.damaged_document.result) c.in-Ok.ensures.text tt
+pub returns-then-not-add_document-clause-filled : goal.returns-then-not-add_document-clause-filled
+returns-then-not-add_document-clause-filled g c = record {
+  laid = c.add_document.ensures.laid;
+  rooms = c.add_document.ensures.same;
+  text = text_bad (Bad c.damaged_document.result) c.in-Ok.ensures.text tt;
+}
 
 pub returns-clause-held : goal.returns-clause-held
 returns-clause-held g c = λ collection stand holds room.
@@ -41,5 +45,5 @@ returns-clause-held g c = λ collection stand holds room.
     holds_upto c.add_document.new.self collection c.args.before lt (omega (arith, range, c.add_document.ensures.same.first, c.add_document.ensures.same.count))
     (subst (λ es. HoldsLists c.add_document.new.self (with_document (lists_upto c.args.before collection) (c.args.before + 1) es)) counted more)
 
-pub returns-clause-text : goal.returns-clause-text
-returns-clause-text g c = text_ok c.in-Ok.ensures.text
+pub returns-clause-filled : goal.returns-clause-filled
+returns-clause-filled g c = record { laid = c.add_document.ensures.laid; rooms = c.add_document.ensures.same; text = text_ok c.in-Ok.ensures.text }

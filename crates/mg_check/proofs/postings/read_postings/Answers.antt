@@ -5,8 +5,12 @@ use Rattle.mg_check.proofs.DocumentLaws.{room_for_all, room_stays, upto_all, upt
 use Rattle.mg_check_text.proofs.CallerLemmas.{stands_on, terms_here, text_none, text_own, text_then}
 use Rattle.mg_check.proofs.postings.read_postings.Goals as goal
 
-pub returns-in-Err-clause-text : goal.returns-in-Err-clause-text
-returns-in-Err-clause-text g c = text_own Memory _ _ _ c.requires.text.fits tt
+pub returns-in-Err-clause-filled : goal.returns-in-Err-clause-filled
+returns-in-Err-clause-filled g c = record {
+  laid = c.requires.fill.laid;
+  rooms = record { first = refl; starts = refl; count = refl };
+  text = text_own Memory _ _ _ c.requires.text.fits tt;
+}
 
 pub loop-before-init : goal.loop-before-init
 loop-before-init g c = record {
@@ -27,9 +31,6 @@ read_document-requires-clause-fill g c =
     let inv = c.loop-before.invariant in
     record { laid = inv.laid; range = omega (arith, c.requires.fill.range, inv.rooms.first, inv.rooms.count) }
 
-pub returns-in-Err-read_document-clause-rooms : goal.returns-in-Err-read_document-clause-rooms
-returns-in-Err-read_document-clause-rooms g c = same_more _ _ _ c.loop-before.invariant.rooms c.in-Err-read_document.ensures.rooms
-
 pub returns-in-Err-read_document-clause-never_bad : goal.returns-in-Err-read_document-clause-never_bad
 returns-in-Err-read_document-clause-never_bad g c = λ collection stand room.
     let inv = c.loop-before.invariant in
@@ -38,16 +39,19 @@ returns-in-Err-read_document-clause-never_bad g c = λ collection stand room.
     (omega (arith, c.loop-before-test.true, c.requires.text.all, stand.documents)) (room_stays _ _ collection inv.rooms room).each in
     c.in-Err-read_document.ensures.never_bad collection there (inv.held collection stand room) enough
 
-pub returns-in-Err-read_document-clause-text : goal.returns-in-Err-read_document-clause-text
-returns-in-Err-read_document-clause-text g c = text_then c.loop-before.invariant.text c.in-Err-read_document.ensures.text
+pub returns-in-Err-read_document-clause-filled : goal.returns-in-Err-read_document-clause-filled
+returns-in-Err-read_document-clause-filled g c =
+    let inv = c.loop-before.invariant in
+    let filled = c.in-Err-read_document.ensures.filled in
+    record { laid = filled.laid; rooms = same_more _ _ _ inv.rooms filled.rooms; text = text_then inv.text filled.text }
 
 pub loop-before-preserved : goal.loop-before-preserved
 loop-before-preserved g c =
     let inv = c.loop-before.invariant in
     record {
-      text = text_then inv.text c.in-Ok-read_document.ensures.text;
-      laid = c.read_document.ensures.laid;
-      rooms = same_more _ _ _ inv.rooms c.read_document.ensures.rooms;
+      text = text_then inv.text c.in-Ok-read_document.ensures.filled.text;
+      laid = c.in-Ok-read_document.ensures.filled.laid;
+      rooms = same_more _ _ _ inv.rooms c.in-Ok-read_document.ensures.filled.rooms;
       held = λ collection stand room.
           c.in-Ok-read_document.ensures.held collection (stands_on _ _ _ _ collection inv.text.same inv.text.looks.files stand) (inv.held collection stand room)
           (room_for_all c.loop-before.lists collection (c.loop-before.before + 1) (omega (arith, c.loop-before-test.true, c.requires.text.all, stand.documents))
@@ -59,5 +63,5 @@ returns-clause-held g c = λ collection stand room.
     upto_all c.loop-before.lists collection c.loop-before.before
     (omega (arith, c.loop-before-test.false, c.loop-before.auto, c.requires.text.all, stand.documents)) (c.loop-before.invariant.held collection stand room)
 
-pub returns-clause-text : goal.returns-clause-text
-returns-clause-text g c = c.loop-before.invariant.text
+pub returns-clause-filled : goal.returns-clause-filled
+returns-clause-filled g c = let inv = c.loop-before.invariant in record { laid = inv.laid; rooms = inv.rooms; text = inv.text }
