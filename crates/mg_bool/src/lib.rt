@@ -3,8 +3,9 @@
 //! A query is evaluated document by document over a cursor for each place of a term. Where it holds
 //! only in documents of one of its terms, as a conjunction does, the list with the fewest documents
 //! leads, and of the other lists only the blocks are read whose range holds one of its documents.
-//! So a rare term beside a common one costs a few pages. Where no list leads, but the query holds in no
-//! document without its terms, as a disjunction does, only the documents that some list has are asked.
+//! So a rare term beside a common one costs a few pages of Post. Where no list leads, but the query
+//! holds in no document without its terms, as a disjunction does, only the documents that some list
+//! has are asked.
 //!
 //! The evaluation is that of Witten, Moffat and Bell, *Managing Gigabytes*, chapter 4.
 #![tactic(auto)]

@@ -13,9 +13,12 @@ use Rattle.mg_defs.specs.Weights.{Hit, hits_over, has_term, score_over}
 use Rattle.mg_layout.specs.Infos.{IsInfoOf}
 use Rattle.mg_layout.specs.declared.term_info.TermInfo.{TermInfo}
 use Rattle.mg_defs.specs.PageBounds.{list_pages, ranked_bound}
+use Rattle.mg_defs.specs.Lists.{block_count}
+use Rattle.mg_post.specs.Cursor.{Cursoring, SameList, skip_pages}
+use Rattle.mg_post.specs.Finding.{entries_pages}
 use Rattle.mg_post.specs.TermLists.{ReadsLists}
 use Rattle.mg_rank.specs.declared.best.Kept.{Kept}
-use Rattle.mg_rank.specs.Ranked.{AnswersOr, AnswersTop, AreTold, IsNumbered, ReadsRanked, ReadsWeights, SumsFor}
+use Rattle.mg_rank.specs.Ranked.{AnswersOr, AnswersTop, AreTold, IsNumbered, ReadsRanked, ReadsWeights, SumsFor, list_entries}
 use Rattle.mg_rank.specs.Rows.{AreNumbered, hit_in, hits_in}
 use Rattle.mg_rank.specs.Sums.{AreWithin}
 use Rattle.mg_rank.proofs.HitLaws.{row_of, same_hits}
@@ -60,11 +63,35 @@ pub post_end : (collection : List ℕ) (ts : List (List ℕ)) (k before now : �
 unfolding ranked_bound
 post_end collection ts k before now a = omega (arith, a, sum_by-take-le (list_pages collection) ts k)
 
+-- the same of any bound on each list
+pub once_next : (f : List ℕ → ℕ) (ts : List (List ℕ)) (k before mid now : ℕ) → k < length ts → mid ≤ before + sum_by f (take k ts) →
+    now ≤ mid + f (get_or ts k []) → now ≤ before + sum_by f (take (k + 1) ts)
+once_next f ts k before mid now lt a b =
+    omega (arith, a, b, ap (sum_by f) (take_more ts k [] lt), sum_by-append f (take k ts) (get_or ts k [] ∷ []), sum_by-cons f (get_or ts k []) [])
+
+pub once_end : (f : List ℕ → ℕ) (ts : List (List ℕ)) (k before now : ℕ) → now ≤ before + sum_by f (take k ts) → now ≤ before + sum_by f ts
+once_end f ts k before now a = omega (arith, a, sum_by-take-le f ts k)
+
 pub lists_on : {a b c : Reads} → ReadsLists a b → ReadsLists b c → ReadsLists a c
 lists_on first then = record {
   later = λ p. omega (arith, first.later p, then.later p);
   others = λ p x y. then.others p x y ∙ first.others p x y;
 }
+
+-- the pages of Skip that a cursor over a list has read
+pub list_third : (info : TermInfo) (c v : Cursoring) → c.skip_at ≡ info.skip_at → c.docs ≡ info.docs → SameList c v →
+    skip_pages v ≤ entries_pages v.skip_at (block_count v.docs) → skip_pages v ≤ list_entries info
+list_third info c v at docs same third = rw (same.skip_at, at, same.docs, docs) at third
+
+-- and of all of them
+pub skips_next : (infos : List TermInfo) (k before mid now : ℕ) (info d : TermInfo) → k < length infos → info ≡ slice_index_or infos k d →
+    mid ≤ before + sum_by list_entries (take k infos) → now ≤ mid + list_entries info → now ≤ before + sum_by list_entries (take (k + 1) infos)
+skips_next infos k before mid now info d lt is a b =
+    let more : take (k + 1) infos ≡ take k infos ++ info ∷ [] = take_more infos k d lt ∙ ap (λ x. take k infos ++ x ∷ []) (sym is) in
+    omega (arith, a, b, ap (sum_by list_entries) more, sum_by-append list_entries (take k infos) (info ∷ []), sum_by-cons list_entries info [])
+
+pub skips_end : (infos : List TermInfo) (k before now : ℕ) → now ≤ before + sum_by list_entries (take k infos) → now ≤ before + sum_by list_entries infos
+skips_end infos k before now a = omega (arith, a, sum_by-take-le list_entries infos k)
 
 -- ---- how many documents
 

@@ -10,3 +10,5 @@ mod RowLaws
 mod EndLaws
 mod AddedLaws
 mod SizeLaws
+mod AscentLaws
+mod WeightLaws

@@ -19,7 +19,9 @@ use Rattle.mg_layout.specs.Infos.{IsInfoOf}
 use Rattle.mg_layout.specs.declared.term_info.TermInfo.{TermInfo}
 use Rattle.mg_defs.specs.Stands.{weights_part}
 use Rattle.std.specs.Map.{lookup}
+use Rattle.mg_defs.specs.Lists.{block_count}
 use Rattle.mg_post.specs.Cursor.{Cursoring}
+use Rattle.mg_post.specs.Finding.{entries_pages}
 use Rattle.mg_post.specs.TermLists.{ListsStand, PostRises}
 pub use Rattle.mg_post.specs.WholeLists.{AnswersBehind, ForList, ListFor}
 use Rattle.mg_rank.specs.Sums.{AreApart}
@@ -91,6 +93,14 @@ pub record ReadsWeights (before now : Reads) : Type 0 where
 -- no more pages of Post are read than so many
 abbrev pub PostWithin : {X : Type 0} → (X → Reads) → X → X → ℕ → Type 0
 PostWithin reads before now pages = reads now part.Post ≤ reads before part.Post + pages
+
+-- no more pages of Skip are read than so many
+abbrev pub SkipWithin : {X : Type 0} → (X → Reads) → X → X → ℕ → Type 0
+SkipWithin reads before now pages = reads now part.Skip ≤ reads before part.Skip + pages
+
+-- the pages of Skip on which the entries of a list lie of which this is told
+abbrev pub list_entries : TermInfo → ℕ
+list_entries info = entries_pages info.skip_at (block_count info.docs)
 
 -- no more pages of Post are read than the cursor has read since
 abbrev pub PostRoseWith : {X : Type 0} → (X → Reads) → X → X → Cursoring → Cursoring → Type 0

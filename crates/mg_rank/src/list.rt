@@ -3,17 +3,19 @@ ghost use Rattle.std.specs.Prelude.{◌≡◌, ◌≢◌, ℕ, ◌+◌, ◌-◌,
 ghost use Rattle.mg_dev.specs.PartCauses.{HasPartCause};
 ghost use Rattle.mg_defs.specs.Weights.{weight_of_term, weight_in_doc};
 ghost use Rattle.mg_defs.specs.PageBounds.{list_pages};
+ghost use Rattle.mg_post.specs.PagesOnce.{span_pages};
 ghost use Rattle.mg_post.specs.TermLists.{ReadsLists};
 ghost use Rattle.mg_rank.specs.Sums.{AreApart, AreWithin, sum_of, with_more};
-ghost use Rattle.mg_rank.specs.Ranked.{PostWithin, ForTerm, AddsTerm};
+ghost use Rattle.mg_rank.specs.Ranked.{PostWithin, SkipWithin, ForTerm, AddsTerm, list_entries};
 ghost use Rattle.mg_rank.specs.Added.{AddsWhole};
+ghost use Rattle.mg_rank.specs.WeightReads.{ascents_in};
 
 use crate::sums::Sums;
 use mg_defs::Posting;
 use mg_dev::{Bad, Part, PartErr, Store};
 use mg_fixed::{doc_term_weight, term_weight};
 use mg_layout::TermInfo;
-use mg_post::{Cursor, cursor_pages_are_within};
+use mg_post::{Cursor, cursor_pages_are_within, each_page_is_read_once};
 use std::alloc::{AllocError, Global};
 
 /// The weight of a term by how many documents have it.
@@ -86,6 +88,13 @@ pub(crate) fn add_list<S: Store>(
     ensures answer { AddsTerm base.now (S.files store.old) info.now all sums.old sums.new result }
     ensures pages { ForTerm base.now (S.files store.old) info.now all
         (λ collection t. PostWithin S.reads store.old store.new (list_pages collection t)) }
+    // Where the lists stand, no page of Post is read twice.
+    ensures once { ForTerm base.now (S.files store.old) info.now all
+        (λ collection t. PostWithin S.reads store.old store.new (span_pages collection t)) }
+    // Whatever the parts have, no more pages of Skip are read than the list's entries lie on.
+    ensures skips { SkipWithin S.reads store.old store.new (list_entries info.now) }
+    // The documents that had no sum yet make at most one ascent more.
+    ensures ascents { ascents_in sums.new ≤ ascents_in sums.old + 1 }
     ensures reads { ReadsLists (S.reads store.old) (S.reads store.new) }
     ensures files { S.files store.new ≡ S.files store.old }
     ensures cause { HasPartCause (S.faults store.old) (S.faults store.new) result }
@@ -104,6 +113,7 @@ pub(crate) fn add_list<S: Store>(
         Err(_lack) => return Err(PartErr::Memory),
     };
     cursor_pages_are_within();
+    each_page_is_read_once();
     let mut last = 0;
     while last < u32::MAX {
         let posting = match cursor.next_behind(store, last) {

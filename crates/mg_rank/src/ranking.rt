@@ -1,5 +1,5 @@
 //! A ranked answer.
-ghost use Rattle.std.specs.Prelude.{◌≡◌, ◌≢◌, ℕ, ◌*◌, ◌<◌, ◌≤◌, ◌^◌, List, IfOk, OnOk, IsSome, length, slice_index_or};
+ghost use Rattle.std.specs.Prelude.{◌≡◌, ◌≢◌, ℕ, ◌*◌, ◌<◌, ◌≤◌, ◌^◌, List, IfOk, OnOk, IsSome, length, slice_index_or, sum_by};
 ghost use Rattle.std.specs.List.{All};
 ghost use Rattle.mg_dev.specs.Files.{bytes_at};
 ghost use Rattle.mg_dev.specs.Names.{full_name};
@@ -7,9 +7,11 @@ ghost use Rattle.mg_dev.specs.PartCauses.{HasPartCause};
 ghost use Rattle.mg_dev.specs.declared.part.Part.TheVariants as part;
 ghost use Rattle.mg_defs.specs.Weights.{Hit};
 ghost use Rattle.mg_defs.specs.PageBounds.{ranked_bound};
+ghost use Rattle.mg_post.specs.PagesOnce.{span_pages};
 ghost use Rattle.mg_post.specs.TermLists.{ReadsLists};
-ghost use Rattle.mg_rank.specs.Ranked.{AnswersOr, AnswersTop, IsNumbered, ReadsRanked, SumsFor, PostWithin, ForTerms, ForRanked};
+ghost use Rattle.mg_rank.specs.Ranked.{AnswersOr, AnswersTop, IsNumbered, ReadsRanked, SumsFor, PostWithin, SkipWithin, ForTerms, ForRanked, list_entries};
 ghost use Rattle.mg_rank.specs.Added.{AddedTo, CountsWhole};
+ghost use Rattle.mg_rank.specs.WeightReads.{WeightsWithin, ascents_in, weight_pages};
 ghost use Rattle.mg_rank.specs.Sums.{AreApart, AreWithin, sum_of};
 
 use crate::best::Kept;
@@ -114,6 +116,10 @@ fn sum_lists<S: Store>(
     ensures whole { IfOk result (AddedTo all terms.now (length terms.now)) }
     ensures pages { ForTerms base.now (S.files store.old) terms.now all
         (λ collection ts. PostWithin S.reads store.old store.new (ranked_bound collection ts)) }
+    ensures once { ForTerms base.now (S.files store.old) terms.now all (λ collection ts.
+        PostWithin S.reads store.old store.new (sum_by (span_pages collection) ts)) }
+    ensures skips { SkipWithin S.reads store.old store.new (sum_by list_entries terms.now) }
+    ensures ascents { IfOk result (λ sums. ascents_in sums ≤ length terms.now) }
     ensures reads { ReadsLists (S.reads store.old) (S.reads store.new) }
     ensures files { S.files store.new ≡ S.files store.old }
     ensures cause { HasPartCause (S.faults store.old) (S.faults store.new) result }
@@ -163,6 +169,11 @@ fn rank_sized<S: Store>(
     ensures whole { IfOk result (CountsWhole all terms.now) }
     ensures pages { ForTerms base.now (S.files store.old) terms.now all
         (λ collection ts. PostWithin S.reads store.old store.new (ranked_bound collection ts)) }
+    ensures once { ForTerms base.now (S.files store.old) terms.now all (λ collection ts.
+        PostWithin S.reads store.old store.new (sum_by (span_pages collection) ts)) }
+    ensures skips { SkipWithin S.reads store.old store.new (sum_by list_entries terms.now) }
+    ensures weights { WeightsWithin S.reads store.old store.new
+        (length terms.now * weight_pages all) }
     ensures reads { ReadsRanked (S.reads store.old) (S.reads store.new) }
     ensures none { most ≡ 0 → S.reads store.new part.Weights ≡ S.reads store.old part.Weights }
     ensures files { S.files store.new ≡ S.files store.old }
@@ -216,6 +227,11 @@ pub fn rank<S: Store>(
     ensures whole { IfOk result (CountsWhole all terms.now) }
     ensures pages { ForTerms base.now (S.files store.old) terms.now all
         (λ collection ts. PostWithin S.reads store.old store.new (ranked_bound collection ts)) }
+    ensures once { ForTerms base.now (S.files store.old) terms.now all (λ collection ts.
+        PostWithin S.reads store.old store.new (sum_by (span_pages collection) ts)) }
+    ensures skips { SkipWithin S.reads store.old store.new (sum_by list_entries terms.now) }
+    ensures weights { WeightsWithin S.reads store.old store.new
+        (length terms.now * weight_pages all) }
     ensures reads { ReadsRanked (S.reads store.old) (S.reads store.new) }
     ensures none { most ≡ 0 → S.reads store.new part.Weights ≡ S.reads store.old part.Weights }
     ensures files { S.files store.new ≡ S.files store.old }

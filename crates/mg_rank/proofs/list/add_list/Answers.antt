@@ -1,4 +1,4 @@
-use Rattle.std.proofs.Common.{arith, ◌≡◌, ◌≤◌, ◌<◌, ◌+◌, ◌^◌, length, sym, ◌∙◌, subst, refl}
+use Rattle.std.proofs.Common.{arith, ◌≡◌, ◌≤◌, ◌<◌, ◌+◌, ◌^◌, length, sym, ◌∙◌, ap, subst, refl}
 use Rattle.mg_defs.specs.Split.{documents}
 use Rattle.mg_defs.specs.Lists.{postings}
 use Rattle.mg_defs.proofs.ListLaws.{list_rises}
@@ -8,6 +8,9 @@ use Rattle.mg_rank.specs.Sums.{AreApart, AreWithin, sum_of}
 use Rattle.mg_post.specs.Cursor.{IsFrom}
 use Rattle.mg_rank.proofs.AddedLaws.{adding_end, adding_next, adding_start}
 use Rattle.mg_rank.proofs.Adding.{apart_more, within_more}
+use Rattle.mg_rank.specs.WeightReads.{ascents_in}
+use Rattle.mg_rank.proofs.EndLaws.{list_third}
+use Rattle.mg_rank.proofs.AscentLaws.{ascent_next, ascent_start}
 use Rattle.mg_rank.proofs.SumLaws.{Bounded, Walking, bounded_start, bounded_next, head_sound, walk_start, walk_next, walk_end}
 use Rattle.mg_post.proofs.CallerLemmas.{cursor_later, none_at, pages_in_list}
 use Rattle.mg_defs.specs.Weights.{wt}
@@ -24,6 +27,11 @@ loop-last-init g c = record {
   all = c.in-Ok-start.ensures.over.all_is;
   files = refl;
   reads = record { later = λ p. omega arith; others = λ p a b. refl };
+  skip_at = c.in-Ok-start.ensures.over.skip_at_is;
+  docs = c.in-Ok-start.ensures.over.docs_is;
+  third = omega (arith, c.in-Ok-start.ensures.nothing.2);
+  skips = omega arith;
+  ascents = ascent_start c.args.sums.now _ c.make_room.ensures;
   faults = omega arith;
   bounded = λ n small. subst (Bounded n 0) (sym c.make_room.ensures) (bounded_start n c.args.sums.now small);
   whole = adding_start c.args.all c.args.info.now c.args.sums.now _ _ c.make_room.ensures c.in-Ok-start.ensures.whole c.in-Ok-start.ensures.before;
@@ -118,6 +126,11 @@ loop-last-preserved g c =
         later = λ p. omega (arith, c.loop-last.invariant.reads.later p, c.next_behind.ensures.reads.later p);
         others = λ p a b. c.next_behind.ensures.reads.others p a b ∙ c.loop-last.invariant.reads.others p a b;
       };
+      skip_at = c.next_behind.ensures.same.skip_at ∙ c.loop-last.invariant.skip_at;
+      docs = c.next_behind.ensures.same.docs ∙ c.loop-last.invariant.docs;
+      third = list_third c.args.info.now _ _ c.loop-last.invariant.skip_at c.loop-last.invariant.docs c.next_behind.ensures.same c.next_behind.ensures.third;
+      skips = omega (arith, c.loop-last.invariant.skips, c.next_behind.ensures.skips);
+      ascents = ascent_next c.loop-last.last c.in-Ok-Some.posting.doc _ c.args.sums.now c.loop-last.sums _ later c.in-Ok-add_posting.ensures.added c.loop-last.invariant.ascents;
       faults = omega (arith, c.loop-last.invariant.faults, c.next_behind.ensures.cause.later);
       bounded = λ n small. rw c.in-Ok-add_posting.ensures.added
           (bounded_next n c.loop-last.last c.in-Ok-Some.posting.doc _ c.loop-last.sums (c.loop-last.invariant.bounded n small) later c.add_posting.ensures.few);
@@ -166,4 +179,76 @@ returns-clause-pages g c = λ collection t stand i all_is.
       c.cursor_pages_are_within.ensures c.args.base.now collection (numbers_in (postings collection t)) t c.loop-last.last _
           (c.loop-last.invariant.list collection t stand i all_is),
       pages_in_list collection (numbers_in (postings collection t)) t,
+    )
+
+pub returns-in-Ok-None-clause-skips : goal.returns-in-Ok-None-clause-skips
+returns-in-Ok-None-clause-skips g c =
+    let third = list_third c.args.info.now _ _ c.loop-last.invariant.skip_at c.loop-last.invariant.docs c.next_behind.ensures.same c.next_behind.ensures.third in
+    omega (arith, c.loop-last.invariant.skips, c.next_behind.ensures.skips, third)
+
+pub returns-in-Err-next_behind-clause-skips : goal.returns-in-Err-next_behind-clause-skips
+returns-in-Err-next_behind-clause-skips g c =
+    let third = list_third c.args.info.now _ _ c.loop-last.invariant.skip_at c.loop-last.invariant.docs c.next_behind.ensures.same c.next_behind.ensures.third in
+    omega (arith, c.loop-last.invariant.skips, c.next_behind.ensures.skips, third)
+
+pub returns-in-Err-add_posting-clause-skips : goal.returns-in-Err-add_posting-clause-skips
+returns-in-Err-add_posting-clause-skips g c =
+    let third = list_third c.args.info.now _ _ c.loop-last.invariant.skip_at c.loop-last.invariant.docs c.next_behind.ensures.same c.next_behind.ensures.third in
+    omega (arith, c.loop-last.invariant.skips, c.next_behind.ensures.skips, third)
+
+pub returns-in-Err-add_posting-clause-ascents : goal.returns-in-Err-add_posting-clause-ascents
+returns-in-Err-add_posting-clause-ascents g c = omega (arith, ap ascents_in c.in-Err-add_posting.ensures.err, c.loop-last.invariant.ascents.few)
+
+pub returns-in-Ok-None-clause-ascents : goal.returns-in-Ok-None-clause-ascents
+returns-in-Ok-None-clause-ascents g c = c.loop-last.invariant.ascents.few
+
+pub returns-in-Err-next_behind-clause-ascents : goal.returns-in-Err-next_behind-clause-ascents
+returns-in-Err-next_behind-clause-ascents g c = c.loop-last.invariant.ascents.few
+
+pub returns-clause-ascents : goal.returns-clause-ascents
+returns-clause-ascents g c = c.loop-last.invariant.ascents.few
+
+pub returns-clause-skips : goal.returns-clause-skips
+returns-clause-skips g c = omega (arith, c.loop-last.invariant.skips, c.loop-last.invariant.third)
+
+pub returns-in-Ok-None-clause-once : goal.returns-in-Ok-None-clause-once
+returns-in-Ok-None-clause-once g c = λ collection t stand i all_is.
+    let stand2 = subst (λ fs. ListsStand c.args.base.now fs collection) (sym c.loop-last.invariant.files) stand in
+    let f = c.loop-last.invariant.list collection t stand i all_is in
+    omega (
+      arith,
+      c.loop-last.invariant.post collection t stand i all_is,
+      c.next_behind.ensures.post c.args.base.now collection t stand2 f,
+      c.next_behind.ensures.span c.args.base.now collection t stand2 f,
+    )
+
+pub returns-in-Err-next_behind-clause-once : goal.returns-in-Err-next_behind-clause-once
+returns-in-Err-next_behind-clause-once g c = λ collection t stand i all_is.
+    let stand2 = subst (λ fs. ListsStand c.args.base.now fs collection) (sym c.loop-last.invariant.files) stand in
+    let f = c.loop-last.invariant.list collection t stand i all_is in
+    omega (
+      arith,
+      c.loop-last.invariant.post collection t stand i all_is,
+      c.next_behind.ensures.post c.args.base.now collection t stand2 f,
+      c.next_behind.ensures.span c.args.base.now collection t stand2 f,
+    )
+
+pub returns-in-Err-add_posting-clause-once : goal.returns-in-Err-add_posting-clause-once
+returns-in-Err-add_posting-clause-once g c = λ collection t stand i all_is.
+    let stand2 = subst (λ fs. ListsStand c.args.base.now fs collection) (sym c.loop-last.invariant.files) stand in
+    let f = c.loop-last.invariant.list collection t stand i all_is in
+    omega (
+      arith,
+      c.loop-last.invariant.post collection t stand i all_is,
+      c.next_behind.ensures.post c.args.base.now collection t stand2 f,
+      c.next_behind.ensures.span c.args.base.now collection t stand2 f,
+    )
+
+pub returns-clause-once : goal.returns-clause-once
+returns-clause-once g c = λ collection t stand i all_is.
+    omega (
+      arith,
+      c.loop-last.invariant.post collection t stand i all_is,
+      c.each_page_is_read_once.ensures.span c.args.base.now collection (numbers_in (postings collection t)) t c.loop-last.last _
+          (c.loop-last.invariant.list collection t stand i all_is),
     )

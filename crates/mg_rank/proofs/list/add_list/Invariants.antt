@@ -1,12 +1,13 @@
 use Rattle.std.proofs.Common.{◌-◌, ◌≡◌, ℕ, ◌+◌, ◌≤◌, List, length}
 use Rattle.mg_dev.specs.declared.part.Part.TheVariants as part
 use Rattle.mg_defs.specs.Split.{documents}
-use Rattle.mg_post.specs.Cursor.{CursorFits, post_pages}
+use Rattle.mg_post.specs.Cursor.{CursorFits, post_pages, skip_pages}
 use Rattle.mg_post.specs.TermLists.{ListsStand, ReadsLists}
 use Rattle.mg_layout.specs.Infos.{IsInfoOf}
-use Rattle.mg_rank.specs.Ranked.{ListFor, SumsFor}
+use Rattle.mg_rank.specs.Ranked.{ListFor, SumsFor, list_entries}
 use Rattle.mg_rank.specs.Sums.{AreApart, AreWithin, sum_of}
 use Rattle.mg_rank.proofs.AddedLaws.{Adding}
+use Rattle.mg_rank.proofs.AscentLaws.{AddsAscent}
 use Rattle.mg_rank.proofs.SumLaws.{Bounded, Walking}
 use Rattle.mg_rank.proofs.list.add_list.Given as goal
 
@@ -17,6 +18,11 @@ invariant-loop-last g l = record {
   all : l.cursor.all ≡ l.all;
   files : g.S.Store.files l.store ≡ g.S.Store.files l.fn.store;
   reads : ReadsLists (g.S.Store.reads l.fn.store) (g.S.Store.reads l.store);
+  skip_at : l.cursor.skip_at ≡ l.info.skip_at;
+  docs : l.cursor.docs ≡ l.info.docs;
+  third : skip_pages l.cursor ≤ list_entries l.info;
+  skips : g.S.Store.reads l.store part.Skip ≤ g.S.Store.reads l.fn.store part.Skip + skip_pages l.cursor;
+  ascents : AddsAscent l.last l.fn.sums l.sums;
   faults : g.S.Store.faults l.fn.store ≤ g.S.Store.faults l.store;
   bounded : (n : ℕ) → ((d : ℕ) → sum_of d l.fn.sums ≤ n) → Bounded n l.last l.sums;
   whole : Adding l.all l.info l.last l.fn.sums l.sums l.cursor;

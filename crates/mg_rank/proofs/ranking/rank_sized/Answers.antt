@@ -3,6 +3,8 @@ use Rattle.mg_defs.specs.Weights.{hits, hits_over, by_score}
 use Rattle.mg_defs.proofs.FirstLaws.{hits_of_distinct}
 use Rattle.mg_rank.specs.Ranked.{WeightsStand}
 use Rattle.mg_rank.proofs.EndLaws.{counted, hits_few, numbered_hits, top_err}
+use Rattle.mg_dev.specs.declared.part.Part.TheVariants as part
+use Rattle.mg_rank.proofs.AscentLaws.{terms_most}
 use Rattle.mg_rank.proofs.WalkLaws.{weight_of}
 use Rattle.mg_rank.proofs.ranking.rank_sized.Goals as goal
 
@@ -33,3 +35,25 @@ returns-clause-answer g c = λ collection ts stand told all_is.
     let s = c.in-Ok.ensures.answer collection ts stand.lists told all_is in
     let stand2 = subst (λ fs. WeightsStand c.args.base.now fs collection) (sym c.sum_lists.ensures.files) stand in
     top_err c.in-Err-first_rows.refusal _ collection ts c.args.most (c.in-Err-first_rows.ensures.answer collection ts stand2 all_is s)
+
+pub returns-in-Err-clause-weights : goal.returns-in-Err-clause-weights
+returns-in-Err-clause-weights g c = omega (arith, c.sum_lists.ensures.reads.others part.Weights (λ e. cc) (λ e. cc))
+
+pub returns-in-Err-count-clause-weights : goal.returns-in-Err-count-clause-weights
+returns-in-Err-count-clause-weights g c = omega (arith, c.sum_lists.ensures.reads.others part.Weights (λ e. cc) (λ e. cc))
+
+pub returns-in-Ok-first_rows-clause-weights : goal.returns-in-Ok-first_rows-clause-weights
+returns-in-Ok-first_rows-clause-weights g c =
+    let none = c.sum_lists.ensures.reads.others part.Weights (λ e. cc) (λ e. cc) in
+    terms_most c.args.all _ _ _ _ c.in-Ok.ensures.ascents (omega (arith, none, c.first_rows.ensures.weights))
+
+pub returns-in-Ok-first_rows-clause-skips : goal.returns-in-Ok-first_rows-clause-skips
+returns-in-Ok-first_rows-clause-skips g c = omega (arith, c.first_rows.ensures.reads.others part.Skip (λ e. cc), c.sum_lists.ensures.skips)
+
+pub returns-clause-weights : goal.returns-clause-weights
+returns-clause-weights g c =
+    let none = c.sum_lists.ensures.reads.others part.Weights (λ e. cc) (λ e. cc) in
+    terms_most c.args.all _ _ _ _ c.in-Ok.ensures.ascents (omega (arith, none, c.first_rows.ensures.weights))
+
+pub returns-clause-skips : goal.returns-clause-skips
+returns-clause-skips g c = omega (arith, c.first_rows.ensures.reads.others part.Skip (λ e. cc), c.sum_lists.ensures.skips)
