@@ -6,7 +6,7 @@ use Rattle.std.specs.declared.option.Option.{Option}
 use Rattle.std.specs.declared.result.Result.{Result}
 use Rattle.mg_dev.specs.declared.device.Failed.{Failed}
 use Rattle.mg_dev.specs.Files.{Files, Reads, bytes_at}
-use Rattle.mg_bits.specs.Pages.{Paging}
+use Rattle.mg_bits.specs.Pages.{Fits, Paging}
 use Rattle.mg_front.specs.declared.entry.EntryAt.{EntryAt}
 use Rattle.mg_front.specs.declared.entry.FrontEntry.{FrontEntry}
 use Rattle.mg_front.specs.declared.entry.Head.{Head}
@@ -32,9 +32,13 @@ abbrev pub FoundFrom : {E : Type 0} → Paging → Option Files → ℕ → (Lis
 FoundFrom feed files at reading result found = IsSome files →
     IfOk result (λ size. reading (drop at (bytes_at files feed.name)) ≡ found size)
 
--- an entry may be read there: its field has room, and its place is far from the greatest number
-pub record IsReadable (entry : EntryAt) : Type 0 where
+-- an entry may be read there through a feed
+pub record IsReadable (feed : Paging) (entry : EntryAt) (files : Option Files) : Type 0 where
+  -- the page that the feed holds agrees with the file
+  pub fits : Fits feed files
+  -- the entry's field has room
   pub width : entry.width ≤ 24
+  -- its place is far from the greatest number
   pub place : entry.place < 2 ^ 62
 
 -- an entry of so many bytes was read on from its place, and the next one stands behind it

@@ -41,6 +41,17 @@ abbrev pub WroteToPlaces : Option Writing → Option Files → Option Files → 
 WroteToPlaces None before now reads reads_now = (now ≡ before) × SameReads reads reads_now
 WroteToPlaces (Some places) before now reads reads_now = WroteTo places.name before now reads reads_now
 
+-- a call that writes these bytes of places, where places are written
+pub record PutsPlaces (old new : Option Writing) (piece : List ℕ) (result : Result (Unit {0}) PutErr)
+    (files_before files_now : Option Files) (reads_before reads_now : Reads) (faults_before faults_now : ℕ) : Type 0
+  where
+    -- they stand behind what was written before
+    pub bytes : OnOk result (PlaceWrote old new files_before files_now piece)
+    -- no other file was written
+    pub wrote : WroteToPlaces old files_before files_now reads_before reads_now
+    -- a failure has its cause in the device
+    pub cause : HasPutCause faults_before faults_now result
+
 -- the places of whole entries, in a file of another name
 abbrev pub PlacesTook : Option Writing → List ℕ → Option Files → List Entry → Type 0
 PlacesTook None name files es = Unit {0}

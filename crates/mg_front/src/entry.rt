@@ -193,8 +193,7 @@ fn read_whole<S: Store>(
     before: &FrontEntry,
     out: &mut FrontEntry,
 ) -> Result<Option<u64>, Failed>
-    requires fits { Fits feed.old (S.files store.old) }
-    requires at { IsReadable at }
+    requires { IsReadable feed.old at (S.files store.old) }
     ensures { Between S.files S.reads S.faults store.old store.new
         (ReadsEntry feed.old feed.new at (read_whole at.width at.number (string_of before.now))
         out.new result) }
@@ -239,8 +238,7 @@ fn read_cut<S: Store>(
     before: &FrontEntry,
     out: &mut FrontEntry,
 ) -> Result<Option<u64>, Failed>
-    requires fits { Fits feed.old (S.files store.old) }
-    requires at { IsReadable at }
+    requires { IsReadable feed.old at (S.files store.old) }
     ensures { Between S.files S.reads S.faults store.old store.new
         (ReadsEntry feed.old feed.new at (read_cut at.width (string_of before.now)) out.new
         result) }
@@ -270,8 +268,7 @@ pub(crate) fn read_entry<S: Store>(
     before: &FrontEntry,
     out: &mut FrontEntry,
 ) -> Result<Option<u64>, Failed>
-    requires fits { Fits feed.old (S.files store.old) }
-    requires at { IsReadable at }
+    requires { IsReadable feed.old at (S.files store.old) }
     ensures { Between S.files S.reads S.faults store.old store.new
         (ReadsEntry feed.old feed.new at (read_entry at.width at.number (string_of before.now))
         out.new result) }

@@ -1,10 +1,9 @@
 //! How an entry is written.
-ghost use Rattle.std.specs.Prelude.{◌≡◌, ◌≤◌, ◌<◌, ◌+◌, ◌-◌, ◌++◌, ◌∷◌, ◌%◌, ◌^◌, ◌==◌, if◌then◌else◌, [], IfOk, OnOk, length};
-ghost use Rattle.mg_dev.specs.Causes.{HasPutCause};
+ghost use Rattle.std.specs.Prelude.{◌≡◌, ◌≤◌, ◌<◌, ◌+◌, ◌-◌, ◌++◌, ◌∷◌, ◌%◌, ◌^◌, ◌==◌, if◌then◌else◌, [], IfOk, length};
 ghost use Rattle.mg_dev.specs.Moments.{Between};
 ghost use Rattle.mg_defs.specs.Numbers.{four};
 ghost use Rattle.mg_defs.specs.Front.{shared};
-ghost use Rattle.mg_front.specs.Fronting.{PlaceWrote, Puts, WroteToPlaces};
+ghost use Rattle.mg_front.specs.Fronting.{Puts, PutsPlaces};
 ghost use Rattle.mg_front.specs.Entries.{cut_bytes, coded_entry};
 
 use mg_bits::PageWriter;
@@ -109,11 +108,8 @@ pub fn put_place<S: Store>(
     place: u64,
 ) -> Result<(), PutErr>
     requires place { place < 2 ^ 32 }
-    ensures bytes { OnOk result (PlaceWrote places.old places.new (S.files store.old)
-        (S.files store.new) (if number % 4 == 0 then four place else [])) }
-    ensures wrote { WroteToPlaces places.old (S.files store.old) (S.files store.new)
-        (S.reads store.old) (S.reads store.new) }
-    ensures cause { HasPutCause (S.faults store.old) (S.faults store.new) result }
+    ensures { Between S.files S.reads S.faults store.old store.new
+        (PutsPlaces places.old places.new (if number % 4 == 0 then four place else []) result) }
 {
     if number % 4 == 0 {
         if let Some(writer) = places {

@@ -3,8 +3,9 @@ ghost use Rattle.std.specs.Prelude.{◌≡◌, ◌≢◌, ◌≤◌, ◌<◌, �
 ghost use Rattle.std.specs.Option.{is_some, option_map, ForSome};
 ghost use Rattle.mg_dev.specs.Files.{written, SameReads};
 ghost use Rattle.mg_dev.specs.Causes.{HasPutCause};
+ghost use Rattle.mg_dev.specs.Moments.{Between};
 ghost use Rattle.mg_defs.specs.Front.{Entry, IsEntry};
-ghost use Rattle.mg_front.specs.Fronting.{TookAlso, Took, IsOther, StartedPlaces, WroteToAsked, IsNotAsked, HoldsNothing, PlaceWrote, WroteToPlaces, with_empty, FinishedAll};
+ghost use Rattle.mg_front.specs.Fronting.{TookAlso, Took, IsOther, StartedPlaces, WroteToAsked, IsNotAsked, HoldsNothing, PutsPlaces, with_empty, FinishedAll};
 ghost use Rattle.mg_bits.specs.Alike.{SameAt};
 ghost use Rattle.mg_dev.specs.Names.{file_name};
 
@@ -72,12 +73,9 @@ fn start_places<'a, S: Store>(
 
 // Writes the places that are held, where there are any.
 fn finish_places<S: Store>(places: &mut Option<PageWriter<'_>>, store: &mut S) -> Result<(), PutErr>
-    ensures bytes { OnOk result (PlaceWrote places.old places.new (S.files store.old)
-        (S.files store.new) []) }
+    ensures put { Between S.files S.reads S.faults store.old store.new
+        (PutsPlaces places.old places.new [] result) }
     ensures nothing { OnOk result (HoldsNothing places.new) }
-    ensures wrote { WroteToPlaces places.old (S.files store.old) (S.files store.new)
-        (S.reads store.old) (S.reads store.new) }
-    ensures cause { HasPutCause (S.faults store.old) (S.faults store.new) result }
 {
     match places {
         None => Ok(()),
