@@ -1,5 +1,5 @@
 //! Bits of a feed.
-ghost use Rattle.std.specs.Prelude.{◌≡◌, ◌+◌, ◌-◌, ◌*◌, ◌/◌, ◌≤◌, ◌<◌, ◌^◌, ◌∷◌, [], IfOk, ◌%◌, OnOk, OnErr, MatchResult, Option, Some, IfSome, IsSome, OnSome, IfNone};
+ghost use Rattle.std.specs.Prelude.{◌≡◌, ◌+◌, ◌-◌, ◌*◌, ◌/◌, ◌≤◌, ◌<◌, ◌^◌, ◌∷◌, [], IfOk, ◌%◌, Option, Some, IfSome, IsSome, OnSome, IfNone};
 ghost use Rattle.mg_dev.specs.Files.{Files};
 ghost use Rattle.mg_bits.specs.Feed.{HasBits, HoldsBits, KeepsPage, ToldBits};
 ghost use Rattle.mg_defs.specs.Bits.{Begins, digits};

@@ -1,12 +1,12 @@
 //! A feed over a file, through one page of 4,096 bytes.
-ghost use Rattle.std.specs.Prelude.{◌≡◌, ◌≢◌, ◌≤◌, ◌<◌, ◌+◌, ◌*◌, ◌^◌, Option, Some, None, IfOk, IfSome, OnSome, slice_get, take, drop, length, IsSome, true};
+ghost use Rattle.std.specs.Prelude.{◌≡◌, ◌≤◌, ◌<◌, ◌+◌, ◌*◌, ◌^◌, Option, Some, None, IfOk, IfSome, OnSome, slice_get, take, drop, length, IsSome, true};
 ghost use Rattle.std.proofs.Common.{rules};
 ghost use Rattle.mg_dev.specs.Files.{Files, SameReads, bytes_at};
 ghost use Rattle.mg_dev.specs.Names.{full_name};
-ghost use Rattle.mg_dev.specs.Causes.{HasCause, Rose};
+ghost use Rattle.mg_dev.specs.Causes.{HasCause};
 ghost use Rattle.mg_defs.specs.Bits.{Begins, digits};
 ghost use Rattle.mg_bits.specs.ByteReads.{AsksByte};
-ghost use Rattle.mg_bits.specs.Feed.{Calm, HasBits, HoldsBits, ReadPart, ReadsWithin, of_store, held_after, page_of, ToldBytes, OnRange, ToldBits};
+ghost use Rattle.mg_bits.specs.Feed.{HasBits, HoldsBits, ReadPart, of_store, held_after, page_of, ToldBytes, OnRange, ToldBits};
 ghost use Rattle.mg_bits.specs.FeedLaws.{same_page};
 ghost use Rattle.mg_bits.specs.Pages.{Fits, SameFile, Looked, IsFilled, feeding_of, CopiedBehind, AsFeed};
 ghost use Rattle.mg_dev.specs.Moments.{Between};
