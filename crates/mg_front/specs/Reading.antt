@@ -3,7 +3,7 @@ use Rattle.std.specs.Prelude.{◌⊎◌, false, true, ◌≡◌, ◌≢◌, ◌�
 use Rattle.std.specs.Option.{IsSome}
 use Rattle.std.specs.declared.option.Option.{Option}
 use Rattle.std.specs.Int.{div_ceil}
-use Rattle.mg_dev.specs.Files.{Files, Reads, bytes_at}
+use Rattle.mg_dev.specs.Files.{Files, Reads, SameReads, bytes_at}
 use Rattle.mg_dev.specs.Names.{file_name, same_part}
 use Rattle.mg_dev.specs.declared.file_ref.FileRef.{FileRef}
 use Rattle.mg_dev.specs.declared.bad as declared
@@ -180,6 +180,21 @@ AnswersPlaces part wanted bytes (Err (Bad bad)) = (length bytes ≢ wanted)
 abbrev pub AnswersPlacesOf : {T : Type 0} → FileRef → ℕ → Option Files → Result T PartErr → Type 0
 AnswersPlacesOf file count files result = IsSome files →
     AnswersPlaces file.part (places_size count) (bytes_at files (file_name file)) result
+
+-- a call that compares the size of the places
+pub record ExpectsPlaces (file : FileRef) (count : ℕ) (result : Result (Unit {0}) PartErr)
+    (files_before files_now : Option Files) (reads_before reads_now : Reads) (faults_before faults_now : ℕ) : Type 0
+  where
+    -- it is that of a place for each whole entry, or else the two sizes are told
+    pub answer : AnswersPlacesOf file count files_before result
+    -- it asks for no memory
+    pub memory : result ≢ Err Memory
+    -- no file changed
+    pub files : files_now ≡ files_before
+    -- no part was read
+    pub reads : SameReads reads_before reads_now
+    -- a refusal has its cause in the device
+    pub cause : HasPartCause faults_before faults_now result
 
 -- a fact where the files are told and a file holds the places of so many entries
 abbrev pub WherePlacesStand : FileRef → Option Files → ℕ → Type 0 → Type 0

@@ -1,11 +1,10 @@
 //! Entries of a part by their number.
-ghost use Rattle.std.specs.Prelude.{Err, ◌≡◌, ◌≢◌, ◌-◌, if◌then◌else◌, ◌≤◌, ◌<◌, ◌+◌, ◌*◌, ◌%◌, ◌/◌, ◌^◌, List, IfErr, IfOk, IfSome, IsSome, None, Some, true, false};
-ghost use Rattle.mg_dev.specs.Files.{bytes_at};
+ghost use Rattle.std.specs.Prelude.{Err, ◌≡◌, ◌≢◌, ◌-◌, if◌then◌else◌, ◌≤◌, ◌<◌, ◌+◌, ◌*◌, ◌%◌, ◌/◌, ◌^◌, List, IfErr, IfOk, IfSome, None, Some, true, false};
 ghost use Rattle.mg_bits.specs.Pages.{Fits};
 ghost use Rattle.mg_defs.specs.Numbers.{four};
 ghost use Rattle.mg_defs.specs.Front.{Entry};
 ghost use Rattle.mg_front.specs.Entries.{string_of};
-ghost use Rattle.mg_front.specs.Reading.{Fronted, FrontFits, FrontStands, AnswersAt, AnswersBlock, AnswersFind, AnswersIn, IsNotBad, IsInBlock, IsLost, IsLostAmong, IsReader, LookedAt, ReaderLooked, ReadsPlace, SameParts, GivesEntry, ScansBlock, AnswersPlacesOf, AtBlock, WherePlacesStand, ReaderLooks};
+ghost use Rattle.mg_front.specs.Reading.{Fronted, FrontFits, FrontStands, AnswersAt, AnswersBlock, AnswersFind, AnswersIn, IsNotBad, IsInBlock, IsLost, IsLostAmong, IsReader, LookedAt, ReaderLooked, ReadsPlace, SameParts, GivesEntry, ScansBlock, AnswersPlacesOf, AtBlock, ExpectsPlaces, WherePlacesStand, ReaderLooks};
 ghost use Rattle.mg_dev.specs.Files.{SameReads};
 ghost use Rattle.mg_front.specs.Looks.{ReadsUpTo, halvings, looks};
 ghost use Rattle.std.specs.Bool.{OnTrue, OnFalse};
@@ -149,11 +148,8 @@ fn scan_block<S: Store>(
 
 // Compares the size of the places with that of a place for each whole entry.
 fn expect_places<S: Store>(store: &mut S, places: &FileRef<'_>, count: u32) -> Result<(), PartErr>
-    ensures answer { AnswersPlacesOf places.now count (S.files store.old) result }
-    ensures memory { result ≢ Err PartErr.Memory }
-    ensures files { S.files store.new ≡ S.files store.old }
-    ensures reads { SameReads (S.reads store.old) (S.reads store.new) }
-    ensures cause { HasPartCause (S.faults store.old) (S.faults store.new) result }
+    ensures { Between S.files S.reads S.faults store.old store.new
+        (ExpectsPlaces places.now count result) }
 {
     let wanted = 4 * u64::from(count.div_ceil(4));
     let found = match store.size(places) {
