@@ -1,5 +1,5 @@
 -- The page of a weight, where it is read or held.
-use Rattle.std.proofs.Common.{arith, ◌≡◌, ◌+◌, ◌*◌, ◌-◌, ◌/◌, ◌≤◌, ◌<◌, ℕ, Option, Some, sym, ◌∙◌, ap}
+use Rattle.std.proofs.Common.{arith, ◌≡◌, ◌+◌, ◌*◌, ◌-◌, ◌<◌, ℕ, Option, Some, ◌∙◌, ap}
 use Rattle.std.proofs.lemmas.Grind.{common_steps}
 use Rattle.mg_bits.specs.Feed.{Feeding, HoldsBits, held_after, lacks, page_of, to_read}
 use Rattle.mg_rank.specs.WeightReads.{weight_page}
