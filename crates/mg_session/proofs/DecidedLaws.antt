@@ -176,7 +176,8 @@ module _ {files before after : Option Files} {start old : Matching} (now : Match
         total,
         so_far.text,
         subst (λ n. PrintsShown (query_of start.asks) files start.places start.lead IsRow n total so_far.text) same.all
-            (prints_over (query_of start.asks) files start.places start.lead IsRow old.decided old.all total so_far.text within (λ doc lt le. passed_back files same so_far.lists doc (d.between doc lt le tt)) so_far.each),
+            (prints_over (query_of start.asks) files start.places start.lead IsRow old.decided old.all total so_far.text within
+            (λ doc lt le. passed_back files same so_far.lists doc (d.between doc lt le tt)) so_far.each),
         put_rest {E = ShowErr} w0 w1 w2 waiting so_far.text (count total) (Ok done) so_far.passed put,
       )
   printing_end w2 (Err error) is within put = tt
@@ -208,7 +209,8 @@ pub some_then : {w0 w1 w2 : Option (List ℕ)} {p0 p1 p2 x y : List ℕ} → Pas
 some_then {w0} {w1} {w2} {p0} {p1} {p2} {x} {y} one two = (x ++ y, pass_both w0 w1 w2 p0 p1 p2 x y one two)
 
 -- rows were passed on, and the count was put behind them
-pub counted_behind : {w0 w1 : Option (List ℕ)} {waited waiting rows : List ℕ} (w2 : Option (List ℕ)) (last : List ℕ) (r : Result (Unit {0}) ShowErr) → waited ≡ [] → Passed w0 w1 waited waiting rows →
+pub counted_behind : {w0 w1 : Option (List ℕ)} {waited waiting rows : List ℕ} (w2 : Option (List ℕ)) (last : List ℕ) (r : Result (Unit {0}) ShowErr) → waited ≡ [] →
+    Passed w0 w1 waited waiting rows →
     AfterPut w1 w2 (waiting ++ last) r → OnOk r ((rows : List ℕ) × (w2 ≡ appended w0 (rows ++ last)))
 counted_behind {w0} {w1} {waited} {waiting} {rows} w2 last (Ok done) none passed put = (rows, put_rows {E = ShowErr} w0 w1 w2 waited waiting rows last (Ok done) none passed put)
 counted_behind w2 last (Err error) none passed put = tt

@@ -253,13 +253,13 @@ are_rows collection kept query now all most total rows same is m rows_are total_
 }
 
 -- the rows and the count were put, or refused
-pub rows_end : (code : TextCode) (collection : List ℕ) (now : Settings) (query : List (List ℕ)) (all total bound kept : ℕ) (rows : List Hit)
-    (w0 w1 : Option (List ℕ)) (r0 r1 r2 : Reads) (result : Result (Unit {0}) ShowErr) → AreRows collection query now all total rows → kept ≤ bound →
+pub rows_end : {code : TextCode} {collection : List ℕ} {now : Settings} (query : List (List ℕ)) {all total bound : ℕ} (kept : ℕ) {rows : List Hit} {w0 w1 : Option (List ℕ)}
+    {r0 : Reads} (r1 : Reads) {r2 : Reads} {result : Result (Unit {0}) ShowErr} → AreRows collection query now all total rows → kept ≤ bound →
     r1 part.Post ≤ r0 part.Post + kept → r1 part.Text ≡ r0 part.Text →
     AfterPut w0 w1 (rows_text collection now.mode rows ++ count total) result → r2 part.Post ≡ r1 part.Post →
     r2 part.Text ≤ r1 part.Text + rows_pages code collection now.mode rows → ShowIsNotBad result →
     Answered code collection now (ranking collection query) bound w0 w1 r0 r2 result
-rows_end code collection now query all total bound kept rows w0 w1 r0 r1 r2 result are less post text put post_too shown_text sound = record {
+rows_end {code} {collection} {now} query {all} {total} {bound} kept {rows} {w0} {w1} {r0} r1 {r2} {result} are less post text put post_too shown_text sound = record {
   put = subst (λ t. AfterPut w0 w1 t result) (sym (rows_text_is collection query now all total rows are.all_is are.rows_are are.total_is)) put;
   sound = sound;
   post = omega (arith, less, post, post_too);

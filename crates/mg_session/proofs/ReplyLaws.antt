@@ -123,22 +123,22 @@ boolean_says collection now line why e = rw e refl
 ranked_says : (collection : List ℕ) (now : Settings) (line : List ℕ) (why : Refusal) → ranked line ≡ refused why → reply_as true collection now line ≡ refusal why
 ranked_says collection now line why e = rw e refl
 
-pub boolean_refused : (e : QueryErr) (code : TextCode) (collection : List ℕ) (now : Settings) (line : List ℕ) (w0 w1 : Option (List ℕ)) (r : Reads)
-    (result : Result (Unit {0}) ShowErr) (P Q : Type 0) → IfSome (refusal_of e) (λ why. boolean line ≡ refused why) →
+pub boolean_refused : (e : QueryErr) (code : TextCode) (collection : List ℕ) {now : Settings} {line : List ℕ} {w0 w1 : Option (List ℕ)} {r : Reads} {result : Result (Unit {0})
+    ShowErr} (P Q : Type 0) → IfSome (refusal_of e) (λ why. boolean line ≡ refused why) →
     ((text : List ℕ) → IfSome (refusal_of e) (λ why. text ≡ refusal why) → AfterPut w0 w1 text result) → IfErr result (AnswerStops P Q) →
     Replied code collection false now line w0 w1 r r result
-boolean_refused e code collection now line w0 w1 r result P Q said put stops = record {
+boolean_refused e code collection {now} {line} {w0} {w1} {r} {result} P Q said put stops = record {
   put = put (reply_as false collection now line) (IfSome_then (refusal_of e) said (boolean_says collection now line));
   sound = refused_sound P Q result stops;
   post = omega arith;
   text = omega arith;
 }
 
-pub ranked_refused : (e : QueryErr) (code : TextCode) (collection : List ℕ) (now : Settings) (line : List ℕ) (w0 w1 : Option (List ℕ)) (r : Reads)
-    (result : Result (Unit {0}) ShowErr) (P Q : Type 0) → IfSome (refusal_of e) (λ why. ranked line ≡ refused why) →
+pub ranked_refused : (e : QueryErr) (code : TextCode) (collection : List ℕ) {now : Settings} {line : List ℕ} {w0 w1 : Option (List ℕ)} {r : Reads} {result : Result (Unit {0})
+    ShowErr} (P Q : Type 0) → IfSome (refusal_of e) (λ why. ranked line ≡ refused why) →
     ((text : List ℕ) → IfSome (refusal_of e) (λ why. text ≡ refusal why) → AfterPut w0 w1 text result) → IfErr result (AnswerStops P Q) →
     Replied code collection true now line w0 w1 r r result
-ranked_refused e code collection now line w0 w1 r result P Q said put stops = record {
+ranked_refused e code collection {now} {line} {w0} {w1} {r} {result} P Q said put stops = record {
   put = put (reply_as true collection now line) (IfSome_then (refusal_of e) said (ranked_says collection now line));
   sound = refused_sound P Q result stops;
   post = omega arith;
@@ -158,11 +158,11 @@ nothing_replied code collection by now line w r0 r1 error sound post text = reco
   text = omega (arith, text);
 }
 
-pub boolean_answered : (code : TextCode) (collection : List ℕ) (q : Query) (now : Settings) (line : List ℕ) (w0 w1 : Option (List ℕ)) (r0 r1 r2 : Reads)
-    (result : Result (Unit {0}) ShowErr) → boolean line ≡ reads q →
+pub boolean_answered : (code : TextCode) (collection : List ℕ) (q : Query) {now : Settings} {line : List ℕ} {w0 w1 : Option (List ℕ)} {r0 r1 r2 : Reads}
+    {result : Result (Unit {0}) ShowErr} → boolean line ≡ reads q →
     Answered code collection now (satisfying collection q) (boolean_bound collection q) w0 w1 r1 r2 result → r1 part.Post ≡ r0 part.Post →
     r1 part.Text ≡ r0 part.Text → Replied code collection false now line w0 w1 r0 r2 result
-boolean_answered code collection q now line w0 w1 r0 r1 r2 result is a post text =
+boolean_answered code collection q {now} {line} {w0} {w1} {r0} {r1} {r2} {result} is a post text =
     let same_text : reply_as false collection now line ≡ answer_text collection now (satisfying collection q) = rw is refl in
     let same_bound : bound_by false collection line ≡ boolean_bound collection q = rw is refl in
     let same_pages : answer_pages code collection now (answer_by false collection line) ≡ answer_pages code collection now (satisfying collection q) = rw is refl in
@@ -173,11 +173,11 @@ boolean_answered code collection q now line w0 w1 r0 r1 r2 result is a post text
       text = omega (arith, a.text, text, same_pages);
     }
 
-pub ranked_answered : (code : TextCode) (collection : List ℕ) (terms : List (List ℕ)) (now : Settings) (line : List ℕ) (w0 w1 : Option (List ℕ))
-    (r0 r1 r2 : Reads) (result : Result (Unit {0}) ShowErr) → ranked line ≡ reads terms →
+pub ranked_answered : (code : TextCode) (collection : List ℕ) (terms : List (List ℕ)) {now : Settings} {line : List ℕ} {w0 w1 : Option (List ℕ)} {r0 r1 r2 : Reads}
+    {result : Result (Unit {0}) ShowErr} → ranked line ≡ reads terms →
     Answered code collection now (ranking collection terms) (ranked_bound collection terms) w0 w1 r1 r2 result → r1 part.Post ≡ r0 part.Post →
     r1 part.Text ≡ r0 part.Text → Replied code collection true now line w0 w1 r0 r2 result
-ranked_answered code collection terms now line w0 w1 r0 r1 r2 result is a post text =
+ranked_answered code collection terms {now} {line} {w0} {w1} {r0} {r1} {r2} {result} is a post text =
     let same_text : reply_as true collection now line ≡ answer_text collection now (ranking collection terms) = rw is refl in
     let same_bound : bound_by true collection line ≡ ranked_bound collection terms = rw is refl in
     let same_pages : answer_pages code collection now (answer_by true collection line) ≡ answer_pages code collection now (ranking collection terms) = rw is refl in

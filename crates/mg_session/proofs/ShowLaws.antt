@@ -32,10 +32,12 @@ doc_cut {w0} {w1} {w2} {p0} {p1} {h} {d} k one none grew =
     let cut : GrewByPrefix w0 w2 (p0 ++ (h ++ d)) = pass_cut w0 w1 w2 p0 p1 h d one (subst (λ p. GrewByPrefix w1 w2 (p ++ d)) (sym none) grew) in
     subst (λ t. GrewByPrefix w0 w2 (p0 ++ t)) (append_assoc h d k) (pass_part w0 w2 p0 (h ++ d) k cut)
 
-pub doc_closed : {w0 w1 w2 w3 : Option (List ℕ)} {p0 p1 p3 h k : List ℕ} (d : List ℕ) → Passed w0 w1 p0 p1 h → p1 ≡ [] → w2 ≡ appended w1 d → Passed w2 w3 p1 p3 k → Passed w0 w3 p0 p3 (h ++ (d ++ k))
+pub doc_closed : {w0 w1 w2 w3 : Option (List ℕ)} {p0 p1 p3 h k : List ℕ} (d : List ℕ) → Passed w0 w1 p0 p1 h → p1 ≡ [] → w2 ≡ appended w1 d → Passed w2 w3 p1 p3 k →
+    Passed w0 w3 p0 p3 (h ++ (d ++ k))
 doc_closed {w0} {w1} {w2} {w3} {p0} {p1} {p3} {h} {k} d one none given closed =
     subst (Passed w0 w3 p0 p3) (append_assoc h d k) (pass_both w0 w2 w3 p0 p1 p3 (h ++ d) k (pass_straight w0 w1 w2 p0 p1 h d one none given) closed)
 
-pub close_cut : {w0 w1 w2 w3 : Option (List ℕ)} {p0 p1 h : List ℕ} (d k : List ℕ) → Passed w0 w1 p0 p1 h → p1 ≡ [] → w2 ≡ appended w1 d → GrewByPrefix w2 w3 (p1 ++ k) → GrewByPrefix w0 w3 (p0 ++ (h ++ (d ++ k)))
+pub close_cut : {w0 w1 w2 w3 : Option (List ℕ)} {p0 p1 h : List ℕ} (d k : List ℕ) → Passed w0 w1 p0 p1 h → p1 ≡ [] → w2 ≡ appended w1 d → GrewByPrefix w2 w3 (p1 ++ k) →
+    GrewByPrefix w0 w3 (p0 ++ (h ++ (d ++ k)))
 close_cut {w0} {w1} {w2} {w3} {p0} {p1} {h} d k one none given grew =
     subst (λ t. GrewByPrefix w0 w3 (p0 ++ t)) (append_assoc h d k) (pass_cut w0 w2 w3 p0 p1 (h ++ d) k (pass_straight w0 w1 w2 p0 p1 h d one none given) grew)

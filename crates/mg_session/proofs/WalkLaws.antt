@@ -99,9 +99,9 @@ no_pages code collection Count most = refl
 
 -- ---- one document after another
 
-pub walked_start : (base : List ℕ) (code : TextCode) (collection : List ℕ) (q : Query) (now : Settings) (w : Option (List ℕ)) (waiting : List ℕ) (m : Matching)
-    (r : Reads) → waiting ≡ [] → query_of m.asks ≡ q → m.decided ≡ 0 → MatchesOver base collection m → Walked base code collection q now w w waiting 0 m r r
-walked_start base code collection q now w waiting m r none asks before over = record {
+pub walked_start : {base : List ℕ} {code : TextCode} {collection : List ℕ} {q : Query} {now : Settings} {w : Option (List ℕ)} {waiting : List ℕ} {m : Matching} {r : Reads} →
+    waiting ≡ [] → query_of m.asks ≡ q → m.decided ≡ 0 → MatchesOver base collection m → Walked base code collection q now w w waiting 0 m r r
+walked_start {base} {code} {collection} {q} {now} {w} {waiting} {m} {r} none asks before over = record {
   so_far = [];
   split = ap (λ p. satisfying collection p) (sym asks) ∙ ap (λ n. found (query_of m.asks) (n + 1) (drop n (documents collection))) (sym before);
   total_is = refl;
@@ -112,17 +112,18 @@ walked_start base code collection q now w waiting m r none asks before over = re
 }
 
 -- a document that was found
-pub walked_hit : (base : List ℕ) (code : TextCode) (collection : List ℕ) (q : Query) (now : Settings) (w0 w1 w2 : Option (List ℕ)) (waiting waiting2 : List ℕ)
-    (total number bound : ℕ) (m n : Matching) (r0 r1 r2 r3 : Reads) →
+pub walked_hit : {base : List ℕ} {code : TextCode} {collection : List ℕ} {q : Query} {now : Settings} {w0 w1 w2 : Option (List ℕ)} {waiting waiting2 : List ℕ} (total number : ℕ)
+    {bound : ℕ} (m n : Matching) {r0 : Reads} (r1 r2 : Reads) {r3 : Reads} →
     Walked base code collection q now w0 w1 waiting total m r0 r1 → GoesOn (left_of collection m) (left_of collection n) (Some number) →
     MatchesOver base collection n → PagesWithin bound (pages_read m.places) (pages_read n.places) r1 r2 → r2 part.Text ≡ r1 part.Text →
     Passed w1 w2 waiting waiting2 (hit_text (document collection number) now.mode now.most total (at_score number None)) → r3 part.Post ≡ r2 part.Post →
     r3 part.Text ≤ r2 part.Text + hit_pages code collection now total (at_score number None) →
     Walked base code collection q now w0 w2 waiting2 (total + 1) n r0 r3
-walked_hit base code collection q now w0 w1 w2 waiting waiting2 total number bound m n r0 r1 r2 r3 w goes over pages text passed post shown_text =
+walked_hit {base} {code} {collection} {q} {now} {w0} {w1} {w2} {waiting} {waiting2} total number {bound} m n {r0} r1 r2 {r3} w goes over pages text passed post shown_text =
     let hit = at_score number None in
     let whole : Passed w0 w2 [] waiting2 (flat_map (shown collection now.mode) (limited_to now.most w.so_far) ++ hit_text (document collection number) now.mode now.most total hit) =
-    pass_both w0 w1 w2 [] waiting waiting2 (flat_map (shown collection now.mode) (limited_to now.most w.so_far)) (hit_text (document collection number) now.mode now.most total hit) w.passed passed in
+    pass_both w0 w1 w2 [] waiting waiting2 (flat_map (shown collection now.mode) (limited_to now.most w.so_far)) (hit_text (document collection number)
+    now.mode now.most total hit) w.passed passed in
     record {
       so_far = w.so_far ++ hit ∷ [];
       split = w.split ∙ ap (λ l. w.so_far ++ l) (goes_some (left_of collection m) (left_of collection n) number (left_plain collection m) goes)
@@ -154,11 +155,11 @@ pages_so_far base code collection q now w0 w1 waiting total m r0 r1 w =
     omega (arith, w.text, pages_front code collection now.mode now.most w.so_far (left_of collection m), ap (answer_pages code collection now) w.split)
 
 -- the lists could not be read
-pub walked_stop : (base : List ℕ) (code : TextCode) (collection : List ℕ) (q : Query) (now : Settings) (w0 w1 : Option (List ℕ)) (waiting : List ℕ)
-    (total bound : ℕ) (m n : Matching) (r0 r1 r2 : Reads) (error : ShowErr) →
+pub walked_stop : {base : List ℕ} {code : TextCode} {collection : List ℕ} {q : Query} {now : Settings} {w0 w1 : Option (List ℕ)} {waiting : List ℕ} {total bound : ℕ}
+    (m n : Matching) {r0 : Reads} (r1 : Reads) {r2 : Reads} {error : ShowErr} →
     Walked base code collection q now w0 w1 waiting total m r0 r1 → PagesWithin bound (pages_read m.places) (pages_read n.places) r1 r2 → r2 part.Text ≡ r1 part.Text → ShowIsNotBad (Err error) →
     Answered code collection now (satisfying collection q) bound w0 w1 r0 r2 (Err error)
-walked_stop base code collection q now w0 w1 waiting total bound m n r0 r1 r2 error w pages text sound = record {
+walked_stop {base} {code} {collection} {q} {now} {w0} {w1} {waiting} {total} {bound} m n {r0} r1 {r2} {error} w pages text sound = record {
   put = so_far_prefix base code collection q now w0 w1 waiting total m r0 r1 w;
   sound = sound;
   post = omega (arith, w.post, pages.post, pages.within);
@@ -166,19 +167,20 @@ walked_stop base code collection q now w0 w1 waiting total bound m n r0 r1 r2 er
 }
 
 -- a document could not be shown
-pub walked_cut : (base : List ℕ) (code : TextCode) (collection : List ℕ) (q : Query) (now : Settings) (w0 w1 w2 : Option (List ℕ)) (waiting : List ℕ)
-    (total number bound : ℕ) (m n : Matching) (r0 r1 r2 r3 : Reads) (error : ShowErr) →
+pub walked_cut : {base : List ℕ} {code : TextCode} {collection : List ℕ} {q : Query} {now : Settings} {w0 w1 w2 : Option (List ℕ)} {waiting : List ℕ} (total number : ℕ)
+    {bound : ℕ} (m n : Matching) {r0 : Reads} (r1 r2 : Reads) {r3 : Reads} {error : ShowErr} →
     Walked base code collection q now w0 w1 waiting total m r0 r1 → GoesOn (left_of collection m) (left_of collection n) (Some number) →
     PagesWithin bound (pages_read m.places) (pages_read n.places) r1 r2 → r2 part.Text ≡ r1 part.Text →
     GrewByPrefix w1 w2 (waiting ++ hit_text (document collection number) now.mode now.most total (at_score number None)) → r3 part.Post ≡ r2 part.Post →
     r3 part.Text ≤ r2 part.Text + hit_pages code collection now total (at_score number None) → ShowIsNotBad (Err error) →
     Answered code collection now (satisfying collection q) bound w0 w2 r0 r3 (Err error)
-walked_cut base code collection q now w0 w1 w2 waiting total number bound m n r0 r1 r2 r3 error w goes pages text grew post shown_text sound =
+walked_cut {base} {code} {collection} {q} {now} {w0} {w1} {w2} {waiting} total number {bound} m n {r0} r1 r2 {r3} {error} w goes pages text grew post shown_text sound =
     let hit = at_score number None in
     let g = shown collection now.mode in
     let one = hit_text (document collection number) now.mode now.most total hit in
     let split : satisfying collection q ≡ (w.so_far ++ hit ∷ []) ++ left_of collection n =
-    w.split ∙ ap (λ l. w.so_far ++ l) (goes_some (left_of collection m) (left_of collection n) number (left_plain collection m) goes) ∙ sym (append_assoc w.so_far (hit ∷ []) (left_of collection n)) in
+    w.split ∙ ap (λ l. w.so_far ++ l) (goes_some (left_of collection m) (left_of collection n) number (left_plain collection m) goes) ∙ sym (append_assoc w.so_far (hit ∷ [])
+    (left_of collection n)) in
     let front = reply-front collection now (w.so_far ++ hit ∷ []) (left_of collection n) in
     let adds = hit_adds collection now (document collection number) w.so_far hit total refl w.total_is in
     let is_text : answer_text collection now (satisfying collection q) ≡ (flat_map g (limited_to now.most w.so_far) ++ one) ++ front.0 =
@@ -214,13 +216,13 @@ ended base code collection q now w0 w1 waiting total m n r0 r1 w goes =
     )
 
 -- the count was put behind all that waited, or refused
-pub walked_end : (base : List ℕ) (code : TextCode) (collection : List ℕ) (q : Query) (now : Settings) (w0 w1 w2 : Option (List ℕ)) (waiting : List ℕ)
-    (total bound : ℕ) (m n : Matching) (r0 r1 r2 : Reads) (result : Result (Unit {0}) ShowErr) →
+pub walked_end : {base : List ℕ} {code : TextCode} {collection : List ℕ} {q : Query} {now : Settings} {w0 w1 w2 : Option (List ℕ)} {waiting : List ℕ} (total : ℕ) {bound : ℕ}
+    (m n : Matching) {r0 : Reads} (r1 : Reads) {r2 : Reads} {result : Result (Unit {0}) ShowErr} →
     Walked base code collection q now w0 w1 waiting total m r0 r1 → GoesOn (left_of collection m) (left_of collection n) None →
     PagesWithin bound (pages_read m.places) (pages_read n.places) r1 r2 → r2 part.Text ≡ r1 part.Text →
     AfterPut w1 w2 (waiting ++ count total) result → ShowIsNotBad result →
     Answered code collection now (satisfying collection q) bound w0 w2 r0 r2 result
-walked_end base code collection q now w0 w1 w2 waiting total bound m n r0 r1 r2 result w goes pages text put sound =
+walked_end {base} {code} {collection} {q} {now} {w0} {w1} {w2} {waiting} total {bound} m n {r0} r1 {r2} {result} w goes pages text put sound =
     let t = ended base code collection q now w0 w1 waiting total m n r0 r1 w goes in
     record {
       put = subst (λ x. AfterPut w0 w2 x result) (sym t.2) (put_rest w0 w1 w2 waiting t.0 (count total) result t.1 put);

@@ -26,7 +26,7 @@ matches-init g c = record {
   few = omega arith;
   within = omega (arith, c.requires.first);
   printing = printing_start c.requires.stands c.requires.first c.new-pending.ensures refl;
-  walked = λ base code collection stands over. walked_start _ _ _ _ _ _ _ _ _ c.new-pending.ensures refl c.requires.first over;
+  walked = λ base code collection stands over. walked_start c.new-pending.ensures refl c.requires.first over;
 }
 
 pub returns-in-Err-clause-answer : goal.returns-in-Err-clause-answer
@@ -35,7 +35,7 @@ returns-in-Err-clause-answer g c = λ base code collection stands over.
     let walked = inv.walked base code collection stands over in
     let lists = (weights_later base base _ _ collection refl inv.so_far.step.files stands.weights).lists in
     let pages = c.in-Err.ensures.pages base collection lists walked.over in
-    walked_stop _ _ _ _ _ _ _ _ _ _ c.matches.matches c.next.new.self _ (g.S.Store.reads c.matches.store) _ _ walked
+    walked_stop c.matches.matches c.next.new.self (g.S.Store.reads c.matches.store) walked
     (subst (λ (a : Query). PagesWithin (boolean_bound collection (query_of a)) (pages_read c.matches.matches.places) (pages_read c.next.new.self.places)
     (g.S.Store.reads c.matches.store) (g.S.Store.reads c.next.new.store)) inv.kept.asks pages)
     (lists_text _ _ c.in-Err.ensures.reads)
@@ -49,7 +49,7 @@ returns-in-Err-show_hit-clause-answer g c = λ base code collection stands over.
     let text = texts_later _ _ _ _ code collection inv.so_far.same (c.in-Ok-Some.ensures.files ∙ inv.so_far.step.files) stands.texts_are in
     let pages = c.in-Ok-Some.ensures.pages base collection lists walked.over in
     let answer = c.in-Ok-Some.ensures.answer base collection lists walked.over in
-    walked_cut _ _ _ _ _ _ _ _ _ c.matches.total c.in-Ok-Some.number _ c.matches.matches c.next.new.self _ (g.S.Store.reads c.matches.store) (g.S.Store.reads c.next.new.store) _ _ walked
+    walked_cut c.matches.total c.in-Ok-Some.number c.matches.matches c.next.new.self (g.S.Store.reads c.matches.store) (g.S.Store.reads c.next.new.store) walked
     (subst (GoesOn (left_of collection c.matches.matches) (left_of collection c.next.new.self)) c.in-Ok-Some.field-0-is answer.0)
     (subst (λ (a : Query). PagesWithin (boolean_bound collection (query_of a)) (pages_read c.matches.matches.places) (pages_read c.next.new.self.places)
     (g.S.Store.reads c.matches.store) (g.S.Store.reads c.next.new.store)) inv.kept.asks pages)
@@ -79,7 +79,7 @@ matches-preserved g c =
           let text = texts_later _ _ _ _ code collection inv.so_far.same (c.in-Ok-Some.ensures.files ∙ inv.so_far.step.files) stands.texts_are in
           let pages = c.in-Ok-Some.ensures.pages base collection lists walked.over in
           let answer = c.in-Ok-Some.ensures.answer base collection lists walked.over in
-          walked_hit _ _ _ _ _ _ _ _ _ _ c.matches.total c.in-Ok-Some.number _ c.matches.matches c.next.new.self _ (g.S.Store.reads c.matches.store) (g.S.Store.reads c.next.new.store) _ walked
+          walked_hit c.matches.total c.in-Ok-Some.number c.matches.matches c.next.new.self (g.S.Store.reads c.matches.store) (g.S.Store.reads c.next.new.store) walked
           (subst (GoesOn (left_of collection c.matches.matches) (left_of collection c.next.new.self)) c.in-Ok-Some.field-0-is answer.0)
           answer.1 pages
           (lists_text _ _ c.in-Ok-Some.ensures.reads)
@@ -95,7 +95,7 @@ returns-in-Ok-None-clause-answer g c = λ base code collection stands over.
     let lists = (weights_later base base _ _ collection refl inv.so_far.step.files stands.weights).lists in
     let pages = c.in-Ok-None.ensures.pages base collection lists walked.over in
     let answer = c.in-Ok-None.ensures.answer base collection lists walked.over in
-    walked_end _ _ _ _ _ _ _ _ _ c.matches.total _ c.matches.matches c.next.new.self _ (g.S.Store.reads c.matches.store) _ _ walked
+    walked_end c.matches.total c.matches.matches c.next.new.self (g.S.Store.reads c.matches.store) walked
     (subst (GoesOn (left_of collection c.matches.matches) (left_of collection c.next.new.self)) c.in-Ok-None.field-0-is answer.0)
     (subst (λ (a : Query). PagesWithin (boolean_bound collection (query_of a)) (pages_read c.matches.matches.places) (pages_read c.next.new.self.places)
     (g.S.Store.reads c.matches.store) (g.S.Store.reads c.next.new.store)) inv.kept.asks pages)

@@ -14,4 +14,6 @@ pub returns-then-not-shows-clause-passed : goal.returns-then-not-shows-clause-pa
 returns-then-not-shows-clause-passed g c = ([], hidden _ _ [] _ _ _ _ (sym c.shows.ensures ∙ c.if-not-shows.true))
 
 pub returns-clause-passed : goal.returns-clause-passed
-returns-clause-passed g c = hit_passed _ _ _ _ c.args.now.now.mode c.args.now.now.most c.args.total (at_score c.args.number None) c.show_doc.result (sym c.shows.ensures ∙ c.if-not-shows.false) c.show_doc.ensures.passed
+returns-clause-passed g c =
+    hit_passed _ _ _ _ c.args.now.now.mode c.args.now.now.most c.args.total (at_score c.args.number None) c.show_doc.result (sym c.shows.ensures ∙ c.if-not-shows.false)
+    c.show_doc.ensures.passed

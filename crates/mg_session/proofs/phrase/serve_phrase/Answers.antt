@@ -7,7 +7,7 @@ pub returns-in-Err-clause-phrased : goal.returns-in-Err-clause-phrased
 returns-in-Err-clause-phrased g c = λ err err_now. no_head _ _ _ _ _ _ _ c.in-Err.fault c.in-Err.ensures.opened
 
 pub returns-in-Err-open-clause-phrased : goal.returns-in-Err-open-clause-phrased
-returns-in-Err-open-clause-phrased g c = λ err err_now. no_set _ _ _ _ _ _ _ _ c.in-Ok.head c.in-Err-open.fault c.in-Ok.ensures.opened c.in-Err-open.ensures.opened
+returns-in-Err-open-clause-phrased g c = λ err err_now. no_set _ _ _ _ _ _ err err_now c.in-Ok.head c.in-Err-open.fault c.in-Ok.ensures.opened c.in-Err-open.ensures.opened
 
 pub returns-clause-phrased : goal.returns-clause-phrased
 returns-clause-phrased g c = λ err err_now.

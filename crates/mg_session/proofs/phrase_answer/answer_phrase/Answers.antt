@@ -27,7 +27,8 @@ returns-in-Err-clause-printed g c = tt
 
 pub returns-clause-printed : goal.returns-clause-printed
 returns-clause-printed g c =
-    query_printed (g.S.Store.files c.args.store.now) PhraseRow _ _ c.in-Ok.matches c.search_matches.result c.in-Ok.ensures.asks c.in-Ok.ensures.all c.in-Ok.ensures.lists c.in-Ok.ensures.needs c.search_matches.ensures.printed
+    query_printed (g.S.Store.files c.args.store.now) PhraseRow _ _ c.in-Ok.matches c.search_matches.result c.in-Ok.ensures.asks c.in-Ok.ensures.all c.in-Ok.ensures.lists
+    c.in-Ok.ensures.needs c.search_matches.ensures.printed
 
 pub search_matches-requires-clause-on : goal.search_matches-requires-clause-on
 search_matches-requires-clause-on g c = (c.args.lists.now.base.now, c.in-Ok.ensures.fits _)

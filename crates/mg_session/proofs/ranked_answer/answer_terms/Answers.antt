@@ -33,7 +33,7 @@ returns-clause-answer g c = λ code collection stands terms told apart.
     (known_hits collection terms c.args.infos.now told) stands.all_is c.rows_asked-most.ensures top.0 top.1 in
     let text = texts_later (g.D.Documents.texts c.args.texts.now) (g.D.Documents.texts c.args.texts.now) _ _ code collection
     (same_texts (g.D.Documents.texts c.args.texts.now)) c.in-Ok-rank.ensures.files stands.texts_are in
-    rows_end _ _ _ terms _ _ _ _ _ _ _ _ (g.S.Store.reads c.rank.new.store) _ _ are (known_bound collection terms c.args.infos.now told.size)
+    rows_end terms _ (g.S.Store.reads c.rank.new.store) are (known_bound collection terms c.args.infos.now told.size)
     (c.in-Ok-rank.ensures.pages collection kept stands.weights.lists is_told stands.all_is) (ranked_text _ _ c.in-Ok-rank.ensures.reads)
     (c.show_ranked.ensures.shown.content code collection text) (shown_post _ _ _ _ _ _ _ c.show_ranked.ensures.shown.looked)
     (c.show_ranked.ensures.shown.pages code collection text) (c.show_ranked.ensures.shown.sound code collection text)

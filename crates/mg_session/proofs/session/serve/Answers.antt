@@ -7,7 +7,7 @@ pub returns-in-Err-clause-queried : goal.returns-in-Err-clause-queried
 returns-in-Err-clause-queried g c = λ err err_now. no_head _ _ _ _ _ _ _ c.in-Err.fault c.in-Err.ensures.opened
 
 pub returns-in-Err-open-clause-queried : goal.returns-in-Err-open-clause-queried
-returns-in-Err-open-clause-queried g c = λ err err_now. no_set _ _ _ _ _ _ _ _ c.in-Ok.head c.in-Err-open.fault c.in-Ok.ensures.opened c.in-Err-open.ensures.opened
+returns-in-Err-open-clause-queried g c = λ err err_now. no_set _ _ _ _ _ _ err err_now c.in-Ok.head c.in-Err-open.fault c.in-Ok.ensures.opened c.in-Err-open.ensures.opened
 
 pub returns-clause-queried : goal.returns-clause-queried
 returns-clause-queried g c = λ err err_now.

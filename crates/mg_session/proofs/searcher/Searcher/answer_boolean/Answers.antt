@@ -9,14 +9,14 @@ use Rattle.mg_session.proofs.searcher.Searcher.answer_boolean.Goals as goal
 
 pub returns-in-Err-clause-replied : goal.returns-in-Err-clause-replied
 returns-in-Err-clause-replied g c = λ code collection over.
-    boolean_refused c.in-Err.why code collection _ _ _ _ _ _ _ _ c.in-Err.ensures.refused c.answer_refused.ensures.content c.answer_refused.ensures.cause
+    boolean_refused c.in-Err.why code collection _ _ c.in-Err.ensures.refused c.answer_refused.ensures.content c.answer_refused.ensures.cause
 
 pub returns-in-Err-clause-stepped : goal.returns-in-Err-clause-stepped
 returns-in-Err-clause-stepped g c = opened_unread c.requires.fits (line_told _ c.answer_refused.ensures.later c.answer_refused.ensures.lacks c.answer_refused.ensures.cause)
 
 pub returns-in-Ok-clause-replied : goal.returns-in-Ok-clause-replied
 returns-in-Ok-clause-replied g c = λ code collection over.
-    boolean_answered code collection (query_of c.in-Ok.query) _ _ _ _ _ _ _ _ c.in-Ok.ensures.reads (c.answer_parsed.ensures.answer code collection over) refl refl
+    boolean_answered code collection (query_of c.in-Ok.query) c.in-Ok.ensures.reads (c.answer_parsed.ensures.answer code collection over) refl refl
 
 pub returns-in-Ok-clause-stepped : goal.returns-in-Ok-clause-stepped
 returns-in-Ok-clause-stepped g c = c.answer_parsed.ensures.stepped

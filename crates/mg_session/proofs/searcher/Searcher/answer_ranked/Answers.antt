@@ -9,7 +9,7 @@ use Rattle.mg_session.proofs.searcher.Searcher.answer_ranked.Goals as goal
 
 pub returns-in-Err-clause-replied : goal.returns-in-Err-clause-replied
 returns-in-Err-clause-replied g c = λ code collection over.
-    ranked_refused c.in-Err.why code collection _ _ _ _ _ _ _ _ c.in-Err.ensures.refused c.answer_refused.ensures.content c.answer_refused.ensures.cause
+    ranked_refused c.in-Err.why code collection _ _ c.in-Err.ensures.refused c.answer_refused.ensures.content c.answer_refused.ensures.cause
 
 pub returns-in-Err-clause-stepped : goal.returns-in-Err-clause-stepped
 returns-in-Err-clause-stepped g c = opened_unread c.requires.fits (line_told _ c.answer_refused.ensures.later c.answer_refused.ensures.lacks c.answer_refused.ensures.cause)
@@ -22,7 +22,7 @@ answer_distinct-requires-clause-apart g c = (line_terms c.args.line.now c.in-Ok.
 
 pub returns-in-Ok-clause-replied : goal.returns-in-Ok-clause-replied
 returns-in-Ok-clause-replied g c = λ code collection over.
-    ranked_answered code collection c.in-Ok.terms _ _ _ _ _ _ _ _ c.in-Ok.ensures.reads (c.answer_distinct.ensures.answer code collection over) refl refl
+    ranked_answered code collection c.in-Ok.terms c.in-Ok.ensures.reads (c.answer_distinct.ensures.answer code collection over) refl refl
 
 pub returns-in-Ok-clause-stepped : goal.returns-in-Ok-clause-stepped
 returns-in-Ok-clause-stepped g c = c.answer_distinct.ensures.stepped
