@@ -87,7 +87,10 @@ pub fn spill<S: Store>(pool: &mut Pool, w: &mut BitWriter<'_>, store: &mut S) ->
     ensures cause { HasPutCause (S.faults store.old) (S.faults store.new) result }
 {
     let count = pool.entries;
-    write_entries(w, store, &mut pool.bytes, count)?;
+    match write_entries(w, store, &mut pool.bytes, count) {
+        Ok(()) => {}
+        Err(refusal) => return Err(refusal),
+    }
     pool.entries = 0;
     Ok(())
 }
