@@ -1,5 +1,5 @@
 -- One call after another that asks places of a query.
-use Rattle.std.proofs.Common.{arith, suc, ◌≡◌, ◌≢◌, ◌+◌, ◌≤◌, ◌<◌, ℕ, List, [], ◌∷◌, length, sum_by, refl, sym, ◌∙◌, ap, subst, inl, inr, Option, Some, None, Ok, Err}
+use Rattle.std.proofs.Common.{arith, suc, ◌≡◌, ◌≢◌, ◌≤◌, ◌<◌, ℕ, List, [], ◌∷◌, length, refl, sym, ◌∙◌, ap, subst, inl, inr, Option, Some, None, Ok, Err}
 use Rattle.std.specs.Prelude.{OnOk, Result, slice_index_or, slice_set}
 use Rattle.std.proofs.lemmas.Bool.{cases_eq}
 use Rattle.std.proofs.lemmas.List.{get_or-set_other, length-set}

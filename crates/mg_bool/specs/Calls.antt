@@ -6,7 +6,7 @@ use Rattle.mg_dev.specs.declared.part.Part.TheVariants as part
 use Rattle.mg_dev.specs.declared.part_err.PartErr.{PartErr}
 use Rattle.mg_dev.specs.declared.part_err.PartErr.TheVariants as err
 use Rattle.mg_defs.specs.Lists.{block_count}
-use Rattle.mg_post.specs.Cursor.{Cursoring, NamesItsPart, skip_pages}
+use Rattle.mg_post.specs.Cursor.{NamesItsPart, skip_pages}
 use Rattle.mg_post.specs.Finding.{entries_pages}
 use Rattle.mg_post.specs.TermLists.{ReadsLists}
 use Rattle.mg_bool.specs.Places.{Place, PlaceFits, PlacesFit, SamePlace, SamePlaces}

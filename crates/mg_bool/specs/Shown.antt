@@ -108,7 +108,8 @@ IsPassed q files places None doc = IsShown q files places doc false
 IsPassed q files places (Some place) doc = ShowsWhether (nth_place places place) files doc false
     ⊎ IsShown q files places doc false
 
--- behind the documents that were decided, the one that is answered is shown to satisfy the query, and each one before it not to; where none is answered, each one that is left
+-- behind the documents that were decided, the one that is answered is shown to satisfy the query, and each one before
+-- it not to; where none is answered, each one that is left
 pub record DecidesShown (q : Query) (files : Option Files) (places : List Place) (lead : Option ℕ) (all decided : ℕ)
     (found : Option ℕ) : Type 0 where
   pub between : (doc : ℕ) → decided < doc → doc ≤ all → IfSome found (λ n. doc < n) → IsPassed q files places lead doc

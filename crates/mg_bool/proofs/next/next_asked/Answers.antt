@@ -58,7 +58,8 @@ returns-then-holds g c =
     walk_hit c.loop-walk.invariant _ step a.size (asked_reads e.call.files found (e.pages _) c.ask_all.new.places.items _ a.pages) a.call.fits (omega (arith, range.0)) range.1
     (asked_decides e.call.files found (e.pages _) c.ask_all.new.places.items c.ask_all.new.there.items _ a.answer
     (λ doc t. c.holds.ensures.satisfied doc (rw (← c.deref.ensures.value) at t)))
-    (candidate_next c.ask_all.new.there.items (omega (arith, range.0)) e.call.same a.call.same e.call.files (a.size ∙ c.loop-walk.invariant.there ∙ c.requires.there ∙ sym c.loop-walk.invariant.step.same.size)
+    (candidate_next c.ask_all.new.there.items (omega (arith, range.0)) e.call.same a.call.same e.call.files
+    (a.size ∙ c.loop-walk.invariant.there ∙ c.requires.there ∙ sym c.loop-walk.invariant.step.same.size)
     (rw c.in-Ok-Some.field-0-is at c.in-Ok-Some.ensures.shows) a.shows (rw c.deref.ensures.value at c.holds.ensures.value)) c.if-holds.true
 
 pub loop-walk-preserved : goal.loop-walk-preserved
@@ -71,7 +72,8 @@ loop-walk-preserved g c =
     walk_more c.loop-walk.invariant _ step a.size (asked_reads e.call.files found (e.pages _) c.ask_all.new.places.items _ a.pages) a.call.fits (omega (arith, range.0)) range.1
     (asked_decides e.call.files found (e.pages _) c.ask_all.new.places.items c.ask_all.new.there.items _ a.answer
     (λ doc t. c.holds.ensures.satisfied doc (rw (← c.deref.ensures.value) at t)))
-    (candidate_next c.ask_all.new.there.items (omega (arith, range.0)) e.call.same a.call.same e.call.files (a.size ∙ c.loop-walk.invariant.there ∙ c.requires.there ∙ sym c.loop-walk.invariant.step.same.size)
+    (candidate_next c.ask_all.new.there.items (omega (arith, range.0)) e.call.same a.call.same e.call.files
+    (a.size ∙ c.loop-walk.invariant.there ∙ c.requires.there ∙ sym c.loop-walk.invariant.step.same.size)
     (rw c.in-Ok-Some.field-0-is at c.in-Ok-Some.ensures.shows) a.shows (rw c.deref.ensures.value at c.holds.ensures.value)) c.if-holds.false
 
 -- ---- all documents were decided
