@@ -1,12 +1,10 @@
 //! The terms in a lexicon's entries.
 ghost use Rattle.std.specs.Prelude.{◌≤◌, ◌+◌, ◌*◌, IfOk, IsSome};
-ghost use Rattle.mg_bits.specs.Pages.{Looked};
 ghost use Rattle.mg_defs.specs.Rotations.{most_rotations};
 ghost use Rattle.mg_dev.specs.Files.{bytes_at};
 ghost use Rattle.mg_dev.specs.Moments.{Between};
 ghost use Rattle.mg_dev.specs.Names.{full_name};
-ghost use Rattle.mg_dev.specs.PartCauses.{HasPartCause};
-ghost use Rattle.mg_wild.specs.Loading.{AnswersTermsWithin, AnswersTotal};
+ghost use Rattle.mg_wild.specs.Loading.{AnswersTermsWithin, AnswersTotal, PartRead};
 ghost use Rattle.mg_wild.specs.Terms.{AreNumbered};
 
 use crate::term_block::{TermBlock, string_in};
@@ -28,8 +26,8 @@ pub(crate) fn total_size<S: Store>(
         AnswersTotal (bytes_at (S.files store.old) (full_name file.entry.base.now file.entry.part))
         count result }
     ensures most { IfOk result (λ size. size ≤ 255 * count) }
-    ensures looked { Between S.files S.reads S.faults store.old store.new (Looked file.entry.part) }
-    ensures cause { HasPartCause (S.faults store.old) (S.faults store.new) result }
+    ensures read { Between S.files S.reads S.faults store.old store.new
+        (PartRead file.entry.part result) }
 {
     let mut walk = match FrontWalk::load(alloc, store, file, FIELD, count) {
         Ok(walk) => walk,
@@ -58,8 +56,8 @@ pub(crate) fn read_terms<S: Store>(
         (bytes_at (S.files store.old) (full_name file.entry.base.now file.entry.part))
         count most result }
     ensures numbered { IfOk result (λ terms. AreNumbered 0 terms.infos) }
-    ensures looked { Between S.files S.reads S.faults store.old store.new (Looked file.entry.part) }
-    ensures cause { HasPartCause (S.faults store.old) (S.faults store.new) result }
+    ensures read { Between S.files S.reads S.faults store.old store.new
+        (PartRead file.entry.part result) }
 {
     let mut terms = TermBlock::new(alloc);
     let mut walk = match FrontWalk::load(alloc, store, file, FIELD, count) {

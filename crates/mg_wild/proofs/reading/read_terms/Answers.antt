@@ -42,7 +42,7 @@ loop-walk-preserved g c =
     let same = c.in_ok-next.ensures.same in
     let step = subst (λ b. AfterNext b c.loop-walk.walk c.next.new.self) c.if-branch.true c.in_ok-next.ensures.step in
     record {
-      looked = looked-on c.args.file.part c.loop-walk.walk.feed.part _ _ _ _ _ _ _ _ _ inv.looked c.in_ok-next.ensures.looked inv.part;
+      looked = looked-on inv.looked c.in_ok-next.ensures.looked inv.part;
       gave = record { es = with_next inv.gave.es c.in_ok-next.field-0 (entry_of c.loop-walk.walk.width c.next.new.out); gave = c.in_ok-next.ensures.gave inv.gave.es inv.gave.gave };
       taken = taken-more c.loop-walk.walk c.next.new.out (g.S.Store.files c.args.store.now) (g.S.Store.files c.loop-walk.store)
           (full_name c.args.file.base.now c.args.file.part) c.args.count c.loop-walk.terms c.push.new.self c.next.new.self.done c.in_ok-next.field-0

@@ -9,7 +9,7 @@ loop-walk-preserved g c =
     let same = c.in_ok-next.ensures.same in
     let step = subst (λ b. AfterNext b c.loop-walk.walk c.next.new.self) c.if-branch.true c.in_ok-next.ensures.step in
     record {
-      looked = looked-on c.args.file.part c.loop-walk.walk.feed.part _ _ _ _ _ _ _ _ _ inv.looked c.in_ok-next.ensures.looked inv.part;
+      looked = looked-on inv.looked c.in_ok-next.ensures.looked inv.part;
       summed = summed-more c.loop-walk.walk c.next.new.self (g.S.Store.files c.loop-walk.store) (g.S.Store.files c.next.new.store) c.loop-walk.size
           (length c.string_in.result.now) c.in_ok-next.field-0 c.next.new.out c.loop-walk.walk.width inv.summed
           (c.in_ok-next.ensures.gave inv.summed.es inv.summed.gave) c.if-branch.true (ap length c.string_in.ensures.string);

@@ -10,22 +10,22 @@ use Rattle.mg_session.proofs.wild_searcher.WildSearcher.open.Goals as goal
 pub returns-in-Err-clause-opened : goal.returns-in-Err-clause-opened
 returns-in-Err-clause-opened g c = rw c.fault_of_rotated.ensures
     (patterns_refused c.args.base.now (store_at g.S.Store.files g.S.Store.reads g.S.Store.faults c.args.store.now)
-    (store_at g.S.Store.files g.S.Store.reads g.S.Store.faults c.load.new.store) c.args.head.now c.in-Err.ensures.looked (fault_of_rotated c.in-Err.refusal)
-    (rotated_stops c.in-Err.refusal _ _ c.args.head.now _ _ c.in-Err.ensures.answer c.in-Err.ensures.never_bad c.in-Err.ensures.beyond c.in-Err.ensures.cause))
+    (store_at g.S.Store.files g.S.Store.reads g.S.Store.faults c.load.new.store) c.args.head.now c.in-Err.ensures.read.looked (fault_of_rotated c.in-Err.refusal)
+    (rotated_stops c.in-Err.refusal _ _ c.args.head.now _ _ c.in-Err.ensures.answer c.in-Err.ensures.never_bad c.in-Err.ensures.read.beyond c.in-Err.ensures.read.cause))
 
 pub returns-in-Err-clause-many : goal.returns-in-Err-clause-many
 returns-in-Err-clause-many g c = λ told count many. rw c.fault_of_rotated.ensures (rotated_refused c.in-Err.refusal c.args.head.now _ _ c.in-Err.ensures.answer told count many)
 
 pub returns-in-Err-new-clause-opened : goal.returns-in-Err-new-clause-opened
 returns-in-Err-new-clause-opened g c = patterns_refused c.args.base.now (store_at g.S.Store.files g.S.Store.reads g.S.Store.faults c.args.store.now)
-    (store_at g.S.Store.files g.S.Store.reads g.S.Store.faults c.load.new.store) c.args.head.now c.in-Ok.ensures.looked Memory tt
+    (store_at g.S.Store.files g.S.Store.reads g.S.Store.faults c.load.new.store) c.args.head.now c.in-Ok.ensures.read.looked Memory tt
 
 pub returns-in-Err-new-clause-many : goal.returns-in-Err-new-clause-many
 returns-in-Err-new-clause-many g c = λ told count many. inr (inr refl)
 
 pub returns-clause-opened : goal.returns-clause-opened
 returns-clause-opened g c = patterns_opened c.args.base.now (store_at g.S.Store.files g.S.Store.reads g.S.Store.faults c.args.store.now)
-    (store_at g.S.Store.files g.S.Store.reads g.S.Store.faults c.load.new.store) c.args.head.now c.in-Ok.ensures.looked c.in-Ok.terms c.in-Ok-new.marked.all
+    (store_at g.S.Store.files g.S.Store.reads g.S.Store.faults c.load.new.store) c.args.head.now c.in-Ok.ensures.read.looked c.in-Ok.terms c.in-Ok-new.marked.all
     c.new-searcher.result c.new-searcher.ensures c.in-Ok.ensures.terms (c.in-Ok.ensures.infos c.args.head.now.version)
 
 pub returns-clause-many : goal.returns-clause-many
