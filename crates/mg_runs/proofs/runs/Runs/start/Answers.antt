@@ -1,4 +1,4 @@
-use Rattle.std.proofs.Common.{◌≡◌, ◌≤◌, ℕ, List, arith, sym, ◌∙◌, is_some}
+use Rattle.std.proofs.Common.{◌≡◌, ◌≤◌, ℕ, List, arith, sym, ◌∙◌, is_some, refl}
 use Rattle.std.specs.declared.option.Option.{Option}
 use Rattle.mg_dev.specs.Files.{Files, Reads, SameReads}
 use Rattle.mg_dev.specs.Names.{full_name}
@@ -67,35 +67,27 @@ returns-in-Err-start g c =
       cause = cause_more _ later (put_as _ _ _ _ _ c.in-Err-start.ensures.cause);
     }
 
-pub returns-clause-fed : goal.returns-clause-fed
-returns-clause-fed g c =
+pub returns : goal.returns
+returns g c =
+    let all = but_runs c.args.base.now c.reset_part.ensures.wrote c.reset_part-2.ensures.wrote c.start.ensures.wrote in
     let least = c.limit.ensures.least in
     let most = c.limit.ensures.most in
     let value = c.limit.ensures.value in
-    fed_start _ _ (omega (arith, least, value)) (omega (arith, most, value)) c.requires.entries c.requires.slots c.requires.peak c.in-Ok-start.ensures.name c.in-Ok-start.ensures.holds
-    (λ told. c.in-Ok-start.ensures.empty (sym c.in-Ok-start.ensures.wrote.told ∙ told))
-    c.in-Ok-start.ensures.place c.new.ensures.items
-
-pub returns-clause-run : goal.returns-clause-run
-returns-clause-run g c = λ told.
-    started_empty _ _ _ c.in-Ok-start.ensures.started (c.in-Ok-reset_part.ensures.wrote.told ∙ c.in-Ok.ensures.wrote.told ∙ told)
-
-pub returns-clause-merge_a : goal.returns-clause-merge_a
-returns-clause-merge_a g c = λ told.
-    c.in-Ok-start.ensures.wrote.others _ (apart c.args.base.now MergeA Run (λ e. omega arith))
-    ∙ c.in-Ok-reset_part.ensures.wrote.others _ (apart c.args.base.now MergeA MergeB (λ e. omega arith))
-    ∙ c.in-Ok.ensures.empty told
-
-pub returns-clause-merge_b : goal.returns-clause-merge_b
-returns-clause-merge_b g c = λ told.
-    c.in-Ok-start.ensures.wrote.others _ (apart c.args.base.now MergeB Run (λ e. omega arith))
-    ∙ c.in-Ok-reset_part.ensures.empty (c.in-Ok.ensures.wrote.told ∙ told)
-
-pub returns-clause-others : goal.returns-clause-others
-returns-clause-others g c = (but_runs c.args.base.now c.reset_part.ensures.wrote c.reset_part-2.ensures.wrote c.start.ensures.wrote).0
-
-pub returns-clause-told : goal.returns-clause-told
-returns-clause-told g c = (but_runs c.args.base.now c.reset_part.ensures.wrote c.reset_part-2.ensures.wrote c.start.ensures.wrote).1
-
-pub returns-clause-reads : goal.returns-clause-reads
-returns-clause-reads g c = (but_runs c.args.base.now c.reset_part.ensures.wrote c.reset_part-2.ensures.wrote c.start.ensures.wrote).2
+    record {
+      fed = fed_start _ _ (omega (arith, least, value)) (omega (arith, most, value)) c.requires.entries c.requires.slots c.requires.peak c.in-Ok-start.ensures.name
+          c.in-Ok-start.ensures.holds (λ told. c.in-Ok-start.ensures.empty (sym c.in-Ok-start.ensures.wrote.told ∙ told)) c.in-Ok-start.ensures.place c.new.ensures.items;
+      pool = refl;
+      base = refl;
+      run = λ told. started_empty _ _ _ c.in-Ok-start.ensures.started (c.in-Ok-reset_part.ensures.wrote.told ∙ c.in-Ok.ensures.wrote.told ∙ told);
+      merge_a = λ told.
+          c.in-Ok-start.ensures.wrote.others _ (apart c.args.base.now MergeA Run (λ e. omega arith))
+          ∙ c.in-Ok-reset_part.ensures.wrote.others _ (apart c.args.base.now MergeA MergeB (λ e. omega arith))
+          ∙ c.in-Ok.ensures.empty told;
+      merge_b = λ told.
+          c.in-Ok-start.ensures.wrote.others _ (apart c.args.base.now MergeB Run (λ e. omega arith))
+          ∙ c.in-Ok-reset_part.ensures.empty (c.in-Ok.ensures.wrote.told ∙ told);
+      others = all.0;
+      told = all.1;
+      reads = all.2;
+      cause = record { later = omega (arith, c.reset_part.ensures.cause.later, c.reset_part-2.ensures.cause.later, c.start.ensures.cause.later); failed = λ e. absurd cc };
+    }
