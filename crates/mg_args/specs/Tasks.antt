@@ -1,14 +1,16 @@
 -- What the words after the program's name ask for.
-use Rattle.std.specs.Prelude.{◌≡◌, ◌≤◌, ⊤, ℕ, ◌&&◌, if◌then◌else◌, List, [], ◌∷◌, codes, unwrap_or, Option, Some, None, option_map, option_and_then, IfSome}
+use Rattle.std.specs.Prelude.{◌≡◌, ◌≤◌, ⊤, ℕ, ◌&&◌, if◌then◌else◌, List, [], ◌∷◌, codes, unwrap_or, Option, Some, None, option_map, option_and_then, IfSome, Ok, IfOk}
 use Rattle.std.specs.Option.{option_or}
+use Rattle.std.specs.declared.result.Result.{Result}
 use Rattle.std.specs.Str.{bytes_eq}
 use Rattle.clap.specs.Words.{App, Row}
+use Rattle.clap.specs.declared.parser.matches.ArgMatches.{ArgMatches}
 use Rattle.mg_args.specs.declared.name_tool.NameTool.{NameTool}
 use Rattle.mg_args.specs.declared.name_tool.NameTool.TheVariants as named
 use Rattle.mg_args.specs.declared.task.Task.{Task as Request}
 use Rattle.mg_args.specs.declared.task.Task.TheVariants as request
 use Rattle.mg_args.specs.Plain.{Word, is_plain_name, plain_number, default_budget, IsBudget, budget_in_one, budget_in_two}
-use Rattle.mg_args.specs.Commands.{name_app, build_app, build_names, trial_app, migrate_app, migrate_names, merge_app, merge_names, name_in, number_in, if_taken, IsRefusedBy}
+use Rattle.mg_args.specs.Commands.{name_app, build_app, build_names, trial_app, migrate_app, migrate_names, merge_app, merge_names, name_in, number_in, rows_in, if_taken, WhereGiven, HasEmpty, IsRefusedBy}
 
 -- a tool, and the values of its arguments
 pub data Task : Type 0 where
@@ -151,6 +153,26 @@ IsWithin (build collection name budget) = IsBudget budget
 IsWithin (trial seed docs) = (1 ≤ docs) × (docs ≤ 20000)
 IsWithin other = ⊤
 
+-- What is asked is this, or nothing.
+pub record Asks (asked : Option Request) (wanted : Option Task) : Type 0 where
+  pub is : option_map as_task asked ≡ wanted
+  -- where a task is asked its numbers lie within their bounds
+  pub within : IfSome asked (λ q. IsWithin (as_task q))
+
+-- What is made of a parse's matches, which hold these names.
+pub record AsksIn (matches : ArgMatches) (names : List Word) (wanted : Option Task) (asked : Option Request) :
+    Type 0 where
+  -- nothing is asked only where one of the names is empty
+  pub empty : asked ≡ None → WhereGiven matches names (HasEmpty names (rows_in matches))
+  pub asks : Asks asked wanted
+
+-- What a tool's command makes of the words, where memory does not lack.
+pub record AsksBy {E : Type 0} (app : App) (names words : List Word) (wanted : Option Task)
+    (result : Result (Option Request) E) : Type 0 where
+  -- nothing is asked only where the command refuses the words, or takes them with an empty name
+  pub refused : result ≡ Ok None → IsRefusedBy app names words
+  pub asks : IfOk result (λ asked. Asks asked wanted)
+
 -- ---- words that are refused
 
 -- A tool's words: the ids of its names, what it asks where they are plain, and the command that reads them else.
@@ -167,26 +189,43 @@ words_at named tool = record {
   plain = λ rest. option_map (task_at named) (plain_name rest);
 }
 
+-- those of the tools of several words
+abbrev pub build_words : ToolWords
+build_words = record { command = build_app; names = build_names; plain = plain_build }
+
+abbrev pub trial_words : ToolWords
+trial_words = record { command = trial_app; names = []; plain = plain_trial }
+
+abbrev pub migrate_words : ToolWords
+migrate_words = record { command = migrate_app; names = migrate_names; plain = plain_migrate }
+
+abbrev pub merge_words : ToolWords
+merge_words = record { command = merge_app; names = merge_names; plain = plain_merge }
+
 abbrev pub tool_words : Word → Option ToolWords
 tool_words tool =
-    if bytes_eq tool (codes "build") then Some
-    (record { command = build_app; names = build_names; plain = plain_build })
+    if bytes_eq tool (codes "build") then Some build_words
     else if bytes_eq tool (codes "query") then Some (words_at named.Query tool)
     else if bytes_eq tool (codes "decode") then Some (words_at named.Decode tool)
     else if bytes_eq tool (codes "scan") then Some (words_at named.Scan tool)
-    else if bytes_eq tool (codes "trial") then Some (record { command = trial_app; names = []; plain = plain_trial })
-    else if bytes_eq tool (codes "migrate")
-    then Some (record { command = migrate_app; names = migrate_names; plain = plain_migrate })
+    else if bytes_eq tool (codes "trial") then Some trial_words
+    else if bytes_eq tool (codes "migrate") then Some migrate_words
     else if bytes_eq tool (codes "check") then Some (words_at named.Check tool)
     else if bytes_eq tool (codes "wild") then Some (words_at named.Wild tool)
     else if bytes_eq tool (codes "phrase") then Some (words_at named.Phrase tool)
-    else if bytes_eq tool (codes "merge") then Some
-    (record { command = merge_app; names = merge_names; plain = plain_merge })
+    else if bytes_eq tool (codes "merge") then Some merge_words
     else None
 
 -- the words are not plain, and the tool's command refuses them, or takes them with an empty name
 abbrev pub AreRefusedBy : List Word → List Word → ToolWords → Type 0
 AreRefusedBy rest words tool = (tool.plain rest ≡ None) × IsRefusedBy tool.command tool.names words
+
+-- What is asked of a tool, by the words behind its name and by all, where memory does not lack.
+pub record AsksOf {E : Type 0} (tool : ToolWords) (rest words : List Word) (wanted : Option Task)
+    (result : Result (Option Request) E) : Type 0 where
+  -- nothing is asked only where the tool refuses the words
+  pub refused : result ≡ Ok None → AreRefusedBy rest words tool
+  pub asks : IfOk result (λ asked. Asks asked wanted)
 
 -- the first word is no tool, or the tool refuses the words
 abbrev pub IsRefused : List Word → Type 0

@@ -1,8 +1,8 @@
 //! Plain words: each tool's names and numbers in order.
-ghost use Rattle.std.specs.Prelude.{◌≡◌, ◌∷◌, [], IfSome, map, option_map, string_bytes};
+ghost use Rattle.std.specs.Prelude.{◌≡◌, ◌∷◌, [], IfSome, map, string_bytes};
 ghost use Rattle.std.specs.Option.{option_copied};
 ghost use Rattle.mg_args.specs.Plain.{budget_in_one as budget_in_one_spec, budget_in_two as budget_in_two_spec, plain_budget as plain_budget_spec, IsBudget};
-ghost use Rattle.mg_args.specs.Tasks.{as_task, IsWithin, plain_name as plain_name_spec, plain_names as plain_names_spec, plain_build as plain_build_spec, plain_trial as plain_trial_spec, plain_migrate as plain_migrate_spec, plain_merge as plain_merge_spec};
+ghost use Rattle.mg_args.specs.Tasks.{Asks, plain_name as plain_name_spec, plain_names as plain_names_spec, plain_build as plain_build_spec, plain_trial as plain_trial_spec, plain_migrate as plain_migrate_spec, plain_merge as plain_merge_spec};
 
 use crate::plain::{is_plain_name, plain_number};
 use crate::task::Task;
@@ -53,9 +53,7 @@ pub fn plain_name(words: &[String]) -> Option<&str>
 /// A build of two plain names, where the budget is there.
 fn plain_names<'a>(collection: &'a str, name: &'a str, budget: Option<u64>) -> Option<Task<'a>>
     requires { IfSome budget IsBudget }
-    ensures is { option_map as_task result ≡ plain_names_spec collection.entry.now name.entry.now
-        budget }
-    ensures within { IfSome result (λ q. IsWithin (as_task q)) }
+    ensures { Asks result (plain_names_spec collection.entry.now name.entry.now budget) }
 {
     let Some(budget) = budget else {
         return None;
@@ -72,8 +70,7 @@ fn plain_names<'a>(collection: &'a str, name: &'a str, budget: Option<u64>) -> O
 
 /// The names in order, and the budget before, between or after them, or nowhere.
 pub fn plain_build(words: &[String]) -> Option<Task<'_>>
-    ensures is { option_map as_task result ≡ plain_build_spec (map string_bytes words.now) }
-    ensures within { IfSome result (λ q. IsWithin (as_task q)) }
+    ensures { Asks result (plain_build_spec (map string_bytes words.now)) }
 {
     if words.len() < 2 || words.len() > 4 {
         return None;
@@ -87,9 +84,7 @@ pub fn plain_build(words: &[String]) -> Option<Task<'_>>
 }
 
 fn build_with_one<'a>(a: &'a str, b: &'a str, c: &'a str) -> Option<Task<'a>>
-    ensures within { IfSome result (λ q. IsWithin (as_task q)) }
-    ensures is { option_map as_task result ≡ plain_build_spec
-        (a.entry.now ∷ b.entry.now ∷ c.entry.now ∷ []) }
+    ensures { Asks result (plain_build_spec (a.entry.now ∷ b.entry.now ∷ c.entry.now ∷ [])) }
 {
     if let Some(task) = plain_names(b, c, budget_in_one(a)) {
         return Some(task);
@@ -101,9 +96,8 @@ fn build_with_one<'a>(a: &'a str, b: &'a str, c: &'a str) -> Option<Task<'a>>
 }
 
 fn build_with_two<'a>(a: &'a str, b: &'a str, c: &'a str, d: &'a str) -> Option<Task<'a>>
-    ensures within { IfSome result (λ q. IsWithin (as_task q)) }
-    ensures is { option_map as_task result ≡ plain_build_spec
-        (a.entry.now ∷ b.entry.now ∷ c.entry.now ∷ d.entry.now ∷ []) }
+    ensures { Asks result (plain_build_spec
+        (a.entry.now ∷ b.entry.now ∷ c.entry.now ∷ d.entry.now ∷ [])) }
 {
     if let Some(task) = plain_names(c, d, budget_in_two(a, b)) {
         return Some(task);
@@ -116,8 +110,7 @@ fn build_with_two<'a>(a: &'a str, b: &'a str, c: &'a str, d: &'a str) -> Option<
 
 /// A seed and a number of documents.
 pub fn plain_trial(words: &[String]) -> Option<Task<'_>>
-    ensures is { option_map as_task result ≡ plain_trial_spec (map string_bytes words.now) }
-    ensures within { IfSome result (λ q. IsWithin (as_task q)) }
+    ensures { Asks result (plain_trial_spec (map string_bytes words.now)) }
 {
     let [seed, docs] = words else {
         return None;
@@ -136,8 +129,7 @@ pub fn plain_trial(words: &[String]) -> Option<Task<'_>>
 
 /// The names of a migration.
 pub fn plain_migrate(words: &[String]) -> Option<Task<'_>>
-    ensures is { option_map as_task result ≡ plain_migrate_spec (map string_bytes words.now) }
-    ensures within { IfSome result (λ q. IsWithin (as_task q)) }
+    ensures { Asks result (plain_migrate_spec (map string_bytes words.now)) }
 {
     let [name, new] = words else {
         return None;
@@ -153,8 +145,7 @@ pub fn plain_migrate(words: &[String]) -> Option<Task<'_>>
 
 /// The names of a merge.
 pub fn plain_merge(words: &[String]) -> Option<Task<'_>>
-    ensures is { option_map as_task result ≡ plain_merge_spec (map string_bytes words.now) }
-    ensures within { IfSome result (λ q. IsWithin (as_task q)) }
+    ensures { Asks result (plain_merge_spec (map string_bytes words.now)) }
 {
     let [first, second, new] = words else {
         return None;

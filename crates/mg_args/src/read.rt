@@ -1,8 +1,8 @@
 //! The words of a command line: plain ones by their rule, others by the tool's command.
 ghost use Rattle.std.specs.Prelude.{◌≡◌, ◌∷◌, [], IfOk, IfSome, None, map, option_map, string_bytes};
 ghost use Rattle.std.specs.Option.{option_copied};
-ghost use Rattle.mg_args.specs.Commands.{name_app, build_app, build_names, trial_app, migrate_app, migrate_names, merge_app, merge_names, IsOwnId, IsRefusedBy};
-ghost use Rattle.mg_args.specs.Tasks.{as_task, task_of, name_asked, build_asked, trial_asked, migrate_asked, merge_asked, name_id, named_asked, plain_name as plain_name_spec, plain_build as plain_build_spec, plain_trial as plain_trial_spec, plain_migrate as plain_migrate_spec, plain_merge as plain_merge_spec, IsWithin, IsRefused};
+ghost use Rattle.mg_args.specs.Commands.{name_app, IsOwnId, IsRefusedBy};
+ghost use Rattle.mg_args.specs.Tasks.{as_task, task_of, name_asked, build_asked, trial_asked, migrate_asked, merge_asked, named_asked, words_at, build_words, trial_words, migrate_words, merge_words, plain_name as plain_name_spec, AsksOf, IsWithin, IsRefused};
 
 use crate::name_tool::NameTool;
 use crate::plain_words::{plain_build, plain_merge, plain_migrate, plain_name, plain_trial};
@@ -38,12 +38,8 @@ fn read_build<'a>(
     rest: &'a [String],
     words: &'a [String],
 ) -> Result<Option<Task<'a>>, AllocError>
-    ensures unplain { result ≡ Ok None → plain_build_spec (map string_bytes rest.entry.now) ≡ None }
-    ensures refused { result ≡ Ok None →
-        IsRefusedBy build_app build_names (map string_bytes words.entry.now) }
-    ensures is { IfOk result (λ r. option_map as_task r ≡
-        build_asked (map string_bytes rest.entry.now) (map string_bytes words.entry.now)) }
-    ensures within { IfOk result (λ r. IfSome r (λ q. IsWithin (as_task q))) }
+    ensures { AsksOf build_words (map string_bytes rest.entry.now) (map string_bytes words.entry.now)
+        (build_asked (map string_bytes rest.entry.now) (map string_bytes words.entry.now)) result }
 {
     if let Some(task) = plain_build(rest) {
         return Ok(Some(task));
@@ -60,13 +56,9 @@ fn read_named<'a>(
     words: &'a [String],
 ) -> Result<Option<Task<'a>>, AllocError>
     requires { map string_bytes words.now ≡ tool.now ∷ map string_bytes rest.now }
-    ensures unplain { result ≡ Ok None → plain_name_spec (map string_bytes rest.entry.now) ≡ None }
-    ensures refused { result ≡ Ok None →
-        IsRefusedBy (name_app tool.entry.now (name_id named)) (name_id named ∷ [])
-        (map string_bytes words.entry.now) }
-    ensures is { IfOk result (λ r. option_map as_task r ≡
-        named_asked named tool.entry.now (map string_bytes rest.entry.now)) }
-    ensures within { IfOk result (λ r. IfSome r (λ q. IsWithin (as_task q))) }
+    ensures { AsksOf (words_at named tool.entry.now) (map string_bytes rest.entry.now)
+        (map string_bytes words.entry.now)
+        (named_asked named tool.entry.now (map string_bytes rest.entry.now)) result }
 {
     match read_name(alloc, tool, named.id(), rest, words)? {
         Some(name) => Ok(Some(named.task(name))),
@@ -79,12 +71,8 @@ fn read_trial<'a>(
     rest: &'a [String],
     words: &'a [String],
 ) -> Result<Option<Task<'a>>, AllocError>
-    ensures unplain { result ≡ Ok None → plain_trial_spec (map string_bytes rest.entry.now) ≡ None }
-    ensures refused { result ≡ Ok None →
-        IsRefusedBy trial_app [] (map string_bytes words.entry.now) }
-    ensures is { IfOk result (λ r. option_map as_task r ≡
-        trial_asked (map string_bytes rest.entry.now) (map string_bytes words.entry.now)) }
-    ensures within { IfOk result (λ r. IfSome r (λ q. IsWithin (as_task q))) }
+    ensures { AsksOf trial_words (map string_bytes rest.entry.now) (map string_bytes words.entry.now)
+        (trial_asked (map string_bytes rest.entry.now) (map string_bytes words.entry.now)) result }
 {
     if let Some(task) = plain_trial(rest) {
         return Ok(Some(task));
@@ -97,13 +85,8 @@ fn read_migrate<'a>(
     rest: &'a [String],
     words: &'a [String],
 ) -> Result<Option<Task<'a>>, AllocError>
-    ensures unplain { result ≡ Ok None → plain_migrate_spec (map string_bytes rest.entry.now)
-        ≡ None }
-    ensures refused { result ≡ Ok None →
-        IsRefusedBy migrate_app migrate_names (map string_bytes words.entry.now) }
-    ensures is { IfOk result (λ r. option_map as_task r ≡
-        migrate_asked (map string_bytes rest.entry.now) (map string_bytes words.entry.now)) }
-    ensures within { IfOk result (λ r. IfSome r (λ q. IsWithin (as_task q))) }
+    ensures { AsksOf migrate_words (map string_bytes rest.entry.now) (map string_bytes words.entry.now)
+        (migrate_asked (map string_bytes rest.entry.now) (map string_bytes words.entry.now)) result }
 {
     if let Some(task) = plain_migrate(rest) {
         return Ok(Some(task));
@@ -116,12 +99,8 @@ fn read_merge<'a>(
     rest: &'a [String],
     words: &'a [String],
 ) -> Result<Option<Task<'a>>, AllocError>
-    ensures unplain { result ≡ Ok None → plain_merge_spec (map string_bytes rest.entry.now) ≡ None }
-    ensures refused { result ≡ Ok None →
-        IsRefusedBy merge_app merge_names (map string_bytes words.entry.now) }
-    ensures is { IfOk result (λ r. option_map as_task r ≡
-        merge_asked (map string_bytes rest.entry.now) (map string_bytes words.entry.now)) }
-    ensures within { IfOk result (λ r. IfSome r (λ q. IsWithin (as_task q))) }
+    ensures { AsksOf merge_words (map string_bytes rest.entry.now) (map string_bytes words.entry.now)
+        (merge_asked (map string_bytes rest.entry.now) (map string_bytes words.entry.now)) result }
 {
     if let Some(task) = plain_merge(rest) {
         return Ok(Some(task));

@@ -1,9 +1,9 @@
 //! What the tools' commands take, read from their matches.
-ghost use Rattle.std.specs.Prelude.{◌≡◌, ℕ, List, ◌∷◌, [], ◌≢◌, IfOk, IfSome, Some, None, codes, map, option_map, string_bytes};
+ghost use Rattle.std.specs.Prelude.{◌≡◌, ℕ, List, ◌∷◌, [], ◌≢◌, IfOk, Some, None, codes, map, string_bytes};
 ghost use Rattle.std.specs.Option.{option_copied};
 ghost use Rattle.clap.specs.Words.{first_of, one_of, IsUnsignedIn};
-ghost use Rattle.mg_args.specs.Commands.{name_app, build_app, build_names, trial_app, migrate_app, migrate_names, merge_app, merge_names, if_taken, name_in, number_in, rows_in, IsGiven, WhereGiven, IsOwnId, HasEmpty, IsRefusedBy, WritesNumber};
-ghost use Rattle.mg_args.specs.Tasks.{as_task, build_in, trial_in, migrate_in, merge_in, IsWithin};
+ghost use Rattle.mg_args.specs.Commands.{name_app, build_app, build_names, trial_app, migrate_app, migrate_names, merge_app, merge_names, if_taken, name_in, number_in, rows_in, IsGiven, IsOwnId, IsRefusedBy, WritesNumber};
+ghost use Rattle.mg_args.specs.Tasks.{build_in, trial_in, migrate_in, merge_in, Asks, AsksBy, AsksIn};
 
 use crate::command::{
     NotTaken, build_command, matches_by, merge_command, migrate_command, name_command,
@@ -64,11 +64,8 @@ pub fn name_taken<'a>(
 
 /// What the command of `build` takes.
 pub fn build_taken<'a>(alloc: Global, words: &'a [String]) -> Result<Option<Task<'a>>, AllocError>
-    ensures refused { result ≡ Ok None →
-        IsRefusedBy build_app build_names (map string_bytes words.entry.now) }
-    ensures is { IfOk result (λ r. option_map as_task r ≡
-        if_taken build_app (map string_bytes words.entry.now) build_in) }
-    ensures within { IfOk result (λ r. IfSome r (λ q. IsWithin (as_task q))) }
+    ensures { AsksBy build_app build_names (map string_bytes words.entry.now)
+        (if_taken build_app (map string_bytes words.entry.now) build_in) result }
 {
     let command = build_command(alloc)?;
     match matches_by(command, words) {
@@ -81,10 +78,7 @@ pub fn build_taken<'a>(alloc: Global, words: &'a [String]) -> Result<Option<Task
 fn build_of<'a>(matches: &ArgMatches<'a>) -> Option<Task<'a>>
     requires { (text : List ℕ) → one_of (codes "budget") (rows_in matches.now) ≡ Some text →
         IsUnsignedIn 4096 1073741824 text }
-    ensures empty { result ≡ None → WhereGiven matches.now build_names
-        (HasEmpty build_names (rows_in matches.now)) }
-    ensures is { option_map as_task result ≡ build_in (rows_in matches.now) }
-    ensures within { IfSome result (λ q. IsWithin (as_task q)) }
+    ensures { AsksIn matches.now build_names (build_in (rows_in matches.now)) result }
 {
     let Some(collection) = name_of(matches, "collection") else {
         return None;
@@ -105,11 +99,8 @@ fn build_of<'a>(matches: &ArgMatches<'a>) -> Option<Task<'a>>
 
 /// What the command of `trial` takes.
 pub fn trial_taken<'a>(alloc: Global, words: &'a [String]) -> Result<Option<Task<'a>>, AllocError>
-    ensures refused { result ≡ Ok None →
-        IsRefusedBy trial_app [] (map string_bytes words.entry.now) }
-    ensures is { IfOk result (λ r. option_map as_task r ≡
-        if_taken trial_app (map string_bytes words.entry.now) trial_in) }
-    ensures within { IfOk result (λ r. IfSome r (λ q. IsWithin (as_task q))) }
+    ensures { AsksBy trial_app [] (map string_bytes words.entry.now)
+        (if_taken trial_app (map string_bytes words.entry.now) trial_in) result }
 {
     let command = trial_command(alloc)?;
     match matches_by(command, words) {
@@ -126,8 +117,7 @@ fn trial_of<'a>(matches: &ArgMatches<'a>) -> Option<Task<'a>>
         IsUnsignedIn 1 20000 text }
     ensures there { IsGiven matches.now (codes "seed") → IsGiven matches.now (codes "docs") →
         result ≢ None }
-    ensures is { option_map as_task result ≡ trial_in (rows_in matches.now) }
-    ensures within { IfSome result (λ q. IsWithin (as_task q)) }
+    ensures asks { Asks result (trial_in (rows_in matches.now)) }
 {
     let Some(seed) = number_of(matches, "seed") else {
         return None;
@@ -143,11 +133,8 @@ fn trial_of<'a>(matches: &ArgMatches<'a>) -> Option<Task<'a>>
 
 /// What the command of `migrate` takes.
 pub fn migrate_taken<'a>(alloc: Global, words: &'a [String]) -> Result<Option<Task<'a>>, AllocError>
-    ensures refused { result ≡ Ok None →
-        IsRefusedBy migrate_app migrate_names (map string_bytes words.entry.now) }
-    ensures is { IfOk result (λ r. option_map as_task r ≡
-        if_taken migrate_app (map string_bytes words.entry.now) migrate_in) }
-    ensures within { IfOk result (λ r. IfSome r (λ q. IsWithin (as_task q))) }
+    ensures { AsksBy migrate_app migrate_names (map string_bytes words.entry.now)
+        (if_taken migrate_app (map string_bytes words.entry.now) migrate_in) result }
 {
     let command = migrate_command(alloc)?;
     match matches_by(command, words) {
@@ -158,10 +145,7 @@ pub fn migrate_taken<'a>(alloc: Global, words: &'a [String]) -> Result<Option<Ta
 }
 
 fn migrate_of<'a>(matches: &ArgMatches<'a>) -> Option<Task<'a>>
-    ensures empty { result ≡ None → WhereGiven matches.now migrate_names
-        (HasEmpty migrate_names (rows_in matches.now)) }
-    ensures is { option_map as_task result ≡ migrate_in (rows_in matches.now) }
-    ensures within { IfSome result (λ q. IsWithin (as_task q)) }
+    ensures { AsksIn matches.now migrate_names (migrate_in (rows_in matches.now)) result }
 {
     let Some(name) = name_of(matches, "name") else {
         return None;
@@ -174,11 +158,8 @@ fn migrate_of<'a>(matches: &ArgMatches<'a>) -> Option<Task<'a>>
 
 /// What the command of `merge` takes.
 pub fn merge_taken<'a>(alloc: Global, words: &'a [String]) -> Result<Option<Task<'a>>, AllocError>
-    ensures refused { result ≡ Ok None →
-        IsRefusedBy merge_app merge_names (map string_bytes words.entry.now) }
-    ensures is { IfOk result (λ r. option_map as_task r ≡
-        if_taken merge_app (map string_bytes words.entry.now) merge_in) }
-    ensures within { IfOk result (λ r. IfSome r (λ q. IsWithin (as_task q))) }
+    ensures { AsksBy merge_app merge_names (map string_bytes words.entry.now)
+        (if_taken merge_app (map string_bytes words.entry.now) merge_in) result }
 {
     let command = merge_command(alloc)?;
     match matches_by(command, words) {
@@ -189,10 +170,7 @@ pub fn merge_taken<'a>(alloc: Global, words: &'a [String]) -> Result<Option<Task
 }
 
 fn merge_of<'a>(matches: &ArgMatches<'a>) -> Option<Task<'a>>
-    ensures empty { result ≡ None → WhereGiven matches.now merge_names
-        (HasEmpty merge_names (rows_in matches.now)) }
-    ensures is { option_map as_task result ≡ merge_in (rows_in matches.now) }
-    ensures within { IfSome result (λ q. IsWithin (as_task q)) }
+    ensures { AsksIn matches.now merge_names (merge_in (rows_in matches.now)) result }
 {
     let Some(first) = name_of(matches, "first") else {
         return None;
