@@ -1,7 +1,7 @@
 //! Runs of each tool over devices in memory. Expected answers are rows worked by hand, but that of the trial, which is
 //! another implementation's.
 use mg_dev::{Fault, Sink, Source, Status, Store};
-use mg_mem::{MemSink, MemSource, MemStore};
+use mg_mem::{MemSink, MemSource, MemStore, SureSink};
 use mg_top::run;
 use std::alloc::{AllocError, Global};
 use std::test::Fail;
@@ -52,32 +52,38 @@ static RUNS: [Run<'static>; 12] = [
     ),
 ];
 
-/// The call of each device that fails.
-struct Failing {
+/// The call of a device that fails, and how a run ends then.
+struct Case {
+    /// The call of the input, and of the output, which keeps one byte of what it is given.
     input: u64,
     output: u64,
-    error: u64,
+    /// How many bytes are printed at most.
+    most: usize,
+    status: Status,
 }
 
 /// No call fails.
-static NONE: Failing = Failing {
+const NONE: Case = Case {
     input: u64::MAX,
     output: u64::MAX,
-    error: u64::MAX,
+    most: usize::MAX,
+    status: Status::Done,
 };
 
-/// The input can't be read, and the error output fails too: the status stays.
-static UNREAD: Failing = Failing {
+/// The input can't be read.
+const UNREAD: Case = Case {
     input: 0,
     output: u64::MAX,
-    error: 0,
+    most: 0,
+    status: Status::Stopped(Fault::ReadFault),
 };
 
 /// The output can't be written.
-static UNWRITTEN: Failing = Failing {
+const UNWRITTEN: Case = Case {
     input: u64::MAX,
     output: 0,
-    error: u64::MAX,
+    most: 1,
+    status: Status::Stopped(Fault::WriteFault),
 };
 
 /// The words of a command line.
@@ -87,27 +93,6 @@ fn words_of(alloc: Global, given: &[&str]) -> Result<Vec<String>, AllocError> {
         words.push(String::from_str(alloc, word)?)?;
     }
     Ok(words)
-}
-
-/// A store with the three documents.
-fn letters(alloc: Global) -> Result<MemStore, AllocError> {
-    let mut store = MemStore::new(alloc);
-    store.put_file("text", LETTERS)?;
-    Ok(store)
-}
-
-/// An input whose bytes come a few at a time.
-fn input_of(alloc: Global, lines: &[u8], fails: u64) -> Result<MemSource, AllocError> {
-    let mut input = MemSource::new(alloc, lines, 5)?;
-    input.fail_at(fails)?;
-    Ok(input)
-}
-
-/// A sink that keeps so many bytes of the put that fails.
-fn sink_of(alloc: Global, fails: u64, keep: u64) -> Result<MemSink, AllocError> {
-    let mut sink = MemSink::new(alloc);
-    sink.fail_at(fails, keep)?;
-    Ok(sink)
 }
 
 /// Carries out the words of a command line.
@@ -123,124 +108,89 @@ fn carry_out<S: Store, I: Source, O: Sink, E: Sink>(
     Ok(run(alloc, &words, store, input, out, err))
 }
 
-/// What a run leaves: how it ended, and whether just the bytes and just the line that were asked for are printed and told.
+/// The same with an error output that never fails. What goes there is the clause `told`, whatever that is.
+fn told<S: Store, I: Source, O: Sink>(
+    alloc: Global,
+    given: &[&str],
+    store: &mut S,
+    input: &mut I,
+    out: &mut O,
+) -> Result<Status, AllocError> {
+    let mut err = SureSink::new(alloc);
+    carry_out(alloc, given, store, input, out, &mut err)
+}
+
+/// How a run ends, and whether just the bytes that were asked for are printed.
 #[derive(Clone, Copy)]
 struct Left {
     status: Status,
     is_printed: bool,
-    is_told: bool,
 }
 
-/// How a row's words over a store end, and whether just these bytes are printed and just this line is told.
+/// How words end over this input and an output of their own, and whether just these bytes are printed.
+fn printed<S: Store, I: Source>(
+    alloc: Global,
+    given: &[&str],
+    store: &mut S,
+    input: &mut I,
+    fails: u64,
+    wanted: &[u8],
+) -> Result<Left, AllocError> {
+    let mut out = MemSink::new(alloc);
+    out.fail_at(fails, 1)?;
+    let status = told(alloc, given, store, input, &mut out)?;
+    let is_printed = out.bytes() == wanted;
+    Ok(Left { status, is_printed })
+}
+
+/// The same of a row's words over its input, whose bytes come a few at a time.
 fn ended<S: Store>(
     alloc: Global,
     store: &mut S,
-    (given, lines): (&[&str], &[u8]),
-    failing: &Failing,
-    (printed, line): (&[u8], &[u8]),
+    row: &Run<'_>,
+    case: &Case,
+    wanted: &[u8],
 ) -> Result<Left, AllocError> {
-    let mut input = input_of(alloc, lines, failing.input)?;
-    let mut out = sink_of(alloc, failing.output, 1)?;
-    let mut err = sink_of(alloc, failing.error, 3)?;
-    let status = carry_out(alloc, given, store, &mut input, &mut out, &mut err)?;
-    Ok(Left {
-        status,
-        is_printed: out.bytes() == printed,
-        is_told: err.bytes() == line,
-    })
+    let mut input = MemSource::new(alloc, row.1, 5)?;
+    input.fail_at(case.input)?;
+    printed(alloc, row.0, store, &mut input, case.output, wanted)
 }
 
-/// Whether a row's words end so, print just these bytes and tell just this line.
+/// Whether a row's words end so, and print as much as they are to. A row with no input reads none, and so does not end so.
 fn ends<S: Store>(
     alloc: Global,
     store: &mut S,
     row: &Run<'_>,
-    failing: &Failing,
-    status: Status,
-    (printed, line): (&[u8], &[u8]),
+    case: &Case,
 ) -> Result<bool, AllocError> {
-    let left = ended(alloc, store, (row.0, row.1), failing, (printed, line))?;
-    Ok(left.status == status && left.is_printed && left.is_told)
+    let wanted = row.2.get(..case.most).unwrap_or(row.2);
+    let left = ended(alloc, store, row, case, wanted)?;
+    let is_unread = case.input == 0 && row.1.is_empty();
+    Ok(is_unread || left.status == case.status && left.is_printed)
 }
 
-/// What fails in a run.
-#[derive(Clone, Copy)]
-enum Fails {
-    Nothing,
-    Output,
-    Input,
-}
-
-/// Whether a row's words end as they are to where this fails. A row with no input reads none.
-fn ends_despite<S: Store>(
-    alloc: Global,
-    store: &mut S,
-    row: &Run<'_>,
-    fails: Fails,
-) -> Result<bool, AllocError> {
-    let first = row.2.get(..1).unwrap_or(b"");
-    let unwritten: &[u8] = b"mg: the output could not be written\n";
-    match fails {
-        Fails::Nothing => ends(alloc, store, row, &NONE, Status::Done, (row.2, b"")),
-        Fails::Output => ends(
-            alloc,
-            store,
-            row,
-            &UNWRITTEN,
-            Status::Stopped(Fault::WriteFault),
-            (first, unwritten),
-        ),
-        Fails::Input => {
-            let status = Status::Stopped(Fault::ReadFault);
-            let ended = ends(alloc, store, row, &UNREAD, status, (b"", b"mg:"))?;
-            Ok(ended || row.1.is_empty())
-        }
-    }
-}
-
-/// The number of the first row that ends otherwise, if there is one.
-fn first_other<S: Store>(
+/// Whether each row ends so.
+fn all_end<S: Store>(
     alloc: Global,
     store: &mut S,
     rows: &[Run<'_>],
-    fails: Fails,
-) -> Result<Option<usize>, AllocError> {
-    for number in 0..rows.len() {
-        if !ends_despite(alloc, store, &rows[number], fails)? {
-            return Ok(Some(number));
+    case: &Case,
+) -> Result<bool, AllocError> {
+    for row in rows {
+        if !ends(alloc, store, row, case)? {
+            return Ok(false);
         }
     }
-    Ok(None)
-}
-
-/// The same of all rows over a store with the three documents.
-fn other(alloc: Global, fails: Fails) -> Result<Option<usize>, AllocError> {
-    let mut store = letters(alloc)?;
-    first_other(alloc, &mut store, &RUNS, fails)
-}
-
-#[test]
-fn each_tool_answers(rt: HostRuntime) -> Result<(), Fail> {
-    assert!(rt; other(rt.alloc(), Fails::Nothing)?.is_none());
-    Ok(())
-}
-
-#[test]
-fn failing_inputs_and_outputs_are_told(rt: HostRuntime) -> Result<(), Fail> {
-    for fails in [Fails::Output, Fails::Input] {
-        assert!(rt; other(rt.alloc(), fails)?.is_none());
-    }
-    Ok(())
+    Ok(true)
 }
 
 /// How often a row's words stop for the store, each call of which fails in turn, until they end well. None where
 /// they end in another way.
 fn failures(alloc: Global, store: &mut MemStore, row: &Run<'_>) -> Result<Option<u64>, AllocError> {
-    let line: &[u8] = b"mg: the store failed\n";
     for call in 0..1000u64 {
         store.fail_at(store.calls().saturating_add(call), 0)?;
-        let left = ended(alloc, store, (row.0, row.1), &NONE, (row.2, line))?;
-        if left.status != Status::Stopped(Fault::StoreFault) || !left.is_told {
+        let left = ended(alloc, store, row, &NONE, row.2)?;
+        if left.status != Status::Stopped(Fault::StoreFault) {
             let is_done = left.status == Status::Done && left.is_printed;
             return Ok(if is_done { Some(call) } else { None });
         }
@@ -248,31 +198,56 @@ fn failures(alloc: Global, store: &mut MemStore, row: &Run<'_>) -> Result<Option
     Ok(None)
 }
 
-/// The number of the first row that does not stop for two calls of the store at least, if there is one. The last row, a
-/// trial, goes on in a store of its own.
-fn first_unstopped(
-    alloc: Global,
-    store: &mut MemStore,
-    rows: &[Run<'_>],
-) -> Result<Option<usize>, AllocError> {
+/// Whether each row stops for two calls of the store at least. The last row, a trial, goes on in a store of its own.
+fn all_stop(alloc: Global, store: &mut MemStore, rows: &[Run<'_>]) -> Result<bool, AllocError> {
     for number in 0..rows.len() {
         let least = if number + 1 < rows.len() { 2 } else { 0 };
         match failures(alloc, store, &rows[number])? {
             Some(calls) if calls >= least => {}
-            _ => return Ok(Some(number)),
+            _ => return Ok(false),
         }
     }
-    Ok(None)
+    Ok(true)
 }
 
-/// The same of all rows over a store with the three documents.
-fn unstopped(alloc: Global) -> Result<Option<usize>, AllocError> {
-    let mut store = letters(alloc)?;
-    first_unstopped(alloc, &mut store, &RUNS)
+/// What is asked of all rows.
+#[derive(Clone, Copy)]
+enum Asked {
+    /// That they end well.
+    Answers,
+    /// That a failing input or output is told.
+    Streams,
+    /// That each failing call of the store is told.
+    Store,
+}
+
+/// Whether it is so over this store.
+fn are_so_over(alloc: Global, store: &mut MemStore, asked: Asked) -> Result<bool, AllocError> {
+    match asked {
+        Asked::Answers => all_end(alloc, store, &RUNS, &NONE),
+        Asked::Streams => Ok(
+            all_end(alloc, store, &RUNS, &UNWRITTEN)? && all_end(alloc, store, &RUNS, &UNREAD)?,
+        ),
+        Asked::Store => all_stop(alloc, store, &RUNS),
+    }
+}
+
+/// The same over a store with the three documents.
+fn are_so(alloc: Global, asked: Asked) -> Result<bool, AllocError> {
+    let mut store = MemStore::new(alloc);
+    store.put_file("text", LETTERS)?;
+    are_so_over(alloc, &mut store, asked)
 }
 
 #[test]
-fn each_failing_call_of_a_store_is_told(rt: HostRuntime) -> Result<(), Fail> {
-    assert!(rt; unstopped(rt.alloc())?.is_none());
+fn each_tool_answers(rt: HostRuntime) -> Result<(), Fail> {
+    assert!(rt; are_so(rt.alloc(), Asked::Answers)?);
+    Ok(())
+}
+
+#[test]
+fn each_failing_call_is_told(rt: HostRuntime) -> Result<(), Fail> {
+    let streams = are_so(rt.alloc(), Asked::Streams)?;
+    assert!(rt; streams && are_so(rt.alloc(), Asked::Store)?);
     Ok(())
 }

@@ -2,9 +2,8 @@
 ghost use Rattle.std.specs.Prelude.{◌≡◌, Some};
 ghost use Rattle.mg_dev.specs.Files.{no_files};
 
-use mg_decode::decode;
 use mg_dev::{Fault, Part, Store};
-use mg_mem::{MemSink, MemStore, SureSink};
+use mg_mem::{MemStore, SureSink};
 use mg_top::trial;
 use std::alloc::{AllocError, Global};
 use std::test::Fail;
@@ -13,20 +12,13 @@ use std::test::Fail;
 static FIVE: &[u8] =
     b"documents 5\ncollection 1019 bytes\nterms 130\noccurrences 153\nreplies 192 bytes\ndecode same\nqueries 40 same\n";
 
-/// Whether the trial of seed 7 and five documents prints its lines.
-fn is_tried<S: Store>(alloc: Global, store: &mut S) -> bool
+/// How the trial of seed 7 and five documents ends, and whether it prints just this.
+fn ended<S: Store>(alloc: Global, store: &mut S, printed: &[u8]) -> (Result<(), Fault>, bool)
     requires { S.files store.old ≡ Some no_files }
 {
     let mut out = SureSink::new(alloc);
-    let tried = trial(alloc, store, 7, 5, &mut out);
-    tried.is_ok() && out.bytes() == FIVE
-}
-
-/// Whether the set is decoded to the 1019 bytes of its collection.
-fn is_decoded(alloc: Global, store: &mut MemStore) -> bool {
-    let mut decoded = SureSink::new(alloc);
-    let status = decode(alloc, store, "set", &mut decoded);
-    status.is_ok() && decoded.bytes().len() == 1019 && store.file("text") == Some(decoded.bytes())
+    let status = trial(alloc, store, 7, 5, &mut out);
+    (status, out.bytes() == printed)
 }
 
 /// Whether each part that a session asks was read, and the one page of the collection twice: the build reads it, and the
@@ -39,45 +31,39 @@ fn is_asked(store: &MemStore) -> bool {
     asked
 }
 
-/// Whether the trial prints its lines, asks what it built, and leaves a set of its collection.
-fn five_seen(alloc: Global) -> [bool; 3] {
+/// Whether the set was built in the pool that a build has where none is asked for: its head tells how many occurrences go into
+/// a run.
+fn has_usual_pool(store: &MemStore) -> bool {
+    match store.file("set.head") {
+        Some(head) => head.get(24..28) == Some(b"\0\x15UU".as_slice()),
+        None => false,
+    }
+}
+
+/// Whether the trial prints its lines, and asks what it built in the usual pool.
+fn is_tried(alloc: Global) -> bool {
     let mut store = MemStore::new(alloc);
-    let printed = is_tried(alloc, &mut store);
-    let asked = is_asked(&store);
-    [printed, asked, is_decoded(alloc, &mut store)]
+    let (status, is_printed) = ended(alloc, &mut store, FIVE);
+    status.is_ok() && is_printed && is_asked(&store) && has_usual_pool(&store)
 }
 
 #[test]
 fn a_trial_asks_what_it_built(rt: HostRuntime) {
-    assert!(rt; five_seen(rt.alloc()) == [true, true, true]);
+    assert!(rt; is_tried(rt.alloc()));
 }
 
-/// How a trial ends whose output fails at a put, and how much it printed.
-fn ended<S: Store>(
-    alloc: Global,
-    store: &mut S,
-    put: u64,
-) -> Result<(Result<(), Fault>, usize), AllocError>
-    requires { S.files store.old ≡ Some no_files }
-{
-    let mut out = MemSink::new(alloc);
-    out.fail_at(put, 0)?;
-    let status = trial(alloc, store, 7, 5, &mut out);
-    Ok((status, out.bytes().len()))
-}
-
-/// The same where its store fails at a call, too.
-fn tried(alloc: Global, call: u64, put: u64) -> Result<(Result<(), Fault>, usize), AllocError> {
+/// Whether the trial tells that this call of its store failed, and prints nothing.
+fn is_failure_told(alloc: Global, call: u64) -> Result<bool, AllocError> {
     let mut store = MemStore::new(alloc);
     store.fail_at(call, 0)?;
-    ended(alloc, &mut store, put)
+    let (status, is_silent) = ended(alloc, &mut store, b"");
+    Ok(matches!(status, Err(Fault::StoreFault)) && is_silent)
 }
 
 #[test]
-fn a_trial_tells_what_failed(rt: HostRuntime) -> Result<(), Fail> {
+fn a_trial_tells_that_its_store_failed(rt: HostRuntime) -> Result<(), Fail> {
     for call in [0, 1, 20, 60] {
-        assert!(rt; tried(rt.alloc(), call, 1000)? == (Err(Fault::StoreFault), 0));
+        assert!(rt; is_failure_told(rt.alloc(), call)?);
     }
-    assert!(rt; tried(rt.alloc(), 1_000_000, 1)? == (Err(Fault::WriteFault), 9));
     Ok(())
 }
