@@ -18,8 +18,8 @@ pub mod WildSearchLaws
 pub mod WildServes
 pub mod DocumentSets
 pub mod WildMarks
-pub mod Replying
 pub mod Decided
+pub mod Replying
 pub mod Queried
 pub mod Phrased
 pub mod Matched

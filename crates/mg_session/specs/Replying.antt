@@ -14,12 +14,15 @@ use Rattle.mg_defs.specs.Patterns.{Pattern}
 use Rattle.mg_defs.specs.QueryTerms.{query_terms}
 use Rattle.mg_defs.specs.ShownAnswers.{Shown, ranking, satisfying}
 use Rattle.mg_defs.specs.Sat.{Query}
+use Rattle.mg_defs.specs.declared.session.Mode.TheVariants as mode
 use Rattle.mg_defs.specs.declared.session.Settings.{Settings}
 use Rattle.mg_bool.specs.Matches.{Matching, MatchesOver}
 use Rattle.mg_bool.specs.Places.{AreInfos}
 use Rattle.mg_layout.specs.declared.term_info.TermInfo.{TermInfo}
 use Rattle.mg_query.specs.QueryOf.{query_of}
 use Rattle.mg_session.specs.Answering.{Answered, AnswersFor, Replied}
+use Rattle.mg_session.specs.Calls.{StepsOpened}
+use Rattle.mg_session.specs.Decided.{BooleanRow, PrintsLine, PrintsPhrase, PrintsTold, PrintsWords, RanksTold}
 use Rattle.mg_session.specs.PhraseAnswers.{DocumentSearched, PhraseAnswered, PhraseReplied}
 use Rattle.mg_session.specs.Searching.{Opened}
 use Rattle.mg_session.specs.Sessions.{ForOpened, ForText}
@@ -120,6 +123,59 @@ RepliesToPhrase of_store of_out store store_now out out_now result opened line =
     ForOpened (of_store.files store) opened (λ code collection.
     PhraseReplied code collection line (of_out.written out) (of_out.written out_now) (of_store.reads store)
     (of_store.reads store_now) result)
+
+-- ---- over the open parts: what is answered where they stand, what is printed whatever the lists have, and what is done
+
+-- A question was answered over the open parts.
+pub record AnsweredOver (IsAnswered IsPrinted IsStepped : Type 0) : Type 0 where
+  -- where the parts are those of a collection, this is answered of it
+  pub answer : IsAnswered
+  -- whatever the lists have, this is printed
+  pub printed : IsPrinted
+  -- and this is done to the parts and to the devices
+  pub stepped : IsStepped
+
+-- a query
+abbrev pub AsksQuery : {X Y : Type 0} → stores.Ghosts X → sinks.Ghosts Y → X → X → Y → Y →
+    Result (Unit {0}) ShowErr → Opened → Opened → Settings → Query → Type 0
+AsksQuery of_store of_out store store_now out out_now result opened opened_now now q = AnsweredOver
+    (AnswersOpened of_store of_out store store_now out out_now result opened now (λ collection. satisfying collection q)
+    (λ collection. boolean_bound collection q))
+    (PrintsTold (of_out.written out) (of_out.written out_now) result (of_store.files store) opened q (BooleanRow now))
+    (StepsOpened of_store of_out store store_now out out_now result opened opened_now now.mode)
+
+-- distinct terms, which are ranked
+abbrev pub AsksTerms : {X Y : Type 0} → stores.Ghosts X → sinks.Ghosts Y → X → X → Y → Y →
+    Result (Unit {0}) ShowErr → Opened → Opened → Settings → List (List ℕ) → Type 0
+AsksTerms of_store of_out store store_now out out_now result opened opened_now now ts = AnsweredOver
+    (AnswersOpened of_store of_out store store_now out out_now result opened now (λ collection. ranking collection ts)
+    (λ collection. ranked_bound collection ts))
+    (RanksTold (of_out.written out) (of_out.written out_now) result (of_store.files store) opened ts)
+    (StepsOpened of_store of_out store store_now out out_now result opened opened_now now.mode)
+
+-- a line, ranked or Boolean
+abbrev pub AsksLine : {X Y : Type 0} → stores.Ghosts X → sinks.Ghosts Y → X → X → Y → Y →
+    Result (Unit {0}) ShowErr → Opened → Opened → Bool → Settings → List ℕ → Type 0
+AsksLine of_store of_out store store_now out out_now result opened opened_now is_ranked now line = AnsweredOver
+    (RepliesTo of_store of_out store store_now out out_now result opened is_ranked now line)
+    (PrintsLine (of_out.written out) (of_out.written out_now) result (of_store.files store) opened is_ranked now line)
+    (StepsOpened of_store of_out store store_now out out_now result opened opened_now now.mode)
+
+-- a phrase of these words
+abbrev pub AsksWords : {X Y : Type 0} → stores.Ghosts X → sinks.Ghosts Y → X → X → Y → Y →
+    Result (Unit {0}) ShowErr → Opened → Opened → List (List ℕ) → Type 0
+AsksWords of_store of_out store store_now out out_now result opened opened_now words = AnsweredOver
+    (AnswersWords of_store of_out store store_now out out_now result opened words)
+    (PrintsWords (of_out.written out) (of_out.written out_now) result (of_store.files store) opened words)
+    (StepsOpened of_store of_out store store_now out out_now result opened opened_now mode.Text)
+
+-- a line that is a phrase
+abbrev pub AsksPhrase : {X Y : Type 0} → stores.Ghosts X → sinks.Ghosts Y → X → X → Y → Y →
+    Result (Unit {0}) ShowErr → Opened → Opened → List ℕ → Type 0
+AsksPhrase of_store of_out store store_now out out_now result opened opened_now line = AnsweredOver
+    (RepliesToPhrase of_store of_out store store_now out out_now result opened line)
+    (PrintsPhrase (of_out.written out) (of_out.written out_now) result (of_store.files store) opened line)
+    (StepsOpened of_store of_out store store_now out out_now result opened opened_now mode.Text)
 
 -- ---- patterns
 

@@ -1,16 +1,15 @@
 //! An answerer of phrases over the open parts of a set.
 ghost use Rattle.std.specs.Prelude.{◌≡◌, ◌≤◌, ◌^◌, Some, length, IfOk};
 ghost use Rattle.mg_defs.specs.Texts.{count as count_text};
-ghost use Rattle.mg_defs.specs.declared.session.Mode.TheVariants as mode;
 ghost use Rattle.mg_dev.specs.Moments.{sink_at, store_at};
 ghost use Rattle.mg_dev.specs.Streams.{AfterPut};
 ghost use Rattle.mg_query.specs.AllOf.{IsAllOf};
-ghost use Rattle.mg_session.specs.Calls.{StepsOpened, WritesAlone};
-ghost use Rattle.mg_session.specs.Decided.{PrintsPhrase, PrintsWords};
+ghost use Rattle.mg_session.specs.Calls.{WritesAlone};
+ghost use Rattle.mg_session.specs.Decided.{PrintsPhrase};
 ghost use Rattle.mg_session.specs.Opening.{KeptByQueries, SetOpened};
 ghost use Rattle.mg_session.specs.PhraseSearching.{PhrasesAsked, PhrasesBy};
 ghost use Rattle.mg_session.specs.PhraseSearchLaws.{phrases_later, phrases_more, phrases_none, phrases_stop};
-ghost use Rattle.mg_session.specs.Replying.{AnswersWords, RepliesToPhrase};
+ghost use Rattle.mg_session.specs.Replying.{AsksPhrase, AsksWords};
 ghost use Rattle.mg_session.specs.Served.{LineAnswered};
 ghost use Rattle.mg_session.specs.Searching.{Fits, MayStop, OpenedOver, SearchFits, Searching, opened_at, state_of};
 
@@ -98,12 +97,8 @@ impl<'a, S: Store> PhraseSearcher<'a, S> {
     ) -> Result<(), ShowErr>
         requires short { length line.now ≤ 1024 }
         requires fits { SearchFits (S.files store.old) self.old }
-        ensures replied { RepliesToPhrase S.Store O.Sink store.old store.new out.old out.new result
-            self.old line.now }
-        ensures printed { PrintsPhrase (O.written out.old) (O.written out.new) result
-            (S.files store.old) self.old line.now }
-        ensures stepped { StepsOpened S.Store O.Sink store.old store.new out.old out.new result
-            self.old self.new mode.Text }
+        ensures { AsksPhrase S.Store O.Sink store.old store.new out.old out.new result
+            self.old self.new line.now }
     {
         match parse_phrase(self.lists.alloc, line) {
             Ok(phrase) => self.answer_parsed(store, &phrase, out),
@@ -120,12 +115,8 @@ impl<'a, S: Store> PhraseSearcher<'a, S> {
     ) -> Result<(), ShowErr>
         requires few { length phrase.now ≤ 64 }
         requires fits { SearchFits (S.files store.old) self.old }
-        ensures answer { AnswersWords S.Store O.Sink store.old store.new out.old out.new result
-            self.old phrase.now }
-        ensures printed { PrintsWords (O.written out.old) (O.written out.new) result
-            (S.files store.old) self.old phrase.now }
-        ensures stepped { StepsOpened S.Store O.Sink store.old store.new out.old out.new result
-            self.old self.new mode.Text }
+        ensures { AsksWords S.Store O.Sink store.old store.new out.old out.new result
+            self.old self.new phrase.now }
     {
         match Query::all_of(self.lists.alloc, phrase) {
             Ok(joined) => self.answer_joined(store, phrase, joined, out),
@@ -144,12 +135,8 @@ impl<'a, S: Store> PhraseSearcher<'a, S> {
         requires few { length phrase.now ≤ 64 }
         requires joined { IsAllOf phrase.now joined }
         requires fits { SearchFits (S.files store.old) self.old }
-        ensures answer { AnswersWords S.Store O.Sink store.old store.new out.old out.new result
-            self.old phrase.now }
-        ensures printed { PrintsWords (O.written out.old) (O.written out.new) result
-            (S.files store.old) self.old phrase.now }
-        ensures stepped { StepsOpened S.Store O.Sink store.old store.new out.old out.new result
-            self.old self.new mode.Text }
+        ensures { AsksWords S.Store O.Sink store.old store.new out.old out.new result
+            self.old self.new phrase.now }
     {
         match joined {
             Some(query) => self.answer_words(store, phrase, &query, out),
@@ -169,12 +156,8 @@ impl<'a, S: Store> PhraseSearcher<'a, S> {
         requires few { length phrase.now ≤ 64 }
         requires joined { IsAllOf phrase.now (Some query.now) }
         requires fits { SearchFits (S.files store.old) self.old }
-        ensures answer { AnswersWords S.Store O.Sink store.old store.new out.old out.new result
-            self.old phrase.now }
-        ensures printed { PrintsWords (O.written out.old) (O.written out.new) result
-            (S.files store.old) self.old phrase.now }
-        ensures stepped { StepsOpened S.Store O.Sink store.old store.new out.old out.new result
-            self.old self.new mode.Text }
+        ensures { AsksWords S.Store O.Sink store.old store.new out.old out.new result
+            self.old self.new phrase.now }
     {
         let infos = match find_terms(self.lists.alloc, store, &mut self.lex, phrase.as_slice()) {
             Ok(infos) => infos,

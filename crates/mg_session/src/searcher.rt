@@ -2,15 +2,12 @@
 ghost use Rattle.std.specs.Prelude.{◌≡◌, ◌≤◌, ◌^◌, false, true, length, IfOk};
 ghost use Rattle.std.specs.List.{IsDistinct};
 ghost use Rattle.std.specs.Str.{bytes_eq};
-ghost use Rattle.mg_defs.specs.PageBounds.{boolean_bound, ranked_bound};
 ghost use Rattle.mg_defs.specs.QueryTerms.{query_terms};
-ghost use Rattle.mg_defs.specs.ShownAnswers.{ranking, satisfying};
 ghost use Rattle.mg_dev.specs.Moments.{sink_at, store_at};
 ghost use Rattle.mg_query.specs.QueryOf.{query_of};
-ghost use Rattle.mg_session.specs.Calls.{StepsOpened};
-ghost use Rattle.mg_session.specs.Decided.{BooleanRow, PrintsLine, PrintsTold, RanksTold};
+ghost use Rattle.mg_session.specs.Decided.{PrintsLine};
 ghost use Rattle.mg_session.specs.Opening.{KeptByQueries, SetOpened};
-ghost use Rattle.mg_session.specs.Replying.{AnswersOpened, RepliesTo};
+ghost use Rattle.mg_session.specs.Replying.{AsksLine, AsksQuery, AsksTerms};
 ghost use Rattle.mg_session.specs.Served.{LineAnswered};
 ghost use Rattle.mg_session.specs.Searching.{AnswersBy, Asked, Fits, MayStop, OpenedOver, SearchFits, Searching, opened_at, state_of};
 ghost use Rattle.mg_session.specs.SearchLaws.{answers_later, asked_more, asked_none, stops_later};
@@ -95,12 +92,8 @@ impl<'a, S: Store> Searcher<'a, S> {
     ) -> Result<(), ShowErr>
         requires short { length line.now ≤ 1024 }
         requires fits { SearchFits (S.files store.old) self.old }
-        ensures replied { RepliesTo S.Store O.Sink store.old store.new out.old out.new result
-            self.old false now.now line.now }
-        ensures printed { PrintsLine (O.written out.old) (O.written out.new) result
-            (S.files store.old) self.old false now.now line.now }
-        ensures stepped { StepsOpened S.Store O.Sink store.old store.new out.old out.new result
-            self.old self.new now.now.mode }
+        ensures { AsksLine S.Store O.Sink store.old store.new out.old out.new result
+            self.old self.new false now.now line.now }
     {
         match parse_boolean(self.lists.alloc, line) {
             Ok(query) => self.answer_parsed(store, &query, now, out),
@@ -117,14 +110,8 @@ impl<'a, S: Store> Searcher<'a, S> {
         out: &mut O,
     ) -> Result<(), ShowErr>
         requires fits { SearchFits (S.files store.old) self.old }
-        ensures answer { AnswersOpened S.Store O.Sink store.old store.new out.old out.new result
-            self.old now.now
-            (λ collection. satisfying collection (query_of query.now))
-            (λ collection. boolean_bound collection (query_of query.now)) }
-        ensures printed { PrintsTold (O.written out.old) (O.written out.new) result
-            (S.files store.old) self.old (query_of query.now) (BooleanRow now.now) }
-        ensures stepped { StepsOpened S.Store O.Sink store.old store.new out.old out.new result
-            self.old self.new now.now.mode }
+        ensures { AsksQuery S.Store O.Sink store.old store.new out.old out.new result
+            self.old self.new now.now (query_of query.now) }
     {
         match query.terms(self.lists.alloc) {
             Ok(terms) => self.answer_known(store, query, &terms, now, out),
@@ -143,14 +130,8 @@ impl<'a, S: Store> Searcher<'a, S> {
     ) -> Result<(), ShowErr>
         requires terms { terms.now ≡ query_terms (query_of query.now) }
         requires fits { SearchFits (S.files store.old) self.old }
-        ensures answer { AnswersOpened S.Store O.Sink store.old store.new out.old out.new result
-            self.old now.now
-            (λ collection. satisfying collection (query_of query.now))
-            (λ collection. boolean_bound collection (query_of query.now)) }
-        ensures printed { PrintsTold (O.written out.old) (O.written out.new) result
-            (S.files store.old) self.old (query_of query.now) (BooleanRow now.now) }
-        ensures stepped { StepsOpened S.Store O.Sink store.old store.new out.old out.new result
-            self.old self.new now.now.mode }
+        ensures { AsksQuery S.Store O.Sink store.old store.new out.old out.new result
+            self.old self.new now.now (query_of query.now) }
     {
         let infos = match find_terms(self.lists.alloc, store, &mut self.lex, terms.as_slice()) {
             Ok(infos) => infos,
@@ -173,12 +154,8 @@ impl<'a, S: Store> Searcher<'a, S> {
     ) -> Result<(), ShowErr>
         requires short { length line.now ≤ 1024 }
         requires fits { SearchFits (S.files store.old) self.old }
-        ensures replied { RepliesTo S.Store O.Sink store.old store.new out.old out.new result
-            self.old true now.now line.now }
-        ensures printed { PrintsLine (O.written out.old) (O.written out.new) result
-            (S.files store.old) self.old true now.now line.now }
-        ensures stepped { StepsOpened S.Store O.Sink store.old store.new out.old out.new result
-            self.old self.new now.now.mode }
+        ensures { AsksLine S.Store O.Sink store.old store.new out.old out.new result
+            self.old self.new true now.now line.now }
     {
         match parse_ranked(self.lists.alloc, line) {
             Ok(terms) => self.answer_distinct(store, &terms, now, out),
@@ -197,14 +174,8 @@ impl<'a, S: Store> Searcher<'a, S> {
         requires few { length terms.now ≤ 64 }
         requires apart { IsDistinct bytes_eq terms.now }
         requires fits { SearchFits (S.files store.old) self.old }
-        ensures answer { AnswersOpened S.Store O.Sink store.old store.new out.old out.new result
-            self.old now.now
-            (λ collection. ranking collection terms.now)
-            (λ collection. ranked_bound collection terms.now) }
-        ensures printed { RanksTold (O.written out.old) (O.written out.new) result
-            (S.files store.old) self.old terms.now }
-        ensures stepped { StepsOpened S.Store O.Sink store.old store.new out.old out.new result
-            self.old self.new now.now.mode }
+        ensures { AsksTerms S.Store O.Sink store.old store.new out.old out.new result
+            self.old self.new now.now terms.now }
     {
         let infos = match find_terms(self.lists.alloc, store, &mut self.lex, terms.as_slice()) {
             Ok(infos) => infos,
@@ -223,12 +194,8 @@ impl<'a, S: Store> Searcher<'a, S> {
     ) -> Result<(), ShowErr>
         requires short { length line.now ≤ 1024 }
         requires fits { SearchFits (S.files store.old) self.old }
-        ensures replied { RepliesTo S.Store O.Sink store.old store.new out.old out.new result
-            self.old now.now.ranked now.now line.now }
-        ensures printed { PrintsLine (O.written out.old) (O.written out.new) result
-            (S.files store.old) self.old now.now.ranked now.now line.now }
-        ensures stepped { StepsOpened S.Store O.Sink store.old store.new out.old out.new result
-            self.old self.new now.now.mode }
+        ensures { AsksLine S.Store O.Sink store.old store.new out.old out.new result
+            self.old self.new now.now.ranked now.now line.now }
     {
         if now.ranked {
             self.answer_ranked(store, line, now, out)

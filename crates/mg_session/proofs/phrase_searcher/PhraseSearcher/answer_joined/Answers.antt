@@ -8,21 +8,14 @@ use Rattle.mg_session.proofs.phrase_searcher.PhraseSearcher.answer_joined.Goals 
 pub answer_words-requires-clause-joined : goal.answer_words-requires-clause-joined
 answer_words-requires-clause-joined g c = subst (IsAllOf c.args.phrase.now) c.in-Some.is c.requires.joined
 
-pub returns-in-None-clause-answer : goal.returns-in-None-clause-answer
-returns-in-None-clause-answer g c = λ code collection over.
-    none_counted code collection c.args.phrase.now _ _ _ _ (subst (IsAllOf c.args.phrase.now) c.in-None.is c.requires.joined)
-    c.answer_none.ensures.content c.answer_none.ensures.alone.sound
+pub returns-in-None : goal.returns-in-None
+returns-in-None g c = record {
+  answer = λ code collection over.
+      none_counted code collection c.args.phrase.now _ _ _ _ (subst (IsAllOf c.args.phrase.now) c.in-None.is c.requires.joined)
+      c.answer_none.ensures.content c.answer_none.ensures.alone.sound;
+  printed = λ t us words. no_words c.args.phrase.now t us (subst (IsAllOf c.args.phrase.now) c.in-None.is c.requires.joined) words;
+  stepped = opened_unread c.requires.fits c.answer_none.ensures.alone;
+}
 
-pub returns-in-None-clause-stepped : goal.returns-in-None-clause-stepped
-returns-in-None-clause-stepped g c = opened_unread c.requires.fits c.answer_none.ensures.alone
-
-pub returns-in-Some-clause-stepped : goal.returns-in-Some-clause-stepped
-returns-in-Some-clause-stepped g c = c.answer_words.ensures.stepped
-
--- ---- what is printed, whatever the lists have
-
-pub returns-in-None-clause-printed : goal.returns-in-None-clause-printed
-returns-in-None-clause-printed g c = λ t us words. no_words c.args.phrase.now t us (subst (IsAllOf c.args.phrase.now) c.in-None.is c.requires.joined) words
-
-pub returns-in-Some-clause-printed : goal.returns-in-Some-clause-printed
-returns-in-Some-clause-printed g c = c.answer_words.ensures.printed
+pub returns-in-Some : goal.returns-in-Some
+returns-in-Some g c = c.answer_words.ensures

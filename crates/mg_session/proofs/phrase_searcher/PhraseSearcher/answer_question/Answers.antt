@@ -6,30 +6,24 @@ use Rattle.mg_session.proofs.CallLaws.{line_told, opened_unread}
 use Rattle.mg_session.proofs.PhraseReplyLaws.{line_answered, line_refused, line_words}
 use Rattle.mg_session.proofs.phrase_searcher.PhraseSearcher.answer_question.Goals as goal
 
-pub returns-in-Err-clause-replied : goal.returns-in-Err-clause-replied
-returns-in-Err-clause-replied g c = λ code collection over.
-    line_refused c.in-Err.why code collection _ _ _ _ _ _ _ c.in-Err.ensures.refused c.answer_refused.ensures.content c.answer_refused.ensures.cause
-
-pub returns-in-Err-clause-stepped : goal.returns-in-Err-clause-stepped
-returns-in-Err-clause-stepped g c = opened_unread c.requires.fits (line_told _ c.answer_refused.ensures.later c.answer_refused.ensures.lacks c.answer_refused.ensures.cause)
+pub returns-in-Err : goal.returns-in-Err
+returns-in-Err g c = record {
+  answer = λ code collection over.
+      line_refused c.in-Err.why code collection _ _ _ _ _ _ _ c.in-Err.ensures.refused c.answer_refused.ensures.content c.answer_refused.ensures.cause;
+  printed = λ ts is told t us words version collection limits stands.
+      refused_printed _ _ _ (refusal_of c.in-Err.why) ts c.answer_refused.result c.in-Err.ensures.refused c.answer_refused.ensures.content is told;
+  stepped = opened_unread c.requires.fits (line_told _ c.answer_refused.ensures.later c.answer_refused.ensures.lacks c.answer_refused.ensures.cause);
+}
 
 pub answer_parsed-requires-clause-few : goal.answer_parsed-requires-clause-few
 answer_parsed-requires-clause-few g c = line_words c.args.line.now c.in-Ok.phrase c.in-Ok.ensures.reads
 
-pub returns-in-Ok-clause-replied : goal.returns-in-Ok-clause-replied
-returns-in-Ok-clause-replied g c = λ code collection over.
-    line_answered code collection _ c.in-Ok.phrase _ _ _ _ _ _ c.in-Ok.ensures.reads (c.answer_parsed.ensures.answer code collection over) refl refl
-
-pub returns-in-Ok-clause-stepped : goal.returns-in-Ok-clause-stepped
-returns-in-Ok-clause-stepped g c = c.answer_parsed.ensures.stepped
-
--- ---- what is printed, whatever the lists have
-
-pub returns-in-Err-clause-printed : goal.returns-in-Err-clause-printed
-returns-in-Err-clause-printed g c = λ ts is told t us words version collection limits stands.
-    refused_printed _ _ _ (refusal_of c.in-Err.why) ts c.answer_refused.result c.in-Err.ensures.refused c.answer_refused.ensures.content is told
-
-pub returns-in-Ok-clause-printed : goal.returns-in-Ok-clause-printed
-returns-in-Ok-clause-printed g c = λ ts is told.
-    subst (λ xs. PrintsWords (g.O.Sink.written c.args.out.now) (g.O.Sink.written c.answer_parsed.new.out) c.answer_parsed.result
-    (g.S.Store.files c.args.store.now) c.args.self.now xs) (read_same c.in-Ok.ensures.reads is) c.answer_parsed.ensures.printed
+pub returns-in-Ok : goal.returns-in-Ok
+returns-in-Ok g c = record {
+  answer = λ code collection over.
+      line_answered code collection _ c.in-Ok.phrase _ _ _ _ _ _ c.in-Ok.ensures.reads (c.answer_parsed.ensures.answer code collection over) refl refl;
+  printed = λ ts is told.
+      subst (λ xs. PrintsWords (g.O.Sink.written c.args.out.now) (g.O.Sink.written c.answer_parsed.new.out) c.answer_parsed.result
+      (g.S.Store.files c.args.store.now) c.args.self.now xs) (read_same c.in-Ok.ensures.reads is) c.answer_parsed.ensures.printed;
+  stepped = c.answer_parsed.ensures.stepped;
+}

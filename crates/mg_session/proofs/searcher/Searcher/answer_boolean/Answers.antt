@@ -7,27 +7,21 @@ use Rattle.mg_session.proofs.CallLaws.{line_told, opened_unread}
 use Rattle.mg_session.proofs.ReplyLaws.{boolean_answered, boolean_refused}
 use Rattle.mg_session.proofs.searcher.Searcher.answer_boolean.Goals as goal
 
-pub returns-in-Err-clause-replied : goal.returns-in-Err-clause-replied
-returns-in-Err-clause-replied g c = λ code collection over.
-    boolean_refused c.in-Err.why code collection _ _ c.in-Err.ensures.refused c.answer_refused.ensures.content c.answer_refused.ensures.cause
+pub returns-in-Err : goal.returns-in-Err
+returns-in-Err g c = record {
+  answer = λ code collection over.
+      boolean_refused c.in-Err.why code collection _ _ c.in-Err.ensures.refused c.answer_refused.ensures.content c.answer_refused.ensures.cause;
+  printed = λ q is told version collection limits stands.
+      refused_printed _ _ _ (refusal_of c.in-Err.why) q c.answer_refused.result c.in-Err.ensures.refused c.answer_refused.ensures.content is told;
+  stepped = opened_unread c.requires.fits (line_told _ c.answer_refused.ensures.later c.answer_refused.ensures.lacks c.answer_refused.ensures.cause);
+}
 
-pub returns-in-Err-clause-stepped : goal.returns-in-Err-clause-stepped
-returns-in-Err-clause-stepped g c = opened_unread c.requires.fits (line_told _ c.answer_refused.ensures.later c.answer_refused.ensures.lacks c.answer_refused.ensures.cause)
-
-pub returns-in-Ok-clause-replied : goal.returns-in-Ok-clause-replied
-returns-in-Ok-clause-replied g c = λ code collection over.
-    boolean_answered code collection (query_of c.in-Ok.query) c.in-Ok.ensures.reads (c.answer_parsed.ensures.answer code collection over) refl refl
-
-pub returns-in-Ok-clause-stepped : goal.returns-in-Ok-clause-stepped
-returns-in-Ok-clause-stepped g c = c.answer_parsed.ensures.stepped
-
--- ---- what is printed, whatever the lists have
-
-pub returns-in-Err-clause-printed : goal.returns-in-Err-clause-printed
-returns-in-Err-clause-printed g c = λ q is told version collection limits stands.
-    refused_printed _ _ _ (refusal_of c.in-Err.why) q c.answer_refused.result c.in-Err.ensures.refused c.answer_refused.ensures.content is told
-
-pub returns-in-Ok-clause-printed : goal.returns-in-Ok-clause-printed
-returns-in-Ok-clause-printed g c = λ q is told.
-    subst (λ a. PrintsTold (g.O.Sink.written c.args.out.now) (g.O.Sink.written c.answer_parsed.new.out) c.answer_parsed.result
-    (g.S.Store.files c.args.store.now) c.args.self.now a (BooleanRow c.args.now.now)) (read_same c.in-Ok.ensures.reads is) c.answer_parsed.ensures.printed
+pub returns-in-Ok : goal.returns-in-Ok
+returns-in-Ok g c = record {
+  answer = λ code collection over.
+      boolean_answered code collection (query_of c.in-Ok.query) c.in-Ok.ensures.reads (c.answer_parsed.ensures.answer code collection over) refl refl;
+  printed = λ q is told.
+      subst (λ a. PrintsTold (g.O.Sink.written c.args.out.now) (g.O.Sink.written c.answer_parsed.new.out) c.answer_parsed.result
+      (g.S.Store.files c.args.store.now) c.args.self.now a (BooleanRow c.args.now.now)) (read_same c.in-Ok.ensures.reads is) c.answer_parsed.ensures.printed;
+  stepped = c.answer_parsed.ensures.stepped;
+}

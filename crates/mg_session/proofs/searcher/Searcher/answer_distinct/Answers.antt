@@ -10,48 +10,40 @@ use Rattle.mg_session.proofs.ReplyLaws.{answered_behind, answers_for, nothing_an
 use Rattle.mg_session.proofs.StepLaws.{lex_post, lex_text}
 use Rattle.mg_session.proofs.searcher.Searcher.answer_distinct.Goals as goal
 
-pub returns-in-Err-clause-answer : goal.returns-in-Err-clause-answer
-returns-in-Err-clause-answer g c = λ code collection over.
-    nothing_answered code collection _ _ _ _ _ _ _
-    (part_sound c.in-Err.refusal _ _ c.from.ensures (c.in-Err.ensures.answer over.version collection over.limits
-    (subst (λ (o : Opened). LexStands o.lex (g.S.Store.files c.args.store.now) collection) (sym c.self.view_is) over.lex)))
-    (lex_post _ _ _ _ _ _ c.in-Err.ensures.looked) (lex_text _ _ _ _ _ _ c.in-Err.ensures.looked)
+pub returns-in-Err : goal.returns-in-Err
+returns-in-Err g c = record {
+  answer = λ code collection over.
+      nothing_answered code collection _ _ _ _ _ _ _
+      (part_sound c.in-Err.refusal _ _ c.from.ensures (c.in-Err.ensures.answer over.version collection over.limits
+      (subst (λ (o : Opened). LexStands o.lex (g.S.Store.files c.args.store.now) collection) (sym c.self.view_is) over.lex)))
+      (lex_post _ _ _ _ _ _ c.in-Err.ensures.looked) (lex_text _ _ _ _ _ _ c.in-Err.ensures.looked);
+  printed = λ version collection limits stands. tt;
+  stepped = let e = c.in-Err.ensures in
+      opened_refused c.self.view_is c.requires.fits e.fits e.same e.looked c.in-Err.refusal c.from.ensures e.cause;
+}
 
 pub answer_terms-requires-clause-few : goal.answer_terms-requires-clause-few
 answer_terms-requires-clause-few g c = omega (arith, ap length c.deref.ensures.value, c.in-Ok.ensures.size, ap length c.as_slice.ensures, c.requires.few)
 
-pub returns-clause-answer : goal.returns-clause-answer
-returns-clause-answer g c = λ code collection over.
-    let own : Opened = record { base = c.self.inside.lists.base.now; lex = c.self.inside.lex; texts = c.self.inside.texts; all = c.self.inside.lists.all } in
-    let own_over : OpenedOver (g.S.Store.files c.args.store.now) own code collection = subst
-    (λ (o : Opened). OpenedOver (g.S.Store.files c.args.store.now) o code collection) (sym c.self.view_is) over in
-    let told = c.in-Ok.ensures.answer own_over.version collection own_over.limits own_over.lex in
-    let same : AreInfos collection c.args.terms.now c.deref.result.now = subst (λ (xs : List (Option TermInfo)). AreInfos collection c.args.terms.now xs)
-    (sym c.deref.ensures.value) (subst (λ (ts : List (List ℕ)). AreInfos collection ts c.in-Ok.infos.items) (c.as_slice.ensures) told) in
-    let stands = answers_for _ _ own code collection c.in-Ok.ensures.looked.files own_over in
-    answered_behind code collection _ _ _ _ _ _ (g.S.Store.reads c.find_terms.new.store) _ _
-    (c.answer_terms.ensures.answer code collection stands c.args.terms.now same c.requires.apart)
-    (lex_post _ _ _ _ _ _ c.in-Ok.ensures.looked) (lex_text _ _ _ _ _ _ c.in-Ok.ensures.looked)
-
-pub returns-in-Err-clause-stepped : goal.returns-in-Err-clause-stepped
-returns-in-Err-clause-stepped g c =
-    let e = c.in-Err.ensures in
-    opened_refused c.self.view_is c.requires.fits e.fits e.same e.looked c.in-Err.refusal c.from.ensures e.cause
-
-pub returns-clause-stepped : goal.returns-clause-stepped
-returns-clause-stepped g c =
-    let e = c.in-Ok.ensures in
-    opened_answered c.self.view_is c.requires.fits e.fits e.same e.looked c.answer_terms.ensures.stepped
-
--- ---- what is printed, whatever the lists have
-
-pub returns-in-Err-clause-printed : goal.returns-in-Err-clause-printed
-returns-in-Err-clause-printed g c = λ version collection limits stands. tt
-
-pub returns-clause-printed : goal.returns-clause-printed
-returns-clause-printed g c = λ version collection limits stands.
-    let told = c.in-Ok.ensures.answer version collection limits
-    (subst (λ (o : Opened). LexStands o.lex (g.S.Store.files c.args.store.now) collection) (sym c.self.view_is) stands) in
-    let same : AreInfos collection c.args.terms.now c.deref.result.now = subst (λ (xs : List (Option TermInfo)). AreInfos collection c.args.terms.now xs)
-    (sym c.deref.ensures.value) (subst (λ (ts : List (List ℕ)). AreInfos collection ts c.in-Ok.infos.items) (c.as_slice.ensures) told) in
-    told_ranked _ _ c.answer_terms.result c.self.view_is same c.answer_terms.ensures.printed
+pub returns : goal.returns
+returns g c = record {
+  answer = λ code collection over.
+      let own : Opened = record { base = c.self.inside.lists.base.now; lex = c.self.inside.lex; texts = c.self.inside.texts; all = c.self.inside.lists.all } in
+      let own_over : OpenedOver (g.S.Store.files c.args.store.now) own code collection = subst
+      (λ (o : Opened). OpenedOver (g.S.Store.files c.args.store.now) o code collection) (sym c.self.view_is) over in
+      let told = c.in-Ok.ensures.answer own_over.version collection own_over.limits own_over.lex in
+      let same : AreInfos collection c.args.terms.now c.deref.result.now = subst (λ (xs : List (Option TermInfo)). AreInfos collection c.args.terms.now xs)
+      (sym c.deref.ensures.value) (subst (λ (ts : List (List ℕ)). AreInfos collection ts c.in-Ok.infos.items) (c.as_slice.ensures) told) in
+      let stands = answers_for _ _ own code collection c.in-Ok.ensures.looked.files own_over in
+      answered_behind code collection _ _ _ _ _ _ (g.S.Store.reads c.find_terms.new.store) _ _
+      (c.answer_terms.ensures.answer code collection stands c.args.terms.now same c.requires.apart)
+      (lex_post _ _ _ _ _ _ c.in-Ok.ensures.looked) (lex_text _ _ _ _ _ _ c.in-Ok.ensures.looked);
+  printed = λ version collection limits stands.
+      let told = c.in-Ok.ensures.answer version collection limits
+      (subst (λ (o : Opened). LexStands o.lex (g.S.Store.files c.args.store.now) collection) (sym c.self.view_is) stands) in
+      let same : AreInfos collection c.args.terms.now c.deref.result.now = subst (λ (xs : List (Option TermInfo)). AreInfos collection c.args.terms.now xs)
+      (sym c.deref.ensures.value) (subst (λ (ts : List (List ℕ)). AreInfos collection ts c.in-Ok.infos.items) (c.as_slice.ensures) told) in
+      told_ranked _ _ c.answer_terms.result c.self.view_is same c.answer_terms.ensures.printed;
+  stepped = let e = c.in-Ok.ensures in
+      opened_answered c.self.view_is c.requires.fits e.fits e.same e.looked c.answer_terms.ensures.stepped;
+}

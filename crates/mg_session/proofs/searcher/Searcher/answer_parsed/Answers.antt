@@ -2,19 +2,12 @@ use Rattle.mg_session.proofs.CallLaws.{opened_lacked}
 use Rattle.mg_session.proofs.ReplyLaws.{none_answered}
 use Rattle.mg_session.proofs.searcher.Searcher.answer_parsed.Goals as goal
 
-pub returns-in-Err-clause-answer : goal.returns-in-Err-clause-answer
-returns-in-Err-clause-answer g c = λ code collection over. none_answered _ _ _ _ _ _ _
+pub returns-in-Err : goal.returns-in-Err
+returns-in-Err g c = record {
+  answer = λ code collection over. none_answered _ _ _ _ _ _ _;
+  printed = λ version collection limits stands. tt;
+  stepped = opened_lacked c.requires.fits;
+}
 
-pub returns-in-Err-clause-stepped : goal.returns-in-Err-clause-stepped
-returns-in-Err-clause-stepped g c = opened_lacked c.requires.fits
-
-pub returns-in-Ok-clause-stepped : goal.returns-in-Ok-clause-stepped
-returns-in-Ok-clause-stepped g c = c.answer_known.ensures.stepped
-
--- ---- what is printed, whatever the lists have
-
-pub returns-in-Err-clause-printed : goal.returns-in-Err-clause-printed
-returns-in-Err-clause-printed g c = λ version collection limits stands. tt
-
-pub returns-in-Ok-clause-printed : goal.returns-in-Ok-clause-printed
-returns-in-Ok-clause-printed g c = c.answer_known.ensures.printed
+pub returns-in-Ok : goal.returns-in-Ok
+returns-in-Ok g c = c.answer_known.ensures

@@ -7,12 +7,14 @@ use Rattle.mg_session.proofs.TermLaws.{line_terms}
 use Rattle.mg_session.proofs.ReplyLaws.{ranked_answered, ranked_refused}
 use Rattle.mg_session.proofs.searcher.Searcher.answer_ranked.Goals as goal
 
-pub returns-in-Err-clause-replied : goal.returns-in-Err-clause-replied
-returns-in-Err-clause-replied g c = λ code collection over.
-    ranked_refused c.in-Err.why code collection _ _ c.in-Err.ensures.refused c.answer_refused.ensures.content c.answer_refused.ensures.cause
-
-pub returns-in-Err-clause-stepped : goal.returns-in-Err-clause-stepped
-returns-in-Err-clause-stepped g c = opened_unread c.requires.fits (line_told _ c.answer_refused.ensures.later c.answer_refused.ensures.lacks c.answer_refused.ensures.cause)
+pub returns-in-Err : goal.returns-in-Err
+returns-in-Err g c = record {
+  answer = λ code collection over.
+      ranked_refused c.in-Err.why code collection _ _ c.in-Err.ensures.refused c.answer_refused.ensures.content c.answer_refused.ensures.cause;
+  printed = λ ts is told version collection limits stands.
+      refused_printed _ _ _ (refusal_of c.in-Err.why) ts c.answer_refused.result c.in-Err.ensures.refused c.answer_refused.ensures.content is told;
+  stepped = opened_unread c.requires.fits (line_told _ c.answer_refused.ensures.later c.answer_refused.ensures.lacks c.answer_refused.ensures.cause);
+}
 
 pub answer_distinct-requires-clause-few : goal.answer_distinct-requires-clause-few
 answer_distinct-requires-clause-few g c = (line_terms c.args.line.now c.in-Ok.terms c.in-Ok.ensures.reads).few
@@ -20,20 +22,12 @@ answer_distinct-requires-clause-few g c = (line_terms c.args.line.now c.in-Ok.te
 pub answer_distinct-requires-clause-apart : goal.answer_distinct-requires-clause-apart
 answer_distinct-requires-clause-apart g c = (line_terms c.args.line.now c.in-Ok.terms c.in-Ok.ensures.reads).apart
 
-pub returns-in-Ok-clause-replied : goal.returns-in-Ok-clause-replied
-returns-in-Ok-clause-replied g c = λ code collection over.
-    ranked_answered code collection c.in-Ok.terms c.in-Ok.ensures.reads (c.answer_distinct.ensures.answer code collection over) refl refl
-
-pub returns-in-Ok-clause-stepped : goal.returns-in-Ok-clause-stepped
-returns-in-Ok-clause-stepped g c = c.answer_distinct.ensures.stepped
-
--- ---- what is printed, whatever the lists have
-
-pub returns-in-Err-clause-printed : goal.returns-in-Err-clause-printed
-returns-in-Err-clause-printed g c = λ ts is told version collection limits stands.
-    refused_printed _ _ _ (refusal_of c.in-Err.why) ts c.answer_refused.result c.in-Err.ensures.refused c.answer_refused.ensures.content is told
-
-pub returns-in-Ok-clause-printed : goal.returns-in-Ok-clause-printed
-returns-in-Ok-clause-printed g c = λ ts is told.
-    subst (λ xs. RanksTold (g.O.Sink.written c.args.out.now) (g.O.Sink.written c.answer_distinct.new.out) c.answer_distinct.result
-    (g.S.Store.files c.args.store.now) c.args.self.now xs) (read_same c.in-Ok.ensures.reads is) c.answer_distinct.ensures.printed
+pub returns-in-Ok : goal.returns-in-Ok
+returns-in-Ok g c = record {
+  answer = λ code collection over.
+      ranked_answered code collection c.in-Ok.terms c.in-Ok.ensures.reads (c.answer_distinct.ensures.answer code collection over) refl refl;
+  printed = λ ts is told.
+      subst (λ xs. RanksTold (g.O.Sink.written c.args.out.now) (g.O.Sink.written c.answer_distinct.new.out) c.answer_distinct.result
+      (g.S.Store.files c.args.store.now) c.args.self.now xs) (read_same c.in-Ok.ensures.reads is) c.answer_distinct.ensures.printed;
+  stepped = c.answer_distinct.ensures.stepped;
+}

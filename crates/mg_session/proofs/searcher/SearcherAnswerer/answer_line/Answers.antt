@@ -11,17 +11,17 @@ returns-clause-answered g c = record {
   content = λ by answers. subst (λ (r : Settings → List ℕ → List ℕ).
       AfterPut (g.O.Sink.written c.args.out.now) (g.O.Sink.written c.answer_question.new.out) (r c.args.now.now c.args.line.now) c.answer_question.result)
       (sym answers.by_is)
-      (line_put answers.code answers.collection _ _ _ _ _ _ _ (c.answer_question.ensures.replied answers.code answers.collection answers.over));
+      (line_put answers.code answers.collection _ _ _ _ _ _ _ (c.answer_question.ensures.answer answers.code answers.collection answers.over));
   after = asked_one
       (state_of (g.S.Store.files c.args.dev.now) (g.S.Store.reads c.args.dev.now) (g.S.Store.faults c.args.dev.now) c.args.self.now)
       (state_of (g.S.Store.files c.answer_question.new.store) (g.S.Store.reads c.answer_question.new.store) (g.S.Store.faults c.answer_question.new.store) c.answer_question.new.self)
-      _ _ _ _ _ c.answer_question.ensures.stepped.step c.answer_question.ensures.stepped.same c.answer_question.ensures.replied;
+      _ _ _ _ _ c.answer_question.ensures.stepped.step c.answer_question.ensures.stepped.same c.answer_question.ensures.answer;
   later = c.answer_question.ensures.stepped.cause.output;
   write = line_written _ _ _ _ _ c.answer_question.ensures.stepped.cause;
   part = line_part
       (state_of (g.S.Store.files c.args.dev.now) (g.S.Store.reads c.args.dev.now) (g.S.Store.faults c.args.dev.now) c.args.self.now)
       (state_of (g.S.Store.files c.answer_question.new.store) (g.S.Store.reads c.answer_question.new.store) (g.S.Store.faults c.answer_question.new.store) c.answer_question.new.self)
-      _ _ _ c.answer_question.ensures.stepped.cause (λ code collection over. (c.answer_question.ensures.replied code collection over).sound);
+      _ _ _ c.answer_question.ensures.stepped.cause (λ code collection over. (c.answer_question.ensures.answer code collection over).sound);
 }
 
 pub returns-clause-printed : goal.returns-clause-printed
