@@ -16,11 +16,12 @@ use Rattle.mg_defs.specs.Marks.{PassesFirst, start, piece}
 use Rattle.mg_layout.specs.Stands.{HasNoHead, Stands, StandsIn}
 use Rattle.mg_make.specs.Putting.{OthersSame}
 use Rattle.mg_merge.specs.Joined.{Joined}
-use Rattle.mg_merge.specs.Looks.{IsUntouched}
+use Rattle.mg_merge.specs.Looks.{IsUntouched, reads_index}
 use Rattle.mg_make.specs.Outcomes.{IsEarly, Left, most_bytes}
 use Rattle.mg_merge.specs.Merging.{BothStand, IsSizeByHeads, MergeStops}
 use Rattle.mg_dev.specs.declared.status.Status.TheVariants.{Stopped}
 use Rattle.mg_make.proofs.CallerLemmas.{others_none}
+use Rattle.mg_merge.proofs.LookLaws.{outside_index}
 use Rattle.mg_dev.proofs.CallerLemmas.{at_fault, done_or_lacks, stopped_by, stopped_for, when_ok}
 
 -- both sets stand
@@ -35,6 +36,7 @@ module _ {T : Type 0} (first second new : List ℕ) (store store_now : StoreAt) 
     (merge_a : (a b : List ℕ) → BothStand store.files first second a b → OnOk r (file_at store_now.files (full_name new part.MergeA) ≡ Some []))
     (merge_b : (a b : List ℕ) → BothStand store.files first second a b → OnOk r (file_at store_now.files (full_name new part.MergeB) ≡ Some []))
     (others : OthersSame new store.files store_now.files)
+    (index : reads_index store_now.reads ≡ reads_index store.reads)
     (left : (a b : List ℕ) → BothStand store.files first second a b → Left new store.files store_now.files (join a b))
     (early : IfErr r (λ fault. IsEarly fault → IsUntouched store store_now))
     (cause : IfErr r (MergeStops (StoreRose store store_now) store.files first second new))
@@ -53,6 +55,7 @@ module _ {T : Type 0} (first second new : List ℕ) (store store_now : StoreAt) 
         record { stands = when_ok _ r end (stands version cap a b one two); merge_a = when_ok _ r end (merge_a a b stand); merge_b = when_ok _ r end (merge_b a b stand) };
     unchanged = λ fault soon end. (at_fault (λ (f : Fault). IsEarly f → IsUntouched store store_now) r fault end early soon).files;
     unread = λ fault soon end. (at_fault (λ (f : Fault). IsEarly f → IsUntouched store store_now) r fault end early soon).unread;
+    index = index;
     left = left;
     others = others;
     cause = stopped_by _ r cause;
@@ -75,7 +78,8 @@ module _ {T : Type 0} (first second new : List ℕ) (store store_now : StoreAt) 
     (complete : (a b : List ℕ) → BothStand store.files first second a b → IsWithinLimits 2 (join a b) → ¬ StoreRose store store_now → IsDone {T = T} (Err fault)) where
   pub refused_by : Joined first second new store store_now (Stopped fault)
   refused_by = joined_by {T = T} first second new store store_now (Err fault)
-      (λ version cap a b is stands. tt) (λ a b both. tt) (λ a b both. tt) (others_none new store.files store_now.files untouched.files) (λ a b both. inl untouched.files)
+      (λ version cap a b is stands. tt) (λ a b both. tt) (λ a b both. tt) (others_none new store.files store_now.files untouched.files)
+      (outside_index _ _ untouched.unread) (λ a b both. inl untouched.files)
       (λ early. untouched) cause (λ same. elim same [ inl is ↦ absurd (one is) | inr is ↦ absurd (other is) ])
       (λ told new_one new_other. missing told) (λ size told new_one new_other. large size told)
       (λ a b both new_one new_other few passes. documents a b both few) (λ a b stream word both new_one new_other few passes. pieces a b stream both few)
@@ -85,7 +89,8 @@ module _ {T : Type 0} (first second new : List ℕ) (store store_now : StoreAt) 
 pub same_by : (first second new : List ℕ) (store store_now : StoreAt) → IsUntouched store store_now → (new ≡ first) ⊎ (new ≡ second) →
     Joined first second new store store_now (Stopped SameName)
 same_by first second new store store_now untouched same = joined_by {T = Unit {0}} first second new store store_now (Err SameName)
-    (λ version cap a b is stands. tt) (λ a b both. tt) (λ a b both. tt) (others_none new store.files store_now.files untouched.files) (λ a b both. inl untouched.files)
+    (λ version cap a b is stands. tt) (λ a b both. tt) (λ a b both. tt) (others_none new store.files store_now.files untouched.files)
+    (outside_index _ _ untouched.unread) (λ a b both. inl untouched.files)
     (λ early. untouched) same (λ is. refl) (λ told one other. never one other) (λ size told one other. never one other)
     (λ a b both one other. never one other) (λ a b stream word both one other. never one other) (λ a b both one other. never one other)
   where

@@ -1,10 +1,12 @@
 -- Calls that only read heads, models and texts.
-use Rattle.std.proofs.Common.{arith, ◌≡◌, ◌≤◌, ◌⊎◌, ◌∙◌, ◌∷◌, ℕ, [], Option, refl, inl, inr}
+use Rattle.std.proofs.Common.{arith, ◌≡◌, ◌≤◌, ◌⊎◌, ◌∙◌, ◌∷◌, ℕ, [], Option, ap, false, get_or, refl, inl, inr}
 use Rattle.mg_bits.specs.Pages.{LookedAt}
 use Rattle.mg_dev.specs.Files.{Files, OneRead, Reads, SameReads}
 use Rattle.mg_dev.specs.Laws.{with_read-other}
+use Rattle.mg_dev.specs.Names.{same_part}
+use Rattle.mg_dev.specs.declared.part.Part.{Part}
 use Rattle.mg_dev.specs.declared.part.Part.TheVariants as part
-use Rattle.mg_merge.specs.Looks.{LooksAtTexts, reads_outside}
+use Rattle.mg_merge.specs.Looks.{LooksAtTexts, reads_index, reads_outside}
 
 none_outside : (r s : Reads) → SameReads r s → reads_outside s ≡ reads_outside r
 unfolding reads_outside
@@ -30,6 +32,24 @@ unfolding reads_outside
 text_outside f g r s m n looked = λ i. looked.others part.Lex refl refl i ∷ looked.others part.LexAt refl refl i ∷ looked.others part.Post refl refl i
     ∷ looked.others part.Skip refl refl i ∷ looked.others part.Weights refl refl i ∷ looked.others part.Run refl refl i
     ∷ looked.others part.MergeA refl refl i ∷ looked.others part.MergeB refl refl i ∷ looked.others part.Plain refl refl i ∷ []
+
+-- ---- the index
+
+-- what read no other part than heads, models and texts did not read the index
+pub outside_index : (r s : Reads) → reads_outside s ≡ reads_outside r → reads_index s ≡ reads_index r
+unfolding reads_outside reads_index
+outside_index r s same = ap (λ l. get_or l 0 0 ∷ get_or l 1 0 ∷ get_or l 2 0 ∷ get_or l 3 0 ∷ get_or l 4 0 ∷ get_or l 8 0 ∷ []) same
+
+-- nor did what read the working files alone
+pub runs_index : (r s : Reads) → ((p : Part) → same_part p part.Run ≡ false → same_part p part.MergeA ≡ false → same_part p part.MergeB ≡ false → s p ≡ r p) →
+    reads_index s ≡ reads_index r
+unfolding reads_index
+runs_index r s same = λ i. same part.Lex refl refl refl i ∷ same part.LexAt refl refl refl i ∷ same part.Post refl refl refl i
+    ∷ same part.Skip refl refl refl i ∷ same part.Weights refl refl refl i ∷ same part.Plain refl refl refl i ∷ []
+
+-- nor what read nothing
+pub none_index : (r s : Reads) → SameReads r s → reads_index s ≡ reads_index r
+none_index r s same = runs_index r s (λ p run merge_a merge_b. same p)
 
 -- ---- calls
 

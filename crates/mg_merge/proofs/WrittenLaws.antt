@@ -1,5 +1,5 @@
 -- What the second pass made, from what its writer tells.
-use Rattle.std.proofs.Common.{arith, ◌≡◌, ◌≤◌, ℕ, List, Ok, Err, IsSome, refl, sym, subst, inl, inr}
+use Rattle.std.proofs.Common.{arith, ◌≡◌, ◌≤◌, ◌∙◌, ℕ, List, Ok, Err, IsSome, refl, sym, subst, inl, inr}
 use Rattle.std.specs.Prelude.{IfErr, OnOk, Result}
 use Rattle.mg_dev.specs.Causes.{HasPutCause, Rose}
 use Rattle.mg_dev.specs.Faults.{ReadStops, fault_of_store}
@@ -15,11 +15,12 @@ use Rattle.mg_make.specs.Plans.{IsPlanOf, Plan}
 use Rattle.mg_make.specs.Putting.{ForPut, HasPut, IsEmptied, OthersSame, Putting, StandsForNoOther}
 use Rattle.mg_make.specs.declared.summary.Summary.{Summary}
 use Rattle.mg_make.proofs.CallerLemmas.{others_more, others_none, rose_behind}
-use Rattle.mg_merge.specs.Looks.{IsUntouched, LooksAtTexts}
+use Rattle.mg_merge.specs.Looks.{IsUntouched, LooksAtTexts, reads_index}
 use Rattle.mg_merge.specs.Passes.{AreAllGiven, AreApart, ArePlanned, ForPlanned}
 use Rattle.mg_merge.specs.Stops.{CountingStops}
 use Rattle.mg_merge.specs.Texts.{SameTexts, TextsStand, TwoTexts}
 use Rattle.mg_merge.specs.Written.{MergesTexts, WritesSet}
+use Rattle.mg_merge.proofs.LookLaws.{outside_index}
 use Rattle.mg_merge.proofs.MergeLaws.{counts_all, early_all, on_ok}
 use Rattle.mg_merge.proofs.PassLaws.{still_told}
 use Rattle.mg_merge.proofs.StayLaws.{texts_stay}
@@ -30,15 +31,17 @@ use Rattle.mg_merge.proofs.TextLaws.{texts_none, texts_stand_on}
 
 pub not_written : (plan : Plan) (limit : ℕ) (base : List ℕ) (t : TwoTexts) (store store_now : StoreAt) (fault : Fault) →
     ((collection : List ℕ) → TextsStand t store.files collection → Left base store.files store_now.files collection) →
-    OthersSame base store.files store_now.files → store.faults ≤ store_now.faults → ReadStops (StoreRose store store_now) (ArePlanned plan t store.files) fault →
+    OthersSame base store.files store_now.files → reads_index store_now.reads ≡ reads_index store.reads → store.faults ≤ store_now.faults →
+    ReadStops (StoreRose store store_now) (ArePlanned plan t store.files) fault →
     WritesSet plan limit base t store store_now (Err fault)
-not_written plan limit base t store store_now fault left others later refused = record {
+not_written plan limit base t store store_now fault left others index later refused = record {
   stands = λ collection stand is. tt;
   summary = λ collection stand is. tt;
   merge_a = λ some. tt;
   merge_b = λ some. tt;
   left = λ collection stand is. left collection stand;
   others = others;
+  index = index;
   later = later;
   refused = refused;
 }
@@ -68,9 +71,10 @@ module _ (w now : Putting) (t : TwoTexts) (store middle : StoreAt) (fed : List �
   pub was_ended : (store_now : StoreAt) (r : Result Summary Fault) → now.base ≡ w.base → now.limit ≡ w.limit →
       ForPut now middle.files (MakesSet now.limit store_now.files now.base r) → ForPut now middle.files (HasSummaryOf now.limit r) →
       ForPut now middle.files (λ bytes. OnOk r (IsEmptied store_now.files now.base MergeA)) → ForPut now middle.files (λ bytes. OnOk r (IsEmptied store_now.files now.base MergeB)) →
-      ForPut now middle.files (StandsForNoOther store_now.files now.base) → OthersSame now.base middle.files store_now.files → store.faults ≤ store_now.faults →
+      ForPut now middle.files (StandsForNoOther store_now.files now.base) → OthersSame now.base middle.files store_now.files →
+      reads_index store_now.reads ≡ reads_index store.reads → store.faults ≤ store_now.faults →
       IfErr r (ReadStops (StoreRose store store_now) (ArePlanned w.plan t store.files)) → WritesSet w.plan w.limit w.base t store store_now r
-  was_ended store_now r base limit stands summary merge_a merge_b left others later refused = record {
+  was_ended store_now r base limit stands summary merge_a merge_b left others index later refused = record {
     stands = for_planned (MakesSet w.limit store_now.files w.base r)
         (subst (λ b. ForPut now middle.files (MakesSet w.limit store_now.files b r)) base
         (subst (λ n. ForPut now middle.files (MakesSet n store_now.files now.base r)) limit stands));
@@ -84,6 +88,7 @@ module _ (w now : Putting) (t : TwoTexts) (store middle : StoreAt) (fed : List �
     left = λ collection stand is. inr (for_planned (StandsForNoOther store_now.files w.base)
         (subst (λ b. ForPut now middle.files (StandsForNoOther store_now.files b)) base left) collection stand is);
     others = others_more w.base _ _ _ put_others (subst (λ b. OthersSame b middle.files store_now.files) base others);
+    index = index;
     later = later;
     refused = refused;
   }
@@ -97,7 +102,7 @@ on_refusal (Err fault) P Q all is = all fault is
 
 -- what was made from an emptied head on was made from before it
 module _ (plan : Plan) (limit : ℕ) (base : List ℕ) (t : TwoTexts) (store middle store_now : StoreAt) (r : Result Summary Fault)
-    (apart : AreApart base t) (others : OthersSame base store.files middle.files) (later : store.faults ≤ middle.faults)
+    (apart : AreApart base t) (others : OthersSame base store.files middle.files) (index : reads_index middle.reads ≡ reads_index store.reads) (later : store.faults ≤ middle.faults)
     (none : IsSome middle.files → StandsForNone middle.files base) where
   stand_still : (collection : List ℕ) → TextsStand t store.files collection → TextsStand t middle.files collection
   stand_still collection stand = texts_stay base t t store.files middle.files collection apart (texts_none t) others stand
@@ -113,6 +118,7 @@ module _ (plan : Plan) (limit : ℕ) (base : List ℕ) (t : TwoTexts) (store mid
       | inr made ↦ inr made
     ];
     others = others_more base _ _ _ others wrote.others;
+    index = wrote.index ∙ index;
     later = omega (arith, later, wrote.later);
     refused = on_refusal r (ReadStops (StoreRose middle store_now) (ArePlanned plan t middle.files)) (ReadStops (StoreRose store store_now) (ArePlanned plan t store.files))
         (λ fault stop. read_wider (StoreRose middle store_now) (StoreRose store store_now) (ArePlanned plan t middle.files) (ArePlanned plan t store.files) fault
@@ -136,7 +142,7 @@ start_stops s t whole put.Memory told is cause = subst (ReadStops (Rose s t) who
 
 -- what was written by the plan that was counted
 module _ (plan : Plan) (limit budget : ℕ) (base : List ℕ) (t read : TwoTexts) (store middle store_now : StoreAt) (r : Result Summary Fault)
-    (same : SameTexts t read) (files : middle.files ≡ store.files) (later : store.faults ≤ middle.faults) (pool : limit ≡ budget)
+    (same : SameTexts t read) (files : middle.files ≡ store.files) (index : reads_index middle.reads ≡ reads_index store.reads) (later : store.faults ≤ middle.faults) (pool : limit ≡ budget)
     (of : (collection : List ℕ) → TextsStand t store.files collection → IsPlanOf plan collection) where
   stand_counted : (collection : List ℕ) → TextsStand t store.files collection → TextsStand read middle.files collection
   stand_counted collection stand = texts_stand_on t read store.files middle.files collection same files stand
@@ -150,6 +156,7 @@ module _ (plan : Plan) (limit budget : ℕ) (base : List ℕ) (t read : TwoTexts
     merge_b = λ some. wrote.merge_b (some.0, stand_counted some.0 some.1, of some.0 some.1);
     left = λ collection stand. subst (λ f. Left base f store_now.files collection) files (wrote.left collection (stand_counted collection stand) (of collection stand));
     others = subst (λ f. OthersSame base f store_now.files) files wrote.others;
+    index = wrote.index ∙ index;
     early = early_all r (StoreRose middle store_now) (ArePlanned plan read middle.files) (IsUntouched store store_now) wrote.refused;
     later = omega (arith, later, wrote.later);
     refused = counts_all r (StoreRose middle store_now) (StoreRose store store_now) (ArePlanned plan read middle.files) (TextsStand t store.files)
@@ -167,6 +174,7 @@ not_counted budget base t store store_now fault looks refused = record {
   merge_b = λ some. tt;
   left = λ collection stand. inl looks.files;
   others = others_none base store.files store_now.files looks.files;
+  index = outside_index _ _ looks.unread;
   early = λ soon. record { files = looks.files; unread = looks.unread };
   later = looks.later;
   refused = refused;

@@ -14,7 +14,7 @@ use Rattle.mg_defs.specs.Marks.{PassesFirst, start, piece}
 use Rattle.mg_layout.specs.Stands.{HasNoHead, Stands, StandsIn}
 use Rattle.mg_make.specs.Putting.{OthersSame}
 use Rattle.mg_make.specs.Outcomes.{AreMadeAnew, IsEarly, Left, most_bytes}
-use Rattle.mg_merge.specs.Looks.{reads_outside}
+use Rattle.mg_merge.specs.Looks.{reads_index, reads_outside}
 use Rattle.mg_merge.specs.Merging.{BothStand, IsSizeByHeads, MergeStops}
 
 -- of each two collections that the sets of these names stand for, in either version, by the store before the merge and after it, and its status
@@ -28,6 +28,8 @@ pub record Joined (first second new : List ℕ) (store store_now : StoreAt) (sta
   -- and of the two sets no part was read but the heads, the models and the texts
   pub unread : (fault : Fault) → IsEarly fault → status ≡ Stopped fault →
       reads_outside store_now.reads ≡ reads_outside store.reads
+  -- every status: no part was read but the heads, the models, the texts and the working files
+  pub index : reads_index store_now.reads ≡ reads_index store.reads
   -- every status: all files are as before, or the new set stands for none, or for both collections in one; no file but its own changes
   pub left : (a b : List ℕ) → BothStand store.files first second a b → Left new store.files store_now.files (join a b)
   pub others : OthersSame new store.files store_now.files

@@ -10,6 +10,10 @@ unfoldable pub reads_outside : Reads → List ℕ
 reads_outside reads = reads Lex ∷ reads LexAt ∷ reads Post ∷ reads Skip ∷ reads Weights ∷ reads Run ∷ reads MergeA
     ∷ reads MergeB ∷ reads Plain ∷ []
 
+-- how often each part was read that is none of the heads, the models and the texts, and no working file
+unfoldable pub reads_index : Reads → List ℕ
+reads_index reads = reads Lex ∷ reads LexAt ∷ reads Post ∷ reads Skip ∷ reads Weights ∷ reads Plain ∷ []
+
 -- a call that only reads heads, models and texts, told of the moments before it and after it
 pub record LooksAtTexts (files_before files_now : Option Files) (reads_before reads_now : Reads)
     (faults_before faults_now : ℕ) : Type 0 where

@@ -1,5 +1,5 @@
 -- What the passes over two texts make of their set.
-use Rattle.std.specs.Prelude.{◌≤◌, ℕ, List, IfErr, OnOk}
+use Rattle.std.specs.Prelude.{◌≡◌, ◌≤◌, ℕ, List, IfErr, OnOk}
 use Rattle.std.specs.declared.result.Result.{Result}
 use Rattle.mg_dev.specs.Faults.{ReadStops}
 use Rattle.mg_dev.specs.Moments.{StoreAt, StoreRose}
@@ -10,7 +10,7 @@ use Rattle.mg_make.specs.Outcomes.{HasSummaryOf, IsEarly, Left, MakesSet}
 use Rattle.mg_make.specs.Plans.{Plan}
 use Rattle.mg_make.specs.Putting.{IsEmptied, OthersSame}
 use Rattle.mg_make.specs.declared.summary.Summary.{Summary}
-use Rattle.mg_merge.specs.Looks.{IsUntouched}
+use Rattle.mg_merge.specs.Looks.{IsUntouched, reads_index}
 use Rattle.mg_merge.specs.Passes.{ArePlanned, ForPlanned}
 use Rattle.mg_merge.specs.Stops.{CountingStops}
 use Rattle.mg_merge.specs.Texts.{AreTexts, TextsStand, TwoTexts}
@@ -26,6 +26,7 @@ pub record WritesSet (plan : Plan) (limit : ℕ) (base : List ℕ) (t : TwoTexts
   -- whatever it answers
   pub left : ForPlanned plan t store.files (Left base store.files store_now.files)
   pub others : OthersSame base store.files store_now.files
+  pub index : reads_index store_now.reads ≡ reads_index store.reads
   pub later : store.faults ≤ store_now.faults
   pub refused : IfErr result (ReadStops (StoreRose store store_now) (ArePlanned plan t store.files))
 
@@ -45,5 +46,6 @@ pub record MergesTexts (budget : ℕ) (base : List ℕ) (t : TwoTexts) (store st
       Left base store.files store_now.files collection
   pub others : OthersSame base store.files store_now.files
   pub early : IfErr result (λ fault. IsEarly fault → IsUntouched store store_now)
+  pub index : reads_index store_now.reads ≡ reads_index store.reads
   pub later : store.faults ≤ store_now.faults
   pub refused : IfErr result (CountingStops (StoreRose store store_now) (TextsStand t store.files))

@@ -3,12 +3,13 @@ ghost use Rattle.std.specs.Prelude.{◌≡◌, ◌<◌, ◌≤◌, ◌+◌, ◌^
 ghost use Rattle.std.specs.Option.{IsSome};
 ghost use Rattle.mg_dev.specs.Causes.{Rose};
 ghost use Rattle.mg_dev.specs.Faults.{ReadStops};
-ghost use Rattle.mg_dev.specs.Files.{file_at};
+ghost use Rattle.mg_dev.specs.Files.{SameReads, file_at};
 ghost use Rattle.mg_dev.specs.Names.{full_name};
 ghost use Rattle.mg_dev.specs.declared.part.Part.TheVariants as part;
 ghost use Rattle.mg_make.specs.Outcomes.{BetweenMoments};
 ghost use Rattle.mg_make.specs.Plans.{IsPlan, IsRoomFor};
 ghost use Rattle.mg_make.specs.Putting.{HasPut, NextRefused, OthersSame};
+ghost use Rattle.mg_merge.specs.Looks.{reads_index};
 ghost use Rattle.mg_merge.specs.Passes.{AreAllGiven, AreApart, ArePlanned};
 ghost use Rattle.mg_merge.specs.Texts.{TextsFit};
 ghost use Rattle.mg_merge.specs.Written.{WritesSet};
@@ -38,6 +39,7 @@ fn put_document<S: Store>(
     ensures head { IsSome (S.files store.old) →
         file_at (S.files store.new) (full_name writer.old.base part.Head) ≡ Some [] }
     ensures others { OthersSame writer.old.base (S.files store.old) (S.files store.new) }
+    ensures reads { SameReads (S.reads store.old) (S.reads store.new) }
     ensures later { S.faults store.old ≤ S.faults store.new }
     ensures refused { NextRefused writer.old (λ more. bytes.now ++ more)
         S.files S.faults store.old store.new result }
@@ -71,6 +73,7 @@ fn put_documents<'a, S: Store, D: Documents<'a, S>>(
     ensures head { IsSome (S.files store.old) →
         file_at (S.files store.new) (full_name writer.old.base part.Head) ≡ Some [] }
     ensures others { OthersSame writer.old.base (S.files store.old) (S.files store.new) }
+    ensures index { reads_index (S.reads store.new) ≡ reads_index (S.reads store.old) }
     ensures later { S.faults store.old ≤ S.faults store.new }
     ensures refused { IfErr result (ReadStops (Rose (S.faults store.old) (S.faults store.new))
         (ArePlanned writer.old.plan (D.texts texts.old) (S.files store.old))) }

@@ -16,6 +16,7 @@ use Rattle.mg_merge.specs.Merging.{BothStand, budget_of, joined_size}
 use Rattle.mg_merge.specs.Texts.{AreSetsBy, TextsStand}
 use Rattle.mg_merge.proofs.AnswerLaws.{joined_by, refused_by}
 use Rattle.mg_merge.proofs.MergeLaws.{apart_of, both_in, cap_of, documents_all, done_all, early_at, one_size, pieces_all, refused_other, sets_by}
+use Rattle.mg_merge.proofs.LookLaws.{outside_index}
 use Rattle.mg_merge.proofs.LimitLaws.{cause_by_heads, early_by_heads, same_by_heads}
 use Rattle.mg_merge.proofs.StopLaws.{heads_cause, heads_of_both, heads_only, none_missing, only_done, only_refused, read_cause, read_only}
 use Rattle.mg_merge.proofs.TextLaws.{size_of_sets}
@@ -127,6 +128,7 @@ returns-clause-joined g c =
     (λ a b both. subst (λ r. OnOk r (IsEmptied now new MergeA)) (sym (told a b both)) (made.merge_a (join a b, stands a b both)))
     (λ a b both. subst (λ r. OnOk r (IsEmptied now new MergeB)) (sym (told a b both)) (made.merge_b (join a b, stands a b both)))
     (subst (λ f. OthersSame new f now) same made.others)
+    (made.index ∙ outside_index _ _ unread)
     (λ a b both. subst (λ f. Left new f now (join a b)) same (made.left (join a b) (stands a b both)))
     (early_by_heads (fields_of one) (fields_of other) answer result _ c.answer_by_heads.ensures (early_at answer _ _ (λ untouched. record { files = untouched.files ∙ same; unread = untouched.unread ∙ unread }) made.early))
     (cause_by_heads answer result _ _ stand files loaded first second new one other rises stands sets c.in-Ok.ensures.heads made.refused c.answer_by_heads.ensures)

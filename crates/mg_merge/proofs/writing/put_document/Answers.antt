@@ -1,4 +1,4 @@
-use Rattle.std.proofs.Common.{arith, ◌≡◌, ◌<◌, ◌^◌, ◌+◌, ◌∙◌, ◌++◌, ◌∷◌, [], length, take, drop, get_or, sym, ap, subst, append-nil, rules, Some}
+use Rattle.std.proofs.Common.{arith, ◌≡◌, ◌<◌, ◌^◌, ◌+◌, ◌∙◌, ◌++◌, ◌∷◌, [], length, take, drop, get_or, refl, sym, ap, subst, append-nil, rules, Some}
 use Rattle.std.proofs.lemmas.List.{length-append, length-take, take_more, take_all}
 use Rattle.mg_dev.specs.Causes.{Rose}
 use Rattle.mg_dev.specs.Files.{file_at}
@@ -19,6 +19,7 @@ loop-byte-init g c = record {
   limit = search rules;
   head = c.requires.head;
   others = others_none _ _ _ (search rules);
+  reads = λ p. refl;
   later = omega arith;
 }
 
@@ -63,6 +64,7 @@ loop-byte-preserved g c =
       limit = c.in-Ok.ensures.limit ∙ so_far.limit;
       head = λ told. subst (λ base. file_at now (full_name base Head) ≡ Some []) so_far.base (c.in-Ok.ensures.head (still_told before middle so_far.others.told told));
       others = others_more c.args.writer.now.base before middle now so_far.others (subst (λ base. OthersSame base middle now) so_far.base c.in-Ok.ensures.others);
+      reads = λ p. c.in-Ok.ensures.reads p ∙ so_far.reads p;
       later = omega (arith, so_far.later, c.in-Ok.ensures.later);
     }
 
@@ -73,6 +75,9 @@ returns-in-Err-clause-others g c =
     let middle = g.S.Store.files c.loop-byte.store in
     let now = g.S.Store.files c.take.new.store in
     others_more c.args.writer.now.base before middle now so_far.others (subst (λ base. OthersSame base middle now) so_far.base c.in-Err.ensures.others)
+
+pub returns-in-Err-clause-reads : goal.returns-in-Err-clause-reads
+returns-in-Err-clause-reads g c = λ p. c.in-Err.ensures.reads p ∙ c.loop-byte.invariant.reads p
 
 pub returns-in-Err-clause-head : goal.returns-in-Err-clause-head
 returns-in-Err-clause-head g c = λ told.

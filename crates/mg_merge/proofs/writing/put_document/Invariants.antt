@@ -1,5 +1,5 @@
 use Rattle.std.proofs.Common.{◌≡◌, ◌≤◌, ◌++◌, ℕ, List, [], Some, IsSome, take}
-use Rattle.mg_dev.specs.Files.{file_at}
+use Rattle.mg_dev.specs.Files.{SameReads, file_at}
 use Rattle.mg_dev.specs.Names.{full_name}
 use Rattle.mg_dev.specs.declared.part.Part.TheVariants.{Head}
 use Rattle.mg_make.specs.Putting.{HasPut, OthersSame}
@@ -13,5 +13,6 @@ invariant-loop-byte g l = record {
   limit : l.writer.limit ≡ l.fn.writer.limit;
   head : IsSome (g.S.Store.files l.fn.store) → file_at (g.S.Store.files l.store) (full_name l.fn.writer.base Head) ≡ Some [];
   others : OthersSame l.fn.writer.base (g.S.Store.files l.fn.store) (g.S.Store.files l.store);
+  reads : SameReads (g.S.Store.reads l.fn.store) (g.S.Store.reads l.store);
   later : g.S.Store.faults l.fn.store ≤ g.S.Store.faults l.store;
 }

@@ -12,6 +12,7 @@ use Rattle.mg_make.proofs.CallerLemmas.{others_more, others_none, rose_behind}
 use Rattle.mg_merge.specs.Passes.{AreGiven}
 use Rattle.mg_merge.specs.Texts.{TextsStand, closed_document}
 use Rattle.mg_merge.proofs.GivenLaws.{first_next, given_each, given_nothing, given_one_more, short_next, too_much}
+use Rattle.mg_merge.proofs.LookLaws.{none_index, outside_index}
 use Rattle.mg_merge.proofs.PassLaws.{put_stops, second_differs, still_put, still_told}
 use Rattle.mg_merge.proofs.StayLaws.{apart_still, fits_stay, texts_stay}
 use Rattle.mg_merge.proofs.StopLaws.{read_wider}
@@ -27,6 +28,7 @@ loop-index-init g c = record {
   limit = search rules;
   head = c.requires.head;
   others = others_none _ _ _ (search rules);
+  index = search rules;
   later = omega arith;
   put = ([], given_nothing _ _ _ c.size-size.ensures, c.requires.nothing);
 }
@@ -52,6 +54,9 @@ returns-in-Err-clause-refused g c =
 
 pub returns-in-Err-clause-others : goal.returns-in-Err-clause-others
 returns-in-Err-clause-others g c = subst (λ f. OthersSame c.args.writer.now.base (g.S.Store.files c.args.store.now) f) (sym c.in-Err.ensures.looks.files) c.loop-index.invariant.others
+
+pub returns-in-Err-clause-index : goal.returns-in-Err-clause-index
+returns-in-Err-clause-index g c = outside_index _ _ c.in-Err.ensures.looks.unread ∙ c.loop-index.invariant.index
 
 pub returns-in-Err-clause-head : goal.returns-in-Err-clause-head
 returns-in-Err-clause-head g c = λ told. subst (λ f. file_at f (full_name c.args.writer.now.base Head) ≡ Some []) (sym c.in-Err.ensures.looks.files) (c.loop-index.invariant.head told)
@@ -81,6 +86,9 @@ returns-then-found-left-clause-refused g c = λ some.
 
 pub returns-then-found-left-clause-others : goal.returns-then-found-left-clause-others
 returns-then-found-left-clause-others g c = subst (λ f. OthersSame c.args.writer.now.base (g.S.Store.files c.args.store.now) f) (sym c.in-Ok.ensures.looks.files) c.loop-index.invariant.others
+
+pub returns-then-found-left-clause-index : goal.returns-then-found-left-clause-index
+returns-then-found-left-clause-index g c = outside_index _ _ c.in-Ok.ensures.looks.unread ∙ c.loop-index.invariant.index
 
 pub returns-then-found-left-clause-head : goal.returns-then-found-left-clause-head
 returns-then-found-left-clause-head g c = λ told. subst (λ f. file_at f (full_name c.args.writer.now.base Head) ≡ Some []) (sym c.in-Ok.ensures.looks.files) (c.loop-index.invariant.head told)
@@ -190,6 +198,10 @@ returns-in-Err-put_document-clause-others g c =
     let put_others : OthersSame base read now = subst (λ b. OthersSame b read now) so_far.base c.in-Err-put_document.ensures.others in
     others_more base before read now read_others put_others
 
+pub returns-in-Err-put_document-clause-index : goal.returns-in-Err-put_document-clause-index
+returns-in-Err-put_document-clause-index g c =
+    none_index _ _ c.in-Err-put_document.ensures.reads ∙ outside_index _ _ c.in-Ok.ensures.looks.unread ∙ c.loop-index.invariant.index
+
 pub returns-in-Err-put_document-clause-head : goal.returns-in-Err-put_document-clause-head
 returns-in-Err-put_document-clause-head g c = λ told.
     let so_far = c.loop-index.invariant in
@@ -237,6 +249,7 @@ loop-index-preserved g c =
       limit = c.in-Ok-put_document.ensures.limit ∙ so_far.limit;
       head = λ told. subst (λ b. file_at now (full_name b Head) ≡ Some []) so_far.base (c.in-Ok-put_document.ensures.head (still_told before read read_others.told told));
       others = others_more base before read now read_others put_others;
+      index = none_index _ _ c.in-Ok-put_document.ensures.reads ∙ outside_index _ _ c.in-Ok.ensures.looks.unread ∙ so_far.index;
       later = omega (arith, so_far.later, c.in-Ok.ensures.looks.later, c.in-Ok-put_document.ensures.later);
       put = (
         fed ++ held,

@@ -1,7 +1,8 @@
-use Rattle.std.proofs.Common.{arith, inl, inr, refl}
+use Rattle.std.proofs.Common.{arith, ◌∙◌, inl, inr, refl}
 use Rattle.mg_dev.specs.Causes.{Rose}
 use Rattle.mg_dev.specs.Moments.{store_at}
 use Rattle.mg_make.proofs.CallerLemmas.{rose_behind}
+use Rattle.mg_merge.proofs.LookLaws.{runs_index}
 use Rattle.mg_merge.proofs.PassLaws.{finish_stops, list_differs}
 use Rattle.mg_merge.proofs.WrittenLaws.{not_written, put_plan, was_ended}
 use Rattle.mg_merge.proofs.writing.write_started.Goals as goal
@@ -15,7 +16,7 @@ pub returns-in-Err : goal.returns-in-Err
 returns-in-Err g c = record {
   written = rw c.without.ensures (not_written _ _ c.args.writer.base (g.D.Documents.texts c.args.texts.now) _ _ _
       (λ collection stand. inr (inl (c.empty_heads_stand_for_none.ensures c.args.writer.base _ (c.in-Err.ensures.head stand.first.told))))
-      c.in-Err.ensures.others c.in-Err.ensures.later c.in-Err.ensures.refused);
+      c.in-Err.ensures.others c.in-Err.ensures.index c.in-Err.ensures.later c.in-Err.ensures.refused);
 }
 
 -- ---- all were put
@@ -33,7 +34,7 @@ returns-in-Ok-finish g c =
           (store_at g.S.Store.files g.S.Store.reads g.S.Store.faults c.put_documents.new.store) put.0 c.in-Ok.ensures.plan put.1 put.2 c.in-Ok.ensures.others _ _
           c.in-Ok.ensures.base c.in-Ok.ensures.limit
           c.in-Ok-finish.ensures.stands c.in-Ok-finish.ensures.summary c.in-Ok-finish.ensures.merge_a c.in-Ok-finish.ensures.merge_b c.in-Ok-finish.ensures.left
-          c.in-Ok-finish.ensures.others (omega (arith, c.in-Ok.ensures.later, c.in-Ok-finish.ensures.later)) tt;
+          c.in-Ok-finish.ensures.others (runs_index _ _ c.in-Ok-finish.ensures.reads ∙ c.in-Ok.ensures.index) (omega (arith, c.in-Ok.ensures.later, c.in-Ok-finish.ensures.later)) tt;
     }
 
 pub retold-requires : goal.retold-requires
@@ -49,7 +50,7 @@ returns-in-Err-finish g c =
       written = was_ended c.args.writer c.put_documents.new.writer texts before middle put.0 c.in-Ok.ensures.plan put.1 put.2 c.in-Ok.ensures.others _ _
           c.in-Ok.ensures.base c.in-Ok.ensures.limit
           (λ bytes told has is. tt) (λ bytes told has is. tt) (λ bytes told has is. tt) (λ bytes told has is. tt) c.in-Err-finish.ensures.left
-          c.in-Err-finish.ensures.others (omega (arith, c.in-Ok.ensures.later, c.in-Err-finish.ensures.later))
+          c.in-Err-finish.ensures.others (runs_index _ _ c.in-Err-finish.ensures.reads ∙ c.in-Ok.ensures.index) (omega (arith, c.in-Ok.ensures.later, c.in-Err-finish.ensures.later))
           (finish_stops (Rose (g.S.Store.faults c.put_documents.new.store) (g.S.Store.faults c.finish.new.store)) _ _ _ c.in-Err-finish.refusal c.retold.result
           (λ rose. rose_behind _ _ _ c.in-Ok.ensures.later rose)
           (λ some. put_plan c.args.writer c.put_documents.new.writer texts before middle put.0 c.in-Ok.ensures.plan put.1 put.2 c.in-Ok.ensures.others some.0 some.1 some.2)
