@@ -35,6 +35,9 @@ pass_both w0 w1 w2 p0 p1 p2 x y one two = record {
   whole = append_assoc one.sent two.sent p2 ∙ ap (λ t. one.sent ++ t) two.whole ∙ sym (append_assoc one.sent p1 y) ∙ ap (λ t. t ++ y) one.whole ∙ append_assoc p0 x y;
 }
 
+pub both_passed : {w0 w1 w2 : Option (List ℕ)} {p0 p1 p2 x y : List ℕ} → Passed w0 w1 p0 p1 x → Passed w1 w2 p1 p2 y → Passed w0 w2 p0 p2 (x ++ y)
+both_passed {w0} {w1} {w2} {p0} {p1} {p2} {x} {y} = pass_both w0 w1 w2 p0 p1 p2 x y
+
 -- the bytes after them were refused
 pub pass_cut : (w0 w1 w2 : Option (List ℕ)) (p0 p1 x y : List ℕ) → Passed w0 w1 p0 p1 x → GrewByPrefix w1 w2 (p1 ++ y) → GrewByPrefix w0 w2 (p0 ++ (x ++ y))
 pass_cut w0 w1 w2 p0 p1 x y one grew =
@@ -43,6 +46,10 @@ pass_cut w0 w1 w2 p0 p1 x y one grew =
 pub pass_more : {T E : Type 0} (w0 w1 w2 : Option (List ℕ)) (p0 p1 p2 x y : List ℕ) (r : Result T E) → Passed w0 w1 p0 p1 x → AfterPass w1 w2 p1 p2 y r → AfterPass w0 w2 p0 p2 (x ++ y) r
 pass_more w0 w1 w2 p0 p1 p2 x y (Ok t) one two = pass_both w0 w1 w2 p0 p1 p2 x y one two
 pass_more w0 w1 w2 p0 p1 p2 x y (Err e) one grew = pass_cut w0 w1 w2 p0 p1 x y one grew
+
+pub then_passes : {T E : Type 0} {w0 w1 : Option (List ℕ)} {p0 p1 x : List ℕ} (w2 : Option (List ℕ)) (p2 y : List ℕ) (r : Result T E) → Passed w0 w1 p0 p1 x →
+    AfterPass w1 w2 p1 p2 y r → AfterPass w0 w2 p0 p2 (x ++ y) r
+then_passes {w0} {w1} {p0} {p1} {x} w2 p2 y r = pass_more w0 w1 w2 p0 p1 p2 x y r
 
 -- the first of them were refused
 pub pass_part : (w0 w1 : Option (List ℕ)) (p x y : List ℕ) → GrewByPrefix w0 w1 (p ++ x) → GrewByPrefix w0 w1 (p ++ (x ++ y))

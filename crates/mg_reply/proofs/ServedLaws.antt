@@ -47,11 +47,11 @@ abbrev pub Joins : {A : Type 0} → (A → A → List Question → Type 0) → T
 Joins {A} After = (s t u : A) (xs ys : List Question) → After s t xs → After t u ys → After s u (xs ++ ys)
 
 -- a line more
-pub served_line : {A : Type 0} (hearing : Hearing) (After : A → A → List Question → Type 0) (old new next : A) (reply : Settings → List ℕ → List ℕ)
-    (before left left2 w0 w1 w2 : Option (List ℕ)) (now after : Settings) (line text : List ℕ) (asking : List Question) (size : ℕ) → Joins After →
+pub served_line : {A : Type 0} {hearing : Hearing} {After : A → A → List Question → Type 0} {old new next : A} {reply : Settings → List ℕ → List ℕ}
+    {before left left2 w0 w1 w2 : Option (List ℕ)} {now after : Settings} {line text : List ℕ} {asking : List Question} {size : ℕ} → Joins After →
     Served hearing After old new reply before left w0 w1 now → IsFirst line size left left2 → Gives hearing reply now line text asking after →
     After new next asking → w2 ≡ appended w1 text → Served hearing After old next reply before left2 w0 w2 after
-served_line hearing After old new next reply before left left2 w0 w1 w2 now after line text asking size joins s first gives step given = record {
+served_line {hearing} {old} {new} {next} {reply} {left} {left2} {w0} {now} {after} {line} {text} {asking} {size} joins s first gives step given = record {
   done = s.done ++ text;
   answered = s.answered ++ asking;
   given = given ∙ ap (λ w. appended w text) s.given ∙ appended-appended w0 s.done text;
@@ -70,12 +70,12 @@ served_line hearing After old new next reply before left left2 w0 w1 w2 now afte
 }
 
 -- a part of a line's text
-pub served_part : {A : Type 0} (hearing : Hearing) (After : A → A → List Question → Type 0) (old new : A) (reply : Settings → List ℕ → List ℕ)
-    (before left next w0 w1 w2 : Option (List ℕ)) (now after : Settings) (line text : List ℕ) (asking : List Question) (size : ℕ) →
+pub served_part : {A : Type 0} {hearing : Hearing} {After : A → A → List Question → Type 0} {old new : A} {reply : Settings → List ℕ → List ℕ}
+    {before left next w0 w1 w2 : Option (List ℕ)} {now after : Settings} {line text : List ℕ} {asking : List Question} {size : ℕ} →
     Served hearing After old new reply before left w0 w1 now → IsFirst line size left next → Gives hearing reply now line text asking after →
     GrewByPrefix w1 w2 text → (all : List ℕ) → before ≡ Some all → GrewByPrefix w0 w2 (heard_session hearing reply all)
 unfolding heard_session
-served_part hearing After old new reply before left next w0 w1 w2 now after line text asking size s first gives grew all told =
+served_part {hearing} {reply} {left} {next} {w0} {w1} {w2} {now} {after} {line} {text} {size} s first gives grew all told =
     let r = s.goes_on all told in
     let f = first_line line r.rest size left next first r.told in
     let e : replies hearing reply first_settings (lines all) ≡ s.done ++ (text ++ replies hearing reply after (lines f.0)) =
@@ -83,20 +83,20 @@ served_part hearing After old new reply before left next w0 w1 w2 now after line
     subst (GrewByPrefix w0 w2) (sym e) (grew_second w0 w1 w2 s.done (text ++ replies hearing reply after (lines f.0)) s.given (grew_first w1 w2 text (replies hearing reply after (lines f.0)) grew))
 
 -- what was printed so far
-pub served_some : {A : Type 0} (hearing : Hearing) (After : A → A → List Question → Type 0) (old new : A) (reply : Settings → List ℕ → List ℕ)
-    (before left w0 w1 : Option (List ℕ)) (now : Settings) → Served hearing After old new reply before left w0 w1 now → (all : List ℕ) → before ≡ Some all →
+pub served_some : {A : Type 0} {hearing : Hearing} {After : A → A → List Question → Type 0} {old new : A} {reply : Settings → List ℕ → List ℕ}
+    {before left w0 w1 : Option (List ℕ)} {now : Settings} → Served hearing After old new reply before left w0 w1 now → (all : List ℕ) → before ≡ Some all →
     GrewByPrefix w0 w1 (heard_session hearing reply all)
 unfolding heard_session
-served_some hearing After old new reply before left w0 w1 now s all told =
+served_some {hearing} {reply} {w0} {w1} {now} s all told =
     let r = s.goes_on all told in
     subst (GrewByPrefix w0 w1) (sym r.goes_on) (grew_second w0 w1 w1 s.done (replies hearing reply now (lines r.rest)) s.given (grew_nothing w1 (replies hearing reply now (lines r.rest))))
 
 -- the queries answered so far
-pub served_asked : {A : Type 0} (hearing : Hearing) (After : A → A → List Question → Type 0) (old new : A) (reply : Settings → List ℕ → List ℕ)
-    (before left w0 w1 : Option (List ℕ)) (now : Settings) → Served hearing After old new reply before left w0 w1 now →
+pub served_asked : {A : Type 0} {hearing : Hearing} {After : A → A → List Question → Type 0} {old new : A} {reply : Settings → List ℕ → List ℕ}
+    {before left w0 w1 : Option (List ℕ)} {now : Settings} → Served hearing After old new reply before left w0 w1 now →
     AnsweredSome hearing After old new before
 unfolding heard_questions
-served_asked hearing After old new reply before left w0 w1 now s = record {
+served_asked {hearing} {now} s = record {
   answered = s.answered;
   after = s.after;
   first = λ all told. let r = s.goes_on all told in (questions hearing now (lines r.rest), r.asks);
@@ -109,22 +109,22 @@ nothing left rest told end =
     let e = sym told ∙ end is_told in cc
 
 -- the input is at its end
-pub served_all : {A : Type 0} (hearing : Hearing) (After : A → A → List Question → Type 0) (old new : A) (reply : Settings → List ℕ → List ℕ)
-    (before left w0 w1 : Option (List ℕ)) (now : Settings) → Served hearing After old new reply before left w0 w1 now → IsAtEnd left → (all : List ℕ) →
+pub served_all : {A : Type 0} {hearing : Hearing} {After : A → A → List Question → Type 0} {old new : A} {reply : Settings → List ℕ → List ℕ}
+    {before left w0 w1 : Option (List ℕ)} {now : Settings} → Served hearing After old new reply before left w0 w1 now → IsAtEnd left → (all : List ℕ) →
     before ≡ Some all → w1 ≡ appended w0 (heard_session hearing reply all)
 unfolding heard_session replies
-served_all hearing After old new reply before left w0 w1 now s end all told =
+served_all {hearing} {reply} {left} {w0} {now} s end all told =
     let r = s.goes_on all told in
     let none = nothing left r.rest r.told end in
     s.given ∙ ap (appended w0) (sym (r.goes_on ∙ ap (λ x. s.done ++ replies hearing reply now (lines x)) none ∙ append-nil s.done))
 
 -- a line ends it
-pub served_quit : {A : Type 0} (hearing : Hearing) (After : A → A → List Question → Type 0) (old new : A) (reply : Settings → List ℕ → List ℕ)
-    (before left next w0 w1 : Option (List ℕ)) (now : Settings) (line : List ℕ) (size : ℕ) → Served hearing After old new reply before left w0 w1 now →
+pub served_quit : {A : Type 0} {hearing : Hearing} {After : A → A → List Question → Type 0} {old new : A} {reply : Settings → List ℕ → List ℕ}
+    {before left next w0 w1 : Option (List ℕ)} {now : Settings} {line : List ℕ} {size : ℕ} → Served hearing After old new reply before left w0 w1 now →
     IsFirst line size left next → length line ≤ 1024 → stops (read now line) ≡ true → (all : List ℕ) → before ≡ Some all →
     w1 ≡ appended w0 (heard_session hearing reply all)
 unfolding heard_session
-served_quit hearing After old new reply before left next w0 w1 now line size s first short quits all told =
+served_quit {hearing} {reply} {left} {next} {w0} {now} {line} {size} s first short quits all told =
     let r = s.goes_on all told in
     let f = first_line line r.rest size left next first r.told in
     let none = gives_end hearing reply now line (lines f.0) short quits in
@@ -171,33 +171,33 @@ answered_gives hearing reply answering now line cut a goes =
     let goes2 : stops (read now line) ≡ false = ap (λ l. stops (command l now)) (sym a.cut_is) ∙ goes in
     subst (λ r. P r cut) (sym a.same) (subst (λ l. P reply l) (sym a.cut_is) (gives_line hearing reply now line a.short goes2))
 
-pub answered_quits : {A : Type 0} (hearing : Hearing) (After : A → A → List Question → Type 0) (old new : A) (reply answering : Settings → List ℕ → List ℕ)
-    (before left next w0 w1 w2 : Option (List ℕ)) (now : Settings) (line cut : List ℕ) (size : ℕ) → Served hearing After old new reply before left w0 w1 now →
-    IsFirst line size left next → Answered reply answering now line cut → stops (command cut now) ≡ true → w2 ≡ appended w1 (answer hearing answering now cut) →
-    (all : List ℕ) → before ≡ Some all → w2 ≡ appended w0 (heard_session hearing reply all)
-answered_quits hearing After old new reply answering before left next w0 w1 w2 now line cut size s first a quits given all told =
+pub answered_quits : {A : Type 0} {hearing : Hearing} {After : A → A → List Question → Type 0} {old new : A} {reply answering : Settings → List ℕ → List ℕ}
+    {before left next w0 w1 w2 : Option (List ℕ)} {now : Settings} {line cut : List ℕ} {size : ℕ} →
+    Served hearing After old new reply before left w0 w1 now → IsFirst line size left next → Answered reply answering now line cut →
+    stops (command cut now) ≡ true → w2 ≡ appended w1 (answer hearing answering now cut) → (all : List ℕ) → before ≡ Some all →
+    w2 ≡ appended w0 (heard_session hearing reply all)
+answered_quits {hearing} {answering} {w1} {now} {line} {cut} s first a quits given all told =
     let quits2 : stops (read now line) ≡ true = ap (λ l. stops (command l now)) (sym a.cut_is) ∙ quits in
     given ∙ ap (appended w1) ((no_text answering bad_command now cut (heard hearing now cut) (stops_heard hearing (command cut now) ∙ quits)).0)
-    ∙ appended-nil w1 ∙ served_quit hearing After old new reply before left next w0 w1 now line size s first a.short quits2 all told
+    ∙ appended-nil w1 ∙ served_quit s first a.short quits2 all told
 
 -- all of it is a prefix of it
 pub all_grew : (w0 w1 : Option (List ℕ)) (text : List ℕ) → w1 ≡ appended w0 text → GrewByPrefix w0 w1 text
 all_grew w0 w1 text e = record { count = length text; within = omega arith; is = e ∙ ap (appended w0) (sym (take-length text)) }
 
 -- a refused answer: it printed a part of its text, whatever the line was to do
-pub answered_part : {A : Type 0} (hearing : Hearing) (After : A → A → List Question → Type 0) (old new : A) (reply answering : Settings → List ℕ → List ℕ)
-    (before left next w0 w1 w2 : Option (List ℕ)) (now : Settings) (line cut : List ℕ) (size : ℕ) → Served hearing After old new reply before left w0 w1 now →
-    IsFirst line size left next → Answered reply answering now line cut → GrewByPrefix w1 w2 (answer hearing answering now cut) → (all : List ℕ) →
-    before ≡ Some all → GrewByPrefix w0 w2 (heard_session hearing reply all)
-answered_part hearing After old new reply answering before left next w0 w1 w2 now line cut size s first a grew all told =
+pub answered_part : {A : Type 0} {hearing : Hearing} {After : A → A → List Question → Type 0} {old new : A} {reply answering : Settings → List ℕ → List ℕ}
+    {before left next w0 w1 w2 : Option (List ℕ)} {now : Settings} {line cut : List ℕ} {size : ℕ} →
+    Served hearing After old new reply before left w0 w1 now → IsFirst line size left next → Answered reply answering now line cut →
+    GrewByPrefix w1 w2 (answer hearing answering now cut) → (all : List ℕ) → before ≡ Some all → GrewByPrefix w0 w2 (heard_session hearing reply all)
+answered_part {hearing} {reply} {answering} {w0} {w1} {w2} {now} {line} {cut} s first a grew all told =
     elim (cases_Bool (stops (command cut now))) [
       | inl quits ↦
           let none : answer hearing answering now cut ≡ [] = (no_text answering bad_command now cut (heard hearing now cut) (stops_heard hearing (command cut now) ∙ quits)).0 in
           let g : GrewByPrefix w1 w2 [] = subst (GrewByPrefix w1 w2) none grew in
           let same : w2 ≡ w1 = g.is ∙ ap (appended w1) (take-none g.count) ∙ appended-nil w1 in
-          subst (λ w. GrewByPrefix w0 w (heard_session hearing reply all)) (sym same) (served_some hearing After old new reply before left w0 w1 now s all told)
-      | inr goes ↦ served_part hearing After old new reply before left next w0 w1 w2 now (settings_after now (heard hearing now cut)) line
-          (answer hearing answering now cut) (asked_by now cut (heard hearing now cut)) size s first
+          subst (λ w. GrewByPrefix w0 w (heard_session hearing reply all)) (sym same) (served_some s all told)
+      | inr goes ↦ served_part s first
           (answered_gives hearing reply answering now line cut a goes) grew all told
     ]
   where
@@ -206,12 +206,12 @@ answered_part hearing After old new reply answering before left next w0 w1 w2 no
     take-none (suc n) = refl
 
 -- the queries answered, those of the line that was answered last among them
-pub answered_asked : {A : Type 0} (hearing : Hearing) (After : A → A → List Question → Type 0) (old new next : A) (reply answering : Settings → List ℕ → List ℕ)
-    (before left left2 w0 w1 : Option (List ℕ)) (now : Settings) (line cut : List ℕ) (size : ℕ) → Joins After →
-    Served hearing After old new reply before left w0 w1 now → IsFirst line size left left2 → Answered reply answering now line cut →
+pub answered_asked : {A : Type 0} {hearing : Hearing} {After : A → A → List Question → Type 0} {old new next : A}
+    {reply answering : Settings → List ℕ → List ℕ} {before left left2 w0 w1 : Option (List ℕ)} {now : Settings} {line cut : List ℕ} {size : ℕ} →
+    Joins After → Served hearing After old new reply before left w0 w1 now → IsFirst line size left left2 → Answered reply answering now line cut →
     After new next (asked_by now cut (heard hearing now cut)) → AnsweredSome hearing After old next before
 unfolding heard_questions
-answered_asked hearing After old new next reply answering before left left2 w0 w1 now line cut size joins s first a step = record {
+answered_asked {hearing} {old} {new} {next} {reply} {answering} {left} {left2} {now} {line} {cut} {size} joins s first a step = record {
   answered = s.answered ++ asked_by now cut (heard hearing now cut);
   after = joins old new next s.answered (asked_by now cut (heard hearing now cut)) s.after step;
   first = λ all told.

@@ -17,16 +17,16 @@ lines-init g c = rw c.new-reader.ensures (record {
 })
 
 pub returns-in-Err-Read-clause-prefix : goal.returns-in-Err-Read-clause-prefix
-returns-in-Err-Read-clause-prefix g c = λ reply answers all told. served_some _ _ _ _ _ _ _ _ _ _ (c.lines.invariant.served reply answers) all told
+returns-in-Err-Read-clause-prefix g c = λ reply answers all told. served_some (c.lines.invariant.served reply answers) all told
 
 pub returns-in-Err-Read-clause-answered : goal.returns-in-Err-Read-clause-answered
-returns-in-Err-Read-clause-answered g c = served_asked _ _ _ _ _ _ _ _ _ _ c.lines.invariant.asked
+returns-in-Err-Read-clause-answered g c = served_asked c.lines.invariant.asked
 
 pub returns-in-Err-TooMuch-clause-prefix : goal.returns-in-Err-TooMuch-clause-prefix
-returns-in-Err-TooMuch-clause-prefix g c = λ reply answers all told. served_some _ _ _ _ _ _ _ _ _ _ (c.lines.invariant.served reply answers) all told
+returns-in-Err-TooMuch-clause-prefix g c = λ reply answers all told. served_some (c.lines.invariant.served reply answers) all told
 
 pub returns-in-Err-TooMuch-clause-answered : goal.returns-in-Err-TooMuch-clause-answered
-returns-in-Err-TooMuch-clause-answered g c = served_asked _ _ _ _ _ _ _ _ _ _ c.lines.invariant.asked
+returns-in-Err-TooMuch-clause-answered g c = served_asked c.lines.invariant.asked
 
 pub returns-in-Err-TooMuch-clause-cause : goal.returns-in-Err-TooMuch-clause-cause
 returns-in-Err-TooMuch-clause-cause g c = λ all told.
@@ -36,10 +36,10 @@ returns-in-Err-TooMuch-clause-cause g c = λ all told.
 pub returns-in-End-clause-all : goal.returns-in-End-clause-all
 returns-in-End-clause-all g c = λ reply answers all told.
     let line = rw c.in-End.is at c.in-Ok.ensures.line in
-    served_all _ _ _ _ _ _ _ _ _ _ (c.lines.invariant.served reply answers) line.0 all told
+    served_all (c.lines.invariant.served reply answers) line.0 all told
 
 pub returns-in-End-clause-prefix : goal.returns-in-End-clause-prefix
-returns-in-End-clause-prefix g c = λ reply answers all told. served_some _ _ _ _ _ _ _ _ _ _ (c.lines.invariant.served reply answers) all told
+returns-in-End-clause-prefix g c = λ reply answers all told. served_some (c.lines.invariant.served reply answers) all told
 
 pub returns-in-End-clause-left : goal.returns-in-End-clause-left
 returns-in-End-clause-left g c = λ all told.
@@ -52,16 +52,16 @@ returns-in-End-clause-within g c = λ all told.
     counted_all _ _ _ c.lines.invariant.counted line.0 c.lines.invariant.used all told
 
 pub returns-in-End-clause-answered : goal.returns-in-End-clause-answered
-returns-in-End-clause-answered g c = served_asked _ _ _ _ _ _ _ _ _ _ c.lines.invariant.asked
+returns-in-End-clause-answered g c = served_asked c.lines.invariant.asked
 
 pub lines-preserved-in-Ok-put_too_long : goal.lines-preserved-in-Ok-put_too_long
 lines-preserved-in-Ok-put_too_long g c =
     let line = rw c.in-TooLong.is at c.in-Ok.ensures.line in
     record {
       fits = c.lines.invariant.fits;
-      asked = served_line _ _ _ _ _ _ _ _ _ None None None _ _ _ _ _ _ g.met.A.Answerer.after_more c.lines.invariant.asked line.2
+      asked = served_line g.met.A.Answerer.after_more c.lines.invariant.asked line.2
           (gives_long _ _ _ line.0 line.3) (g.met.A.Answerer.after_none (g.A.Answerer.state c.lines.answerer c.lines.dev)) (none_appended _);
-      served = λ reply answers. served_line _ _ _ _ _ _ _ _ _ _ _ _ _ _ _ _ _ _ g.met.A.Answerer.after_more (c.lines.invariant.served reply answers) line.2
+      served = λ reply answers. served_line g.met.A.Answerer.after_more (c.lines.invariant.served reply answers) line.2
           (gives_long _ _ _ line.0 line.3) (g.met.A.Answerer.after_none (g.A.Answerer.state c.lines.answerer c.lines.dev)) c.in-Ok-put_too_long.ensures.content;
       counted = counted_line _ _ _ _ _ _ _ c.lines.invariant.counted line.2 (goes_long line.0 line.3) line.4;
       used = line.5;
@@ -72,10 +72,10 @@ lines-preserved-in-Ok-put_too_long g c =
 pub returns-in-Err-clause-prefix : goal.returns-in-Err-clause-prefix
 returns-in-Err-clause-prefix g c = λ reply answers all told.
     let line = rw c.in-TooLong.is at c.in-Ok.ensures.line in
-    served_part _ _ _ _ _ _ _ _ _ _ _ _ _ _ _ _ _ (c.lines.invariant.served reply answers) line.2 (gives_long _ _ _ line.0 line.3) c.in-Err.ensures.content all told
+    served_part (c.lines.invariant.served reply answers) line.2 (gives_long _ _ _ line.0 line.3) c.in-Err.ensures.content all told
 
 pub returns-in-Err-clause-answered : goal.returns-in-Err-clause-answered
-returns-in-Err-clause-answered g c = served_asked _ _ _ _ _ _ _ _ _ _ c.lines.invariant.asked
+returns-in-Err-clause-answered g c = served_asked c.lines.invariant.asked
 
 pub serve_line-requires-clause-short : goal.serve_line-requires-clause-short
 serve_line-requires-clause-short g c =
@@ -85,14 +85,14 @@ serve_line-requires-clause-short g c =
 pub returns-in-Ok-true-clause-all : goal.returns-in-Ok-true-clause-all
 returns-in-Ok-true-clause-all g c = λ reply answers all told.
     let line = rw c.in-Line.is at c.in-Ok.ensures.line in
-    answered_quits _ _ _ _ _ _ _ _ _ _ _ _ _ _ _ _ (c.lines.invariant.served reply answers) line.1 (record { same = refl; cut_is = c.line.ensures; short = line.2 })
+    answered_quits (c.lines.invariant.served reply answers) line.1 (record { same = refl; cut_is = c.line.ensures; short = line.2 })
     (sym c.in-Ok-true.ensures.stops ∙ c.in-Ok-true.field-0-test)
     (c.in-Ok-true.ensures.text reply (g.met.A.Answerer.same_reply _ _ _ reply (c.lines.invariant.served reply answers).after answers)) all told
 
 pub returns-in-Ok-true-clause-prefix : goal.returns-in-Ok-true-clause-prefix
 returns-in-Ok-true-clause-prefix g c = λ reply answers all told.
     let line = rw c.in-Line.is at c.in-Ok.ensures.line in
-    all_grew _ _ _ (answered_quits _ _ _ _ _ _ _ _ _ _ _ _ _ _ _ _ (c.lines.invariant.served reply answers) line.1 (record { same = refl; cut_is = c.line.ensures; short = line.2 })
+    all_grew _ _ _ (answered_quits (c.lines.invariant.served reply answers) line.1 (record { same = refl; cut_is = c.line.ensures; short = line.2 })
     (sym c.in-Ok-true.ensures.stops ∙ c.in-Ok-true.field-0-test)
     (c.in-Ok-true.ensures.text reply (g.met.A.Answerer.same_reply _ _ _ reply (c.lines.invariant.served reply answers).after answers)) all told)
 
@@ -109,7 +109,7 @@ returns-in-Ok-true-clause-within g c = λ all told.
 pub returns-in-Ok-true-clause-answered : goal.returns-in-Ok-true-clause-answered
 returns-in-Ok-true-clause-answered g c =
     let line = rw c.in-Line.is at c.in-Ok.ensures.line in
-    answered_asked _ _ _ _ _ _ _ _ _ _ _ _ _ _ _ _ g.met.A.Answerer.after_more c.lines.invariant.asked line.1
+    answered_asked g.met.A.Answerer.after_more c.lines.invariant.asked line.1
     (record { same = refl; cut_is = c.line.ensures; short = line.2 }) c.in-Ok-true.ensures.after
 
 pub lines-preserved : goal.lines-preserved
@@ -117,10 +117,10 @@ lines-preserved g c =
     let line = rw c.in-Line.is at c.in-Ok.ensures.line in
     record {
       fits = c.in-Ok-false.ensures.fits;
-      asked = rw c.in-Ok-false.ensures.settings (served_line _ _ _ _ _ _ _ _ _ None None None _ _ _ _ _ _ g.met.A.Answerer.after_more c.lines.invariant.asked line.1
+      asked = rw c.in-Ok-false.ensures.settings (served_line g.met.A.Answerer.after_more c.lines.invariant.asked line.1
           (answered_gives _ silent silent _ _ _ (record { same = refl; cut_is = c.line.ensures; short = line.2 }) (sym c.in-Ok-false.ensures.stops ∙ c.in-Ok-false.field-0-test))
           c.in-Ok-false.ensures.after (none_appended _));
-      served = λ reply answers. rw c.in-Ok-false.ensures.settings (served_line _ _ _ _ _ _ _ _ _ _ _ _ _ _ _ _ _ _ g.met.A.Answerer.after_more (c.lines.invariant.served reply answers) line.1
+      served = λ reply answers. rw c.in-Ok-false.ensures.settings (served_line g.met.A.Answerer.after_more (c.lines.invariant.served reply answers) line.1
           (answered_gives _ reply reply _ _ _ (record { same = refl; cut_is = c.line.ensures; short = line.2 }) (sym c.in-Ok-false.ensures.stops ∙ c.in-Ok-false.field-0-test))
           c.in-Ok-false.ensures.after (c.in-Ok-false.ensures.text reply (g.met.A.Answerer.same_reply _ _ _ reply (c.lines.invariant.served reply answers).after answers)));
       counted = counted_line _ _ _ _ _ _ _ c.lines.invariant.counted line.1 (quit_is _ _ _ _ line.2 c.line.ensures c.in-Ok-false.ensures.stops ∙ c.in-Ok-false.field-0-test) line.3;
@@ -132,14 +132,14 @@ lines-preserved g c =
 pub returns-in-Err-serve_line-clause-prefix : goal.returns-in-Err-serve_line-clause-prefix
 returns-in-Err-serve_line-clause-prefix g c = λ reply answers all told.
     let line = rw c.in-Line.is at c.in-Ok.ensures.line in
-    answered_part _ _ _ _ _ _ _ _ _ _ _ _ _ _ _ _ (c.lines.invariant.served reply answers) line.1
+    answered_part (c.lines.invariant.served reply answers) line.1
     (record { same = refl; cut_is = c.line.ensures; short = line.2 })
     (c.in-Err-serve_line.ensures.text reply (g.met.A.Answerer.same_reply _ _ _ reply (c.lines.invariant.served reply answers).after answers)) all told
 
 pub returns-in-Err-serve_line-clause-answered : goal.returns-in-Err-serve_line-clause-answered
 returns-in-Err-serve_line-clause-answered g c =
     let line = rw c.in-Line.is at c.in-Ok.ensures.line in
-    answered_asked _ _ _ _ _ _ _ _ _ _ _ _ _ _ _ _ g.met.A.Answerer.after_more c.lines.invariant.asked line.1
+    answered_asked g.met.A.Answerer.after_more c.lines.invariant.asked line.1
     (record { same = refl; cut_is = c.line.ensures; short = line.2 }) c.in-Err-serve_line.ensures.after
 
 pub returns-in-Err-Read-clause-in_turn : goal.returns-in-Err-Read-clause-in_turn

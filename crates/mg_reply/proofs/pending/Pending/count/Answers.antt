@@ -1,12 +1,12 @@
 use Rattle.std.proofs.Common.{codes, None}
 use Rattle.mg_defs.specs.Texts.{row}
-use Rattle.mg_reply.proofs.PendingLaws.{pass_more, pass_part}
+use Rattle.mg_reply.proofs.PendingLaws.{then_passes, pass_part}
 use Rattle.mg_defs.specs.Texts.{count}
 use Rattle.mg_reply.proofs.pending.Pending.count.Goals as goal
 
 pub returns-in-Ok-clause-content : goal.returns-in-Ok-clause-content
 unfolding count
-returns-in-Ok-clause-content g c = pass_more _ _ _ _ _ _ _ _ _ c.in-Ok.ensures.content c.row.ensures.content
+returns-in-Ok-clause-content g c = then_passes _ _ _ _ c.in-Ok.ensures.content c.row.ensures.content
 
 pub returns-in-Err-clause-content : goal.returns-in-Err-clause-content
 unfolding count
