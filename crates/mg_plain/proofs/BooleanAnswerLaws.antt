@@ -32,10 +32,10 @@ so_far_start collection q now w = record {
   passed = subst (λ xs. Passed w w [] [] (flat_map (shown collection now.mode) xs)) (sym (none_first now.most)) (pass_nothing w []);
 }
 
-pub so_far_miss : (collection : List ℕ) (q : Query) (now : Settings) (w0 w : Option (List ℕ)) (waiting : List ℕ) (number total : ℕ) (doc : List ℕ)
-    (before rest : List (List ℕ)) → FoundSoFar collection q now w0 w waiting number total before → before ≡ doc ∷ rest → satisfies q doc ≡ false →
+pub so_far_miss : {collection : List ℕ} {q : Query} {now : Settings} {w0 w : Option (List ℕ)} {waiting : List ℕ} {number total : ℕ} {doc : List ℕ}
+    {before rest : List (List ℕ)} → FoundSoFar collection q now w0 w waiting number total before → before ≡ doc ∷ rest → satisfies q doc ≡ false →
     FoundSoFar collection q now w0 w waiting (number + 1) total rest
-so_far_miss collection q now w0 w waiting number total doc before rest s e miss = record {
+so_far_miss {q} {number} {doc} {rest} s e miss = record {
   front = s.front ++ doc ∷ [];
   docs_is = s.docs_is ∙ ap (λ r. s.front ++ r) e ∙ sym (append_assoc s.front (doc ∷ []) rest);
   count = omega (arith, length-append s.front (doc ∷ []), s.count);
@@ -45,16 +45,17 @@ so_far_miss collection q now w0 w waiting number total doc before rest s e miss 
   passed = s.passed;
 }
 
-is_there : (collection : List ℕ) (q : Query) (now : Settings) (w0 w : Option (List ℕ)) (waiting : List ℕ) (number total : ℕ) (doc : List ℕ)
-    (before rest : List (List ℕ)) → FoundSoFar collection q now w0 w waiting number total before → before ≡ doc ∷ rest → document collection (number + 1) ≡ doc
-is_there collection q now w0 w waiting number total doc before rest s e =
+is_there : {collection : List ℕ} {q : Query} {now : Settings} {w0 w : Option (List ℕ)} {waiting : List ℕ} {number total : ℕ} {doc : List ℕ}
+    {before rest : List (List ℕ)} → FoundSoFar collection q now w0 w waiting number total before → before ≡ doc ∷ rest →
+    document collection (number + 1) ≡ doc
+is_there {collection} {number} {doc} {rest} s e =
     document_at collection doc s.front rest (number + 1) (s.docs_is ∙ ap (λ r. s.front ++ r) e) (omega (arith, s.count))
 
-pub so_far_hit : (collection : List ℕ) (q : Query) (now : Settings) (w0 w w2 : Option (List ℕ)) (waiting waiting2 : List ℕ) (number total : ℕ) (doc : List ℕ)
-    (before rest : List (List ℕ)) → FoundSoFar collection q now w0 w waiting number total before → before ≡ doc ∷ rest → satisfies q doc ≡ true →
-    Passed w w2 waiting waiting2 (hit_text doc now.mode now.most total (plain (number + 1))) →
+pub so_far_hit : {collection : List ℕ} {q : Query} {now : Settings} {w0 w w2 : Option (List ℕ)} {waiting waiting2 : List ℕ} {number total : ℕ}
+    {doc : List ℕ} {before rest : List (List ℕ)} → FoundSoFar collection q now w0 w waiting number total before → before ≡ doc ∷ rest →
+    satisfies q doc ≡ true → Passed w w2 waiting waiting2 (hit_text doc now.mode now.most total (plain (number + 1))) →
     FoundSoFar collection q now w0 w2 waiting2 (number + 1) (total + 1) rest
-so_far_hit collection q now w0 w w2 waiting waiting2 number total doc before rest s e hit given =
+so_far_hit {collection} {q} {now} {w0} {w} {w2} {waiting} {waiting2} {number} {total} {doc} {rest} s e hit given =
     let whole : Passed w0 w2 [] waiting2 (flat_map (shown collection now.mode) (limited_to now.most s.so_far) ++ hit_text doc now.mode now.most total (plain (number + 1))) =
     pass_both w0 w w2 [] waiting waiting2 (flat_map (shown collection now.mode) (limited_to now.most s.so_far)) (hit_text doc now.mode now.most total (plain (number + 1))) s.passed given in
     record {
@@ -66,22 +67,22 @@ so_far_hit collection q now w0 w w2 waiting waiting2 number total doc before res
           ∙ sym (append_assoc s.so_far (plain (number + 1) ∷ []) (found q (number + 1 + 1) rest));
       total_is = omega (arith, length-append s.so_far (plain (number + 1) ∷ []), s.total_is);
       passed = subst (Passed w0 w2 [] waiting2) (sym (hit_adds collection now doc s.so_far (plain (number + 1)) total
-          (is_there collection q now w0 w waiting number total doc before rest s e) s.total_is)) whole;
+          (is_there s e) s.total_is)) whole;
     }
 
 -- a refused hit: what was printed is a prefix of the reply
-pub so_far_part : (collection : List ℕ) (q : Query) (now : Settings) (w0 w w2 : Option (List ℕ)) (waiting : List ℕ) (number total : ℕ) (doc : List ℕ)
-    (before rest : List (List ℕ)) → FoundSoFar collection q now w0 w waiting number total before → before ≡ doc ∷ rest → satisfies q doc ≡ true →
+pub so_far_part : {collection : List ℕ} {q : Query} {now : Settings} {w0 w w2 : Option (List ℕ)} {waiting : List ℕ} {number total : ℕ} {doc : List ℕ}
+    {before rest : List (List ℕ)} → FoundSoFar collection q now w0 w waiting number total before → before ≡ doc ∷ rest → satisfies q doc ≡ true →
     GrewByPrefix w w2 (waiting ++ hit_text doc now.mode now.most total (plain (number + 1))) →
     GrewByPrefix w0 w2 (answer_text collection now (satisfying collection q))
-so_far_part collection q now w0 w w2 waiting number total doc before rest s e hit grew =
+so_far_part {collection} {q} {now} {w0} {w} {w2} {waiting} {number} {total} {doc} {rest} s e hit grew =
     let x = plain (number + 1) in
     let g = shown collection now.mode in
     let text = hit_text doc now.mode now.most total x in
     let all : found q 1 (documents collection) ≡ (s.so_far ++ x ∷ []) ++ found q (number + 1 + 1) rest =
     s.split ∙ ap (λ r. s.so_far ++ found q (number + 1) r) e ∙ ap (λ r. s.so_far ++ r) (found-hit q (number + 1) doc rest hit) ∙ sym (append_assoc s.so_far (x ∷ []) (found q (number + 1 + 1) rest)) in
     let front = reply-front collection now (s.so_far ++ x ∷ []) (found q (number + 1 + 1) rest) in
-    let adds = hit_adds collection now doc s.so_far x total (is_there collection q now w0 w waiting number total doc before rest s e) s.total_is in
+    let adds = hit_adds collection now doc s.so_far x total (is_there s e) s.total_is in
     let is_text : answer_text collection now (satisfying collection q) ≡ (flat_map g (limited_to now.most s.so_far) ++ text) ++ front.0 =
     ap (answer_text collection now) all ∙ front.1 ∙ ap (λ t. t ++ front.0) adds in
     let part : GrewByPrefix w0 w2 (flat_map g (limited_to now.most s.so_far) ++ text) =
@@ -89,11 +90,11 @@ so_far_part collection q now w0 w w2 waiting number total doc before rest s e hi
     subst (GrewByPrefix w0 w2) (sym is_text) (grew_first w0 w2 (flat_map g (limited_to now.most s.so_far) ++ text) front.0 part)
 
 -- all documents were scanned
-pub so_far_text : (collection : List ℕ) (q : Query) (now : Settings) (w0 w : Option (List ℕ)) (waiting : List ℕ) (number total : ℕ) (rest : List (List ℕ)) →
-    FoundSoFar collection q now w0 w waiting number total rest → rest ≡ [] → (shown_part : List ℕ) × Passed w0 w [] waiting shown_part
-    × (answer_text collection now (satisfying collection q) ≡ shown_part ++ count total)
+pub so_far_text : {collection : List ℕ} {q : Query} {now : Settings} {w0 w : Option (List ℕ)} {waiting : List ℕ} {number total : ℕ} {rest : List (List ℕ)} →
+    FoundSoFar collection q now w0 w waiting number total rest → rest ≡ [] → (shown_part : List ℕ)
+    × Passed w0 w [] waiting shown_part × (answer_text collection now (satisfying collection q) ≡ shown_part ++ count total)
 unfolding answer_text found
-so_far_text collection q now w0 w waiting number total rest s none =
+so_far_text {collection} {q} {now} {number} s none =
     let all : found q 1 (documents collection) ≡ s.so_far = s.split ∙ ap (λ r. s.so_far ++ found q (number + 1) r) none ∙ append-nil s.so_far in (
       flat_map (shown collection now.mode) (limited_to now.most s.so_far),
       s.passed,
@@ -101,27 +102,27 @@ so_far_text collection q now w0 w waiting number total rest s none =
           ∙ ap (λ n. flat_map (shown collection now.mode) (limited_to now.most s.so_far) ++ count n) s.total_is,
     )
 
-pub so_far_count : (collection : List ℕ) (q : Query) (now : Settings) (w0 w : Option (List ℕ)) (waiting : List ℕ) (number total : ℕ)
-    (before rest : List (List ℕ)) (doc : List ℕ) → FoundSoFar collection q now w0 w waiting number total before → before ≡ doc ∷ rest →
+pub so_far_count : {collection : List ℕ} {q : Query} {now : Settings} {w0 w : Option (List ℕ)} {waiting : List ℕ} {number total : ℕ}
+    {before rest : List (List ℕ)} {doc : List ℕ} → FoundSoFar collection q now w0 w waiting number total before → before ≡ doc ∷ rest →
     length collection ≤ 2 ^ 28 → (number + 1 ≤ 2 ^ 28) × (length doc ≤ 2 ^ 28)
-so_far_count collection q now w0 w waiting number total before rest doc s e small = (
+so_far_count {collection} {before} {rest} {doc} s e small = (
   omega (arith, few_documents collection, ap length s.docs_is, length-append s.front before, ap length e, s.count),
   omega (arith, short_document collection doc s.front rest (s.docs_is ∙ ap (λ r. s.front ++ r) e), small),
 )
 
 -- the count was passed on, and what waited was put
-pub counted_text : {T E : Type 0} (collection : List ℕ) (q : Query) (now : Settings) (w0 w w2 w3 : Option (List ℕ)) (waiting waiting2 : List ℕ)
-    (number total : ℕ) (rest : List (List ℕ)) (r : Result T E) → FoundSoFar collection q now w0 w waiting number total rest → rest ≡ [] →
+pub counted_text : {T E : Type 0} {collection : List ℕ} {q : Query} {now : Settings} {w0 w w2 : Option (List ℕ)} {waiting waiting2 : List ℕ}
+    {number total : ℕ} {rest : List (List ℕ)} (w3 : Option (List ℕ)) (r : Result T E) → FoundSoFar collection q now w0 w waiting number total rest → rest ≡ [] →
     Passed w w2 waiting waiting2 (count total) → AfterPut w2 w3 waiting2 r → AfterPut w0 w3 (answer_text collection now (satisfying collection q)) r
-counted_text collection q now w0 w w2 w3 waiting waiting2 number total rest r s none counted put =
-    let t = so_far_text collection q now w0 w waiting number total rest s none in
+counted_text {w0} {w} {w2} {waiting} {waiting2} {total} w3 r s none counted put =
+    let t = so_far_text s none in
     let whole : Passed w0 w2 [] waiting2 (t.0 ++ count total) = pass_both w0 w w2 [] waiting waiting2 t.0 (count total) t.1 counted in
     subst (λ x. AfterPut w0 w3 x r) (sym t.2) (pass_put w0 w2 w3 [] waiting2 (t.0 ++ count total) r refl whole put)
 
 -- the count was refused
-pub refused_text : (collection : List ℕ) (q : Query) (now : Settings) (w0 w w2 : Option (List ℕ)) (waiting : List ℕ) (number total : ℕ) (rest : List (List ℕ)) →
-    FoundSoFar collection q now w0 w waiting number total rest → rest ≡ [] → GrewByPrefix w w2 (waiting ++ count total) →
+pub refused_text : {collection : List ℕ} {q : Query} {now : Settings} {w0 w w2 : Option (List ℕ)} {waiting : List ℕ} {number total : ℕ}
+    {rest : List (List ℕ)} → FoundSoFar collection q now w0 w waiting number total rest → rest ≡ [] → GrewByPrefix w w2 (waiting ++ count total) →
     GrewByPrefix w0 w2 (answer_text collection now (satisfying collection q))
-refused_text collection q now w0 w w2 waiting number total rest s none grew =
-    let t = so_far_text collection q now w0 w waiting number total rest s none in
+refused_text {w0} {w} {w2} {waiting} {total} s none grew =
+    let t = so_far_text s none in
     subst (GrewByPrefix w0 w2) (sym t.2) (pass_cut w0 w w2 [] waiting t.0 (count total) t.1 grew)

@@ -87,9 +87,9 @@ empty_test [] = refl
 empty_test (b ∷ w) = sym (ne_eqb (length (b ∷ w)) 0 (λ e. omega (arith, e)))
 
 -- a word that is not empty was counted
-pub word_counted : (t : List ℕ) (p : Pair) (pairs rest : List Pair) (n n2 total : ℕ) (none : Bool) → pairs ≡ p ∷ rest → none ≡ (length p.word == 0) →
+pub word_counted : (t : List ℕ) {p : Pair} {pairs rest : List Pair} (n : ℕ) {n2 total : ℕ} {none : Bool} → pairs ≡ p ∷ rest → none ≡ (length p.word == 0) →
     none ≡ false → n2 ≡ n + cond (same_term t (folded p.word)) 1 0 → n + hits_in t pairs ≡ total → n2 + hits_in t rest ≡ total
-word_counted t p pairs rest n n2 total none e test some counted sum =
+word_counted t {p} {pairs} {rest} n e test some counted sum =
     let step : hits_in t pairs ≡ cond (same_term t (folded p.word)) 1 0 + hits_in t rest = ap (hits_in t) e ∙ hits-word t p rest (empty_test p.word ∙ sym test ∙ some) in
     omega (arith, step, counted, sum)
 

@@ -146,10 +146,10 @@ text-answer collection now rows shown_too e =
     ap (λ xs. flat_map (shown collection now.mode) xs ++ count (length (shown_rows rows))) (first-map now.most rows ∙ ap shown_rows (sym e))
     ∙ ap (λ n. flat_map (shown collection now.mode) (shown_rows shown_too) ++ count n) (length-map rows shown_of)
 
-pub answer_put : {T E : Type 0} (collection : List ℕ) (now : Settings) (rows shown_too : List Row) (w0 w1 w2 w3 : Option (List ℕ)) (p0 p1 p2 : List ℕ)
-    (r : Result T E) → p0 ≡ [] → shown_too ≡ limited_to now.most rows → Passed w0 w1 p0 p1 (rows_text collection now.mode shown_too) →
+pub answer_put : {T E : Type 0} (collection : List ℕ) (now : Settings) (rows : List Row) {shown_too : List Row} {w0 w1 w2 : Option (List ℕ)}
+    {p0 p1 p2 : List ℕ} (w3 : Option (List ℕ)) (r : Result T E) → p0 ≡ [] → shown_too ≡ limited_to now.most rows → Passed w0 w1 p0 p1 (rows_text collection now.mode shown_too) →
     Passed w1 w2 p1 p2 (count (length rows)) → AfterPut w2 w3 p2 r → AfterPut w0 w3 (answer_text collection now (shown_rows rows)) r
-answer_put collection now rows shown_too w0 w1 w2 w3 p0 p1 p2 r none e passed counted put =
+answer_put collection now rows {shown_too} {w0} {w1} {w2} {p0} {p1} {p2} w3 r none e passed counted put =
     subst (λ t. AfterPut w0 w3 t r) (sym (text-answer collection now rows shown_too e)) (pass_put w0 w2 w3 p0 p2 _ r none (pass_both w0 w1 w2 p0 p1 p2 _ _ passed counted) put)
 
 -- the count was refused

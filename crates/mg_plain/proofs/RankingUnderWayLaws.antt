@@ -50,11 +50,11 @@ tallied_start collection query found size none = record {
   each = λ k lt. omega (arith, none k lt, having-all (get_or query k []) collection);
 }
 
-pub tallied_more : (collection doc : List ℕ) (query before rest : List (List ℕ)) (counts found found2 : List ℕ) (number : ℕ) →
+pub tallied_more : {collection doc : List ℕ} {query before rest : List (List ℕ)} {counts found found2 : List ℕ} {number : ℕ} →
     Tallied collection query found number before → before ≡ doc ∷ rest → AreCounts (freq_in doc) query counts → length found2 ≡ length counts →
     ((k : ℕ) → k < length counts → get_or found2 k 0 ≡ get_or found k 0 + cond (nat_lt 0 (get_or counts k 0)) 1 0) →
     Tallied collection query found2 (number + 1) rest
-tallied_more collection doc query before rest counts found found2 number s e c size added = record {
+tallied_more {doc} {query} {before} {rest} {counts} s e c size added = record {
   front = s.front ++ doc ∷ [];
   docs_is = s.docs_is ∙ ap (λ r. s.front ++ r) e ∙ sym (append_assoc s.front (doc ∷ []) rest);
   count = omega (arith, length-append s.front (doc ∷ []), s.count);
@@ -67,11 +67,13 @@ tallied_more collection doc query before rest counts found found2 number s e c s
       omega (arith, added k (omega (arith, lt, c.size)), one, first, s.each k lt);
 }
 
-pub tallied_all : (collection : List ℕ) (query rest : List (List ℕ)) (found : List ℕ) (number : ℕ) → Tallied collection query found number rest → rest ≡ [] → number ≡ length (documents collection)
-tallied_all collection query rest found number s none = omega (arith, ap length s.docs_is, length-append s.front rest, ap length none, s.count)
+pub tallied_all : {collection : List ℕ} {query rest : List (List ℕ)} {found : List ℕ} {number : ℕ} → Tallied collection query found number rest →
+    rest ≡ [] → number ≡ length (documents collection)
+tallied_all {rest} s none = omega (arith, ap length s.docs_is, length-append s.front rest, ap length none, s.count)
 
-pub tallied_found : (collection : List ℕ) (query rest : List (List ℕ)) (found : List ℕ) (number : ℕ) → Tallied collection query found number rest → rest ≡ [] → AreCounts (docs collection) query found
-tallied_found collection query rest found number s none = record {
+pub tallied_found : {collection : List ℕ} {query rest : List (List ℕ)} {found : List ℕ} {number : ℕ} → Tallied collection query found number rest →
+    rest ≡ [] → AreCounts (docs collection) query found
+tallied_found {query} s none = record {
   size = s.size;
   each = λ k lt. omega (arith, s.each k lt, ap (having (get_or query k [])) none, having-none (get_or query k []));
 }
@@ -192,35 +194,36 @@ ranked_start collection query = record {
   rows_placed = λ k d lt. elim lt [ ];
 }
 
-pub ranked_next : (collection doc : List ℕ) (query : List (List ℕ)) (rows : List Row) (number place : ℕ) (before rest : List (List ℕ)) →
+pub ranked_next : {collection doc : List ℕ} {query : List (List ℕ)} {rows : List Row} {number place : ℕ} {before rest : List (List ℕ)} →
     Ranked collection query rows number place before → before ≡ doc ∷ rest → Next collection doc rest place
-ranked_next collection doc query rows number place before rest s e = next_place collection doc rest place (s.place_is ∙ e)
+ranked_next {collection} {doc} {place} {rest} s e = next_place collection doc rest place (s.place_is ∙ e)
 
-pub ranked_small : (collection doc : List ℕ) (query : List (List ℕ)) (rows : List Row) (number place : ℕ) (before rest : List (List ℕ)) →
+pub ranked_small : {collection doc : List ℕ} {query : List (List ℕ)} {rows : List Row} {number place : ℕ} {before rest : List (List ℕ)} →
     Ranked collection query rows number place before → before ≡ doc ∷ rest → length collection ≤ 2 ^ 28 →
     (number + 1 ≤ 2 ^ 28) × (length doc ≤ 2 ^ 28) × (place + length doc ≤ 2 ^ 28)
-ranked_small collection doc query rows number place before rest s e small =
+ranked_small {collection} {doc} {number} {before} {rest} s e small =
     let counts = next_small collection doc s.front before rest number s.docs_is s.count e small in
-    (counts.0, counts.1, omega (arith, (ranked_next collection doc query rows number place before rest s e).within, small))
+    (counts.0, counts.1, omega (arith, (ranked_next s e).within, small))
 
-pub ranked_miss : (collection doc : List ℕ) (query : List (List ℕ)) (rows : List Row) (number place : ℕ) (before rest : List (List ℕ)) →
+pub ranked_miss : {collection doc : List ℕ} {query : List (List ℕ)} {rows : List Row} {number place : ℕ} {before rest : List (List ℕ)} →
     Ranked collection query rows number place before → before ≡ doc ∷ rest → list_any (has_term doc) query ≡ false →
     Ranked collection query rows (number + 1) (place + (length doc + 1)) rest
-ranked_miss collection doc query rows number place before rest s e none = record {
+ranked_miss {collection} {doc} {query} {rows} {number} {rest} s e none = record {
   front = s.front ++ doc ∷ [];
   docs_is = s.docs_is ∙ ap (λ r. s.front ++ r) e ∙ sym (append_assoc s.front (doc ∷ []) rest);
   count = omega (arith, length-append s.front (doc ∷ []), s.count);
-  place_is = (ranked_next collection doc query rows number place before rest s e).rest_is;
+  place_is = (ranked_next s e).rest_is;
   hits_is = s.hits_is ∙ ap (λ r. hits_of rows ++ hits_from collection query (number + 1) r) e ∙ ap (λ hs. hits_of rows ++ hs) (hits-skip collection doc query rest (number + 1) none);
   rows_placed = s.rows_placed;
 }
 
-pub ranked_hit : (collection doc : List ℕ) (query : List (List ℕ)) (rows : List Row) (number place score_is : ℕ) (before rest : List (List ℕ)) →
-    Ranked collection query rows number place before → before ≡ doc ∷ rest → list_any (has_term doc) query ≡ true → score_is ≡ score_over collection query doc →
+pub ranked_hit : {collection doc : List ℕ} {query : List (List ℕ)} {rows : List Row} {number place score_is : ℕ} {before rest : List (List ℕ)} →
+    Ranked collection query rows number place before → before ≡ doc ∷ rest → list_any (has_term doc) query ≡ true →
+    score_is ≡ score_over collection query doc →
     Ranked collection query (rows ++ record { number = number + 1; place = place; score = score_is } ∷ []) (number + 1) (place + (length doc + 1)) rest
-ranked_hit collection doc query rows number place score_is before rest s e some is =
+ranked_hit {collection} {doc} {query} {rows} {number} {place} {score_is} {rest} s e some is =
     let r : Row = record { number = number + 1; place = place; score = score_is } in
-    let next = ranked_next collection doc query rows number place before rest s e in
+    let next = ranked_next s e in
     let hit : Hit = record { number = number + 1; score = score_over collection query doc } in
     let same : hit_of r ≡ hit = ap {B = Hit} (λ x. record { number = number + 1; score = x }) is in
     let pushed : hits_of (rows ++ r ∷ []) ≡ hits_of rows ++ hit ∷ [] = hits_of-push rows r ∙ ap (λ (h : Hit). hits_of rows ++ h ∷ []) same in
@@ -240,7 +243,7 @@ ranked_hit collection doc query rows number place score_is before rest s e some 
     }
 
 -- all documents were read
-pub ranked_all : (collection : List ℕ) (query : List (List ℕ)) (rows : List Row) (number place : ℕ) (rest : List (List ℕ)) →
+pub ranked_all : {collection : List ℕ} {query : List (List ℕ)} {rows : List Row} {number place : ℕ} {rest : List (List ℕ)} →
     Ranked collection query rows number place rest → rest ≡ [] → hits_of rows ≡ hits_over collection query
-ranked_all collection query rows number place rest s none =
+ranked_all {collection} {query} {rows} {number} s none =
     sym (s.hits_is ∙ ap (λ r. hits_of rows ++ hits_from collection query (number + 1) r) none ∙ ap (λ hs. hits_of rows ++ hs) (hits-none collection query (number + 1)) ∙ append-nil (hits_of rows))

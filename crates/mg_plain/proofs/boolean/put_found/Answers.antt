@@ -13,14 +13,14 @@ docs-init g c = record {
 }
 
 pub overflow_add-number : goal.overflow_add-number
-overflow_add-number g c = omega (arith, (so_far_count _ _ _ _ _ _ _ _ _ _ _ c.docs.invariant.scanned c.in-Some.ensures c.requires.small).0)
+overflow_add-number g c = omega (arith, (so_far_count c.docs.invariant.scanned c.in-Some.ensures c.requires.small).0)
 
 pub is_satisfied-requires-clause-small : goal.is_satisfied-requires-clause-small
-is_satisfied-requires-clause-small g c = (so_far_count _ _ _ _ _ _ _ _ _ _ _ c.docs.invariant.scanned c.in-Some.ensures c.requires.small).1
+is_satisfied-requires-clause-small g c = (so_far_count c.docs.invariant.scanned c.in-Some.ensures c.requires.small).1
 
 pub docs-preserved-then-not-is_satisfied : goal.docs-preserved-then-not-is_satisfied
 docs-preserved-then-not-is_satisfied g c = record {
-  scanned = so_far_miss _ _ _ _ _ _ _ _ _ _ _ c.docs.invariant.scanned c.in-Some.ensures (sym c.is_satisfied.ensures.value ∙ c.if-not-is_satisfied.true);
+  scanned = so_far_miss c.docs.invariant.scanned c.in-Some.ensures (sym c.is_satisfied.ensures.value ∙ c.if-not-is_satisfied.true);
   few = omega arith;
   size = c.is_satisfied.ensures.size;
   there = c.is_satisfied.ensures.there;
@@ -30,14 +30,14 @@ docs-preserved-then-not-is_satisfied g c = record {
 
 pub returns-in-Err-clause-content : goal.returns-in-Err-clause-content
 returns-in-Err-clause-content g c =
-    so_far_part _ _ _ _ _ _ _ _ _ _ _ _ c.docs.invariant.scanned c.in-Some.ensures (sym c.is_satisfied.ensures.value ∙ c.if-not-is_satisfied.false) c.in-Err.ensures.content
+    so_far_part c.docs.invariant.scanned c.in-Some.ensures (sym c.is_satisfied.ensures.value ∙ c.if-not-is_satisfied.false) c.in-Err.ensures.content
 
 pub overflow_add-total : goal.overflow_add-total
-overflow_add-total g c = omega (arith, (so_far_count _ _ _ _ _ _ _ _ _ _ _ c.docs.invariant.scanned c.in-Some.ensures c.requires.small).0, c.docs.invariant.few)
+overflow_add-total g c = omega (arith, (so_far_count c.docs.invariant.scanned c.in-Some.ensures c.requires.small).0, c.docs.invariant.few)
 
 pub docs-preserved : goal.docs-preserved
 docs-preserved g c = record {
-  scanned = so_far_hit _ _ _ _ _ _ _ _ _ _ _ _ _ c.docs.invariant.scanned c.in-Some.ensures (sym c.is_satisfied.ensures.value ∙ c.if-not-is_satisfied.false) c.in-Ok.ensures.content;
+  scanned = so_far_hit c.docs.invariant.scanned c.in-Some.ensures (sym c.is_satisfied.ensures.value ∙ c.if-not-is_satisfied.false) c.in-Ok.ensures.content;
   few = omega arith;
   size = c.is_satisfied.ensures.size;
   there = c.is_satisfied.ensures.there;
@@ -47,7 +47,7 @@ docs-preserved g c = record {
 
 pub returns-in-Ok-count-clause-content : goal.returns-in-Ok-count-clause-content
 returns-in-Ok-count-clause-content g c =
-    counted_text _ _ _ _ _ _ _ _ _ _ _ _ _ c.docs.invariant.scanned c.in_default.ensures.0 c.in-Ok-count.ensures.content c.flush.ensures.content
+    counted_text _ c.flush.result c.docs.invariant.scanned c.in_default.ensures.0 c.in-Ok-count.ensures.content c.flush.ensures.content
 
 pub returns-in-Err-count-clause-content : goal.returns-in-Err-count-clause-content
-returns-in-Err-count-clause-content g c = refused_text _ _ _ _ _ _ _ _ _ _ c.docs.invariant.scanned c.in_default.ensures.0 c.in-Err-count.ensures.content
+returns-in-Err-count-clause-content g c = refused_text c.docs.invariant.scanned c.in_default.ensures.0 c.in-Err-count.ensures.content

@@ -14,7 +14,7 @@ count_word-requires-clause-small c = λ k lt. omega (arith, c.loop-pair.invarian
 pub loop-pair-preserved-then-not-is_empty : goal.loop-pair-preserved-then-not-is_empty
 loop-pair-preserved-then-not-is_empty c = record {
   size = c.count_word.ensures.size;
-  each = λ k lt. word_counted _ _ _ _ _ _ _ _ c.in-Some.ensures.steps c.is_empty.ensures c.if-not-is_empty.true (c.count_word.ensures.each k lt) (c.loop-pair.invariant.each k lt);
+  each = λ k lt. word_counted _ _ c.in-Some.ensures.steps c.is_empty.ensures c.if-not-is_empty.true (c.count_word.ensures.each k lt) (c.loop-pair.invariant.each k lt);
 }
 
 pub loop-pair-preserved : goal.loop-pair-preserved

@@ -7,7 +7,7 @@ returns-in-Err-clause-content g c =
 
 pub returns-in-Ok-count-clause-content : goal.returns-in-Ok-count-clause-content
 returns-in-Ok-count-clause-content g c =
-    answer_put c.args.bytes.now c.args.now.now c.args.rows.now _ _ _ _ _ _ _ _ _ c.new-pending.ensures c.first_rows-shown.ensures c.in-Ok.ensures.content
+    answer_put c.args.bytes.now c.args.now.now c.args.rows.now _ _ c.new-pending.ensures c.first_rows-shown.ensures c.in-Ok.ensures.content
     c.in-Ok-count.ensures.content c.flush.ensures.content
 
 pub returns-in-Err-count-clause-content : goal.returns-in-Err-count-clause-content

@@ -22,12 +22,12 @@ add_document-requires-clause-small c = λ k lt. tallied_small _ _ _ _ _ c.docs.i
 
 pub docs-preserved : goal.docs-preserved
 docs-preserved c = record {
-  tallied = tallied_more _ _ _ _ _ _ _ _ _ c.docs.invariant.tallied c.in-Some.ensures c.count_terms.ensures c.add_document.ensures.same c.add_document.ensures.each;
+  tallied = tallied_more c.docs.invariant.tallied c.in-Some.ensures c.count_terms.ensures c.add_document.ensures.same c.add_document.ensures.each;
   size = c.count_terms.ensures.size;
 }
 
 pub returns-clause-all : goal.returns-clause-all
-returns-clause-all c = tallied_all _ _ _ _ _ c.docs.invariant.tallied c.in_default.ensures.0
+returns-clause-all c = tallied_all c.docs.invariant.tallied c.in_default.ensures.0
 
 pub returns-clause-found : goal.returns-clause-found
-returns-clause-found c = tallied_found _ _ _ _ _ c.docs.invariant.tallied c.in_default.ensures.0
+returns-clause-found c = tallied_found c.docs.invariant.tallied c.in_default.ensures.0
