@@ -60,9 +60,10 @@ reads-inside-at d size at place before mid rest after q e h r k = record {
   goes_on = λ w. ap (refusal_from (at_depth w d) size) e ∙ (opening-goes w d size at mid h ∙ (r.goes_on true ∙ ap (refusal_from (at_depth false (suc d)) size) k));
 }
 
-pub reads-inside : (d size inner place : ℕ) (t : PlacedToken) (before mid rest after : List PlacedToken) (q : Query) → before ≡ t ∷ mid → t.token ≡ opening →
-    d < 32 → inner ≡ size → Reads or_level (d + 1) inner mid rest q → rest ≡ placed place closing ∷ after → Reads not_level d size before after q
-reads-inside d size inner place t before mid rest after q e is h same r k =
+pub reads-inside : {d size inner place : ℕ} {t : PlacedToken} {before mid rest after : List PlacedToken} {q : Query} → before ≡ t ∷ mid →
+    t.token ≡ opening → d < 32 → inner ≡ size → Reads or_level (d + 1) inner mid rest q → rest ≡ placed place closing ∷ after →
+    Reads not_level d size before after q
+reads-inside {d} {size} {place} {t} {before} {mid} {rest} {after} {q} e is h same r k =
     let here = subst (λ (n : ℕ). Reads or_level (d + 1) n mid rest q) same r in
     let there = subst (λ (n : ℕ). Reads or_level n size mid rest q) (add-one d) here in
     reads-inside-at d size t.at place before mid rest after q (first-is t opening before mid e is) h there k
@@ -99,9 +100,9 @@ joined : (d size : ℕ) (before mid next after : List PlacedToken) (p q : Query)
 joined d size before [] next after p q r j k = absurd j
 joined d size before (t ∷ ts) next after p q r j k = joined-at d size t.at t.token before ts next after p q r j k
 
-pub reads-and : (d size inner : ℕ) (before mid next after : List PlacedToken) (p q whole : Query) → Reads and_level d size before mid p → JoinsTo mid next →
+pub reads-and : {d size inner : ℕ} {before mid next after : List PlacedToken} {p q whole : Query} → Reads and_level d size before mid p → JoinsTo mid next →
     inner ≡ size → Reads not_level d inner next after q → whole ≡ both p q → Reads and_level d size before after whole
-reads-and d size inner before mid next after p q whole r j same k is =
+reads-and {d} {size} {before} {mid} {next} {after} {p} {q} r j same k is =
     let here = subst (λ (n : ℕ). Reads not_level d n next after q) same k in
     subst (Reads and_level d size before after) (sym is) (joined d size before mid next after p q r j here)
 
@@ -114,9 +115,9 @@ chosen d size at before mid next after p q r e k = record {
   goes_on = λ w. r.goes_on w ∙ (ap (refusal_from (at_depth false d) size) e ∙ k.goes_on true);
 }
 
-pub reads-or : (d size inner at : ℕ) (before mid next after : List PlacedToken) (p q whole : Query) → Reads or_level d size before mid p →
+pub reads-or : {d size inner at : ℕ} {before mid next after : List PlacedToken} {p q whole : Query} → Reads or_level d size before mid p →
     mid ≡ placed at bar ∷ next → inner ≡ size → Reads and_level d inner next after q → whole ≡ either p q → Reads or_level d size before after whole
-reads-or d size inner at before mid next after p q whole r e same k is =
+reads-or {d} {size} {at} {before} {mid} {next} {after} {p} {q} r e same k is =
     let here = subst (λ (n : ℕ). Reads and_level d n next after q) same k in
     subst (Reads or_level d size before after) (sym is) (chosen d size at before mid next after p q r e here)
 

@@ -12,7 +12,7 @@ and-operands-smaller t c = and-shorter _ _ _ _ _ _ c.operands-test.ensures.yes c
 
 pub and-operands-preserved : goal.and-operands-preserved
 and-operands-preserved t c = record {
-  reads = reads-and _ _ _ _ _ _ _ _ _ _ c.operands.invariant.reads c.operands-test.ensures.yes (c.joins.ensures.end ∙ c.operands.invariant.end) c.in_ok-right.ensures.reads c.in_ok-query-2.ensures;
+  reads = reads-and c.operands.invariant.reads c.operands-test.ensures.yes (c.joins.ensures.end ∙ c.operands.invariant.end) c.in_ok-right.ensures.reads c.in_ok-query-2.ensures;
   end = c.in_ok-right.ensures.end ∙ (c.joins.ensures.end ∙ c.operands.invariant.end);
 }
 
@@ -33,7 +33,7 @@ operand-returns-in_ok-term-in-Word-clause-reads t c =
 
 pub operand-returns-else-not-takes_closing-clause-reads : goal.operand-returns-else-not-takes_closing-clause-reads
 operand-returns-else-not-takes_closing-clause-reads t c =
-    reads-inside _ _ _ _ _ _ _ _ _ _ c.in-Some.ensures.some (ap token_of c.in-Opening.is) c.if-depth-ge-DEPTH_LIMIT.false c.take.ensures.end
+    reads-inside c.in-Some.ensures.some (ap token_of c.in-Opening.is) c.if-depth-ge-DEPTH_LIMIT.false c.take.ensures.end
     c.in_ok-inner-in-Opening.ensures.reads c.if-not-takes_closing.ensures.yes.1
 
 pub or-operands-init : goal.or-operands-init
@@ -44,7 +44,7 @@ or-operands-smaller t c = or-shorter _ _ _ _ _ _ _ c.operands-test.ensures.yes.1
 
 pub or-operands-preserved : goal.or-operands-preserved
 or-operands-preserved t c = record {
-  reads = reads-or _ _ _ _ _ _ _ _ _ _ _ c.operands.invariant.reads c.operands-test.ensures.yes.1 (c.takes_bar.ensures.end ∙ c.operands.invariant.end)
+  reads = reads-or c.operands.invariant.reads c.operands-test.ensures.yes.1 (c.takes_bar.ensures.end ∙ c.operands.invariant.end)
       c.in_ok-right.ensures.reads c.in_ok-query-2.ensures;
   stops = c.in_ok-right.ensures.stops;
   end = c.in_ok-right.ensures.end ∙ (c.takes_bar.ensures.end ∙ c.operands.invariant.end);
