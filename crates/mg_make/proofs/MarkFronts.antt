@@ -142,6 +142,10 @@ no_more_pieces met collection f =
     let here : get_or (pairs_from (piece_count_from 0 met) (stop ∷ f.after)) 0 0 ≡ piece_count_from 0 met / 2 = refl in
     omega (arith, there, here)
 
+-- it has half as many pairs
+pub pairs_at_stop : (met : List Mark) (collection : List ℕ) → IsFrontOf (met ++ stop ∷ []) collection → get_or (pair_counts collection) (starts met - 1) 0 ≡ piece_count_from 0 met / 2
+pairs_at_stop met collection f = pairs_of_open met stop collection f (open_at_stop met collection f)
+
 counts_long : (collection : List ℕ) → length (pair_counts collection) ≡ starts (marks collection)
 counts_long collection = length-map (documents collection) (λ doc. length (parse doc)) ∙ sym (marks_have_documents collection)
 
@@ -150,6 +154,14 @@ more_documents met collection f =
     let all = counts_long collection in
     let whole = ap starts (whole_is met start collection f) in
     let parts = starts_append met (start ∷ f.after) in
+    omega (arith, all, whole, parts)
+
+-- no more documents were begun than there are
+pub begun_documents : (met : List Mark) (m : Mark) (collection : List ℕ) → IsFrontOf (met ++ m ∷ []) collection → starts met ≤ length (pair_counts collection)
+begun_documents met m collection f =
+    let all = counts_long collection in
+    let whole = ap starts (whole_is met m collection f) in
+    let parts = starts_append met (m ∷ f.after) in
     omega (arith, all, whole, parts)
 
 pub all_documents : (collection : List ℕ) → length (pair_counts collection) ≡ starts (marks collection)

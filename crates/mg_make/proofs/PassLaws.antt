@@ -12,7 +12,7 @@ use Rattle.mg_text_writer.specs.Writing.{TextWriting}
 use Rattle.mg_make.specs.Second.{Inversion, SamePass, StopsBefore, WroteMarks}
 use Rattle.mg_make.specs.Steps.{PassStep}
 use Rattle.mg_make.proofs.Frames.{OthersStay, text_wrote, wrote_both, wrote_for, wrote_none}
-use Rattle.mg_make.proofs.Stopping.{stops_store}
+use Rattle.mg_make.proofs.Stopping.{stops_store, tells_store}
 use Rattle.mg_make.proofs.Taking.{if_err, marks_both, marks_none, on_ok, same_both, same_none, stops_first, stops_then}
 
 -- ---- without a call
@@ -88,7 +88,10 @@ text_refused {s} {e = e} {fault = fault} {f = f} {g = g} call cause is = record 
   wrote = text_wrote s.base s.text.base f g call.base call.told call.others;
   reads = call.reads;
   faults = call.faults;
-  refused = record { cause = λ met collection written front. stops_store _ _ e fault is cause.failed };
+  refused = record {
+    cause = λ met collection written front. stops_store _ _ e fault is cause.failed;
+    tells = λ met collection written front. tells_store s.plan collection e fault is;
+  };
 }
 
 -- the marks stand behind the others

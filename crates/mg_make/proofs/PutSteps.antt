@@ -18,6 +18,7 @@ use Rattle.mg_make.specs.Second.{HasWritten, Inversion, IsNext, SamePass, StopsB
 use Rattle.mg_make.specs.SetSteps.{ByteStep}
 use Rattle.mg_make.specs.Steps.{PassStep}
 use Rattle.mg_index.specs.Written.{WroteParts}
+use Rattle.mg_make.specs.Changes.{TellsChange}
 use Rattle.mg_make.specs.Written.{SecondStops, WroteSecond}
 use Rattle.mg_count.proofs.CallerLemmas.{marks-go_on}
 use Rattle.mg_make.proofs.SetFrames.{head_of_second, kept, models_of_second, others_kept, others_of_second, pass_from}
@@ -109,17 +110,28 @@ module _ (w : Putting) (scanned : Scanning) (new : Inversion) (f g : Option File
   put_others : (fed : List ℕ) → WroteSecond w.pass.base f g → HasPut w f fed → OthersSame w.base f g
   put_others fed only put = others_of_second w.base f g (subst (λ b. WroteSecond b f g) put.base_is only)
 
+  -- the marks up to this byte begin those of all bytes
+  front_there : (fed more : List ℕ) (put : HasPut w f fed) → length (fed ++ byte ∷ more) < 2 ^ 32 → IsFrontOf (put.met ++ next) (fed ++ byte ∷ more)
+  front_there fed more put few =
+      let all : (fed ++ byte ∷ []) ++ more ≡ fed ++ byte ∷ more = append_assoc fed (byte ∷ []) more in
+      subst (λ bytes. IsFrontOf (put.met ++ next) bytes) all
+      (front_more scanned (fed ++ byte ∷ []) more (put.met ++ next) (takes fed put.met put.scanned)
+      (subst (λ bytes. length bytes < 2 ^ 32) (sym all) few))
+
   -- why it is not written
   put_stops : (rose : Type 0) (fault : Fault) (fed more : List ℕ) → StopsBefore w.pass f next rose fault →
       HasPut w f fed → length (fed ++ byte ∷ more) < 2 ^ 32 →
       SecondStops rose (IsPlanOf w.plan (fed ++ byte ∷ more)) fault
   put_stops rose fault fed more stops put few =
-      let all : (fed ++ byte ∷ []) ++ more ≡ fed ++ byte ∷ more = append_assoc fed (byte ∷ []) more in
       subst (λ p. SecondStops rose (IsPlanOf p (fed ++ byte ∷ more)) fault) put.plan_is
-      (stops.cause put.met (fed ++ byte ∷ more) put.written
-      (subst (λ bytes. IsFrontOf (put.met ++ next) bytes) all
-      (front_more scanned (fed ++ byte ∷ []) more (put.met ++ next) (takes fed put.met put.scanned)
-      (subst (λ bytes. length bytes < 2 ^ 32) (sym all) few))))
+      (stops.cause put.met (fed ++ byte ∷ more) put.written (front_there fed more put few))
+
+  -- and what the refusal tells
+  put_tells : (rose : Type 0) (fault : Fault) (fed more : List ℕ) → StopsBefore w.pass f next rose fault →
+      HasPut w f fed → length (fed ++ byte ∷ more) < 2 ^ 32 → TellsChange w.plan (fed ++ byte ∷ more) fault
+  put_tells rose fault fed more stops put few =
+      subst (λ p. TellsChange p (fed ++ byte ∷ more) fault) put.plan_is
+      (stops.tells put.met (fed ++ byte ∷ more) put.written (front_there fed more put few))
 
 -- ---- a byte, to each of its two ends
 
@@ -136,6 +148,7 @@ byte_done {w} {scanned} {pass} {byte} {next} {f = f} {g = g} takes fed put step 
   reads = step.reads;
   later = step.faults;
   refused = tt;
+  tells = tt;
 }
 
 pub byte_refused : {w : Putting} {scanned : Scanning} {pass : Inversion} {byte : ℕ} {next : List Mark} {fault : Fault} {f g : Option Files} {q r : Reads} {m n : ℕ} →
@@ -151,4 +164,5 @@ byte_refused {w} {scanned} {pass} {byte} {next} {fault} {f} {g} {m = m} {n = n} 
   reads = step.reads;
   later = step.faults;
   refused = λ fed more put few. put_stops w scanned pass f g byte next takes (Rose m n) fault fed more step.refused put few;
+  tells = λ fed more put few. put_tells w scanned pass f g byte next takes (Rose m n) fault fed more step.refused put few;
 }

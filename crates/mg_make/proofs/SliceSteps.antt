@@ -13,6 +13,7 @@ use Rattle.mg_count.specs.Plans.{IsPlanOf, Plan}
 use Rattle.mg_make.specs.Putting.{HasPut, OthersSame, Putting}
 use Rattle.mg_count.specs.Scanning.{HasMet, Scanning}
 use Rattle.mg_make.specs.SetSteps.{ByteStep, SliceStep, WentOn}
+use Rattle.mg_make.specs.Changes.{TellsChange}
 use Rattle.mg_make.specs.Written.{SecondStops}
 use Rattle.mg_make.proofs.CallerLemmas.{others_more, rose_behind}
 use Rattle.mg_make.proofs.PutSteps.{writing}
@@ -138,5 +139,11 @@ slice_refused {w} {u} {v} {fault} {f} {g} {h} {a = a} {b} {c} bytes at below ste
         (subst (λ (p : Plan). SecondStops (Rose b c) (IsPlanOf p all) fault) step.plan
         (subst (λ (x : List ℕ). SecondStops (Rose b c) (IsPlanOf u.plan x) fault) (sym joined)
         (more.refused (fed ++ take at bytes) tail (step.put fed own) (subst (λ (x : List ℕ). length x < 2 ^ 32) joined few))));
+    tells = λ fed tail own few.
+        let joined = joined-more fed bytes tail at below in
+        let all = fed ++ (take (at + 1) bytes ++ tail) in
+        subst (λ (p : Plan). TellsChange p all fault) step.plan
+        (subst (λ (x : List ℕ). TellsChange u.plan x fault) (sym joined)
+        (more.tells (fed ++ take at bytes) tail (step.put fed own) (subst (λ (x : List ℕ). length x < 2 ^ 32) joined few)));
   };
 }

@@ -13,6 +13,7 @@ use Rattle.mg_make.specs.Fronts.{IsFrontOf}
 use Rattle.mg_count.specs.Meeting.{Meeting, only_if}
 use Rattle.mg_count.specs.Plans.{IsPlanOf, Plan}
 use Rattle.mg_make.specs.Second.{HasWritten, Inversion, IsNext, SamePass, StopsBefore, WroteMarks}
+use Rattle.mg_make.specs.Changes.{TellsChange}
 use Rattle.mg_make.specs.Written.{SecondStops}
 use Rattle.mg_make.proofs.CallerLemmas.{rose_behind}
 
@@ -51,7 +52,10 @@ stops_more rose now same (Changed what first second) more stops = stops
 stops_more rose now same fault more stops = absurd stops
 
 pub stops_first : (s : Inversion) (f : Option Files) (a b : List Mark) (rose : Type 0) (fault : Fault) → StopsBefore s f a rose fault → StopsBefore s f (a ++ b) rose fault
-stops_first s f a b rose fault stops = record { cause = λ met collection is front. stops.cause met collection is (front_first met a b collection front) }
+stops_first s f a b rose fault stops = record {
+  cause = λ met collection is front. stops.cause met collection is (front_first met a b collection front);
+  tells = λ met collection is front. stops.tells met collection is (front_first met a b collection front);
+}
 
 pub stops_then : (s t : Inversion) (f g : Option Files) (a b : List Mark) (x y z : ℕ) (fault : Fault) → x ≤ y → SamePass s t → WroteMarks s t f g a →
     StopsBefore t g b (Rose y z) fault → StopsBefore s f (a ++ b) (Rose x z) fault
@@ -60,6 +64,8 @@ stops_then s t f g a b x y z fault less same wrote stops = record {
       subst (λ (p : Plan). SecondStops (Rose x z) (IsPlanOf p collection) fault) same.plan
       (stops_more (Rose y z) (Rose x z) (IsPlanOf t.plan collection) fault (rose_behind x y z less)
       (stops.cause (met ++ a) collection (wrote.behind met is) (front_then met a b collection front)));
+  tells = λ met collection is front.
+      subst (λ (p : Plan). TellsChange p collection fault) same.plan (stops.tells (met ++ a) collection (wrote.behind met is) (front_then met a b collection front));
 }
 
 -- ---- results

@@ -1,5 +1,6 @@
 pub mod Outcomes
 pub mod Plans
+pub mod Changes
 pub mod Written
 pub mod Listing
 pub mod Index

@@ -29,6 +29,7 @@ use Rattle.mg_index.specs.Listing.{ListStops}
 use Rattle.mg_count.specs.Plans.{IsPlanOf, Plan}
 use Rattle.mg_count.specs.Scanning.{HasMet, Scanning}
 use Rattle.mg_make.specs.Second.{HasWritten, Inversion}
+use Rattle.mg_make.specs.Changes.{TellsChange}
 use Rattle.mg_make.specs.Written.{OfSecond, SecondStops}
 use Rattle.mg_make.specs.declared.inverter.Inverted.{Inverted}
 use Rattle.mg_defs.specs.Limits.{least_cap, greatest_cap}
@@ -160,6 +161,12 @@ abbrev pub NextRefused : {X T : Type 0} → Putting → (List ℕ → List ℕ) 
 NextRefused w next files faults before now result =
     IfErr result (λ fault. (fed more : List ℕ) → HasPut w (files before) fed → length (fed ++ next more) < 2 ^ 32
     → SecondStops (Rose (faults before) (faults now)) (IsPlanOf w.plan (fed ++ next more)) fault)
+
+-- and a change that they make is told exactly
+abbrev pub NextTells : {T : Type 0} → Putting → (List ℕ → List ℕ) → Option Files → Result T Fault → Type 0
+NextTells w next files result =
+    IfErr result (λ fault. (fed more : List ℕ) → HasPut w files fed → length (fed ++ next more) < 2 ^ 32
+    → TellsChange w.plan (fed ++ next more) fault)
 
 -- where the store tells its files, this is so of the bytes that were put, if the plan is theirs
 abbrev pub ForPut : Putting → Option Files → (List ℕ → Type 0) → Type 0

@@ -15,6 +15,7 @@ use Rattle.mg_text_writer.specs.Writing.{IsOnText, TextWriting}
 use Rattle.mg_make.specs.Fronts.{IsFrontOf}
 use Rattle.mg_make.specs.Indexes.{HasTaken, Indexing}
 use Rattle.mg_count.specs.Plans.{IsPlan, IsPlanOf, Plan}
+use Rattle.mg_make.specs.Changes.{TellsChange}
 use Rattle.mg_make.specs.Written.{SecondStops}
 
 -- ---- what a plan makes of marks
@@ -86,16 +87,14 @@ pub record SamePass (old new : Inversion) : Type 0 where
   pub plan : new.plan ≡ old.plan
   pub limit : new.index.runs.pool.limit ≡ old.index.runs.pool.limit
 
--- two numbers that are to be the same are not
-abbrev pub IsChange : Fault → Type 0
-IsChange (Changed what first second) = first ≢ second
-IsChange fault = ⊥
-
 -- why these marks, which come next in a collection, are not written
 pub record StopsBefore (s : Inversion) (files : Option Files) (next : List Mark) (store_rose : Type 0) (fault : Fault) :
     Type 0 where
   pub cause : (met : List Mark) (collection : List ℕ) → HasWritten s files met → IsFrontOf (met ++ next) collection
       → SecondStops store_rose (IsPlanOf s.plan collection) fault
+  -- a change is told exactly
+  pub tells : (met : List Mark) (collection : List ℕ) → HasWritten s files met → IsFrontOf (met ++ next) collection
+      → TellsChange s.plan collection fault
 
 -- these marks are refused only for such a reason
 abbrev pub HasStopCause : Inversion → Option Files → List Mark → Type 0 → Result (Unit {0}) Fault → Type 0

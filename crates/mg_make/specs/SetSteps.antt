@@ -19,6 +19,7 @@ use Rattle.mg_count.specs.Plans.{IsPlanOf, Plan}
 use Rattle.mg_make.specs.Putting.{ForHanded, ForPut, HasHeadOf, HasPeakOf, HasPut, MakesHead, MakesReady, OthersSame, PlanStops, Putting}
 use Rattle.mg_index.specs.Steps.{MergeStep}
 use Rattle.mg_make.specs.Steps.{SortStep}
+use Rattle.mg_make.specs.Changes.{TellsChange}
 use Rattle.mg_make.specs.Written.{SecondStops}
 use Rattle.mg_make.specs.declared.inverter.Inverted.{Inverted}
 use Rattle.mg_index.specs.declared.lists.Sizes.{Sizes}
@@ -45,6 +46,9 @@ pub record ByteStep (old new : Putting) (byte : ℕ) (result : Result (Unit {0})
   pub refused : IfErr result (λ fault. (fed more : List ℕ) → HasPut old files_before fed →
       length (fed ++ byte ∷ more) < 2 ^ 32
       → SecondStops (Rose faults_before faults_now) (IsPlanOf old.plan (fed ++ byte ∷ more)) fault)
+  -- a change is told exactly
+  pub tells : IfErr result (λ fault. (fed more : List ℕ) → HasPut old files_before fed →
+      length (fed ++ byte ∷ more) < 2 ^ 32 → TellsChange old.plan (fed ++ byte ∷ more) fault)
 
 -- bytes that go on the piece that is read stand behind all that were put, and no file is written
 pub record WentOn (old new : Putting) (run : List ℕ) : Type 0 where
@@ -68,6 +72,10 @@ pub record PutStopsAmong (old : Putting) (bytes : List ℕ) (files : Option File
   pub stops : (fed more : List ℕ) → HasPut old files fed →
       length (fed ++ (take (taken + 1) bytes ++ more)) < 2 ^ 32
       → SecondStops store_rose (IsPlanOf old.plan (fed ++ (take (taken + 1) bytes ++ more))) fault
+  -- and a change is told exactly
+  pub tells : (fed more : List ℕ) → HasPut old files fed →
+      length (fed ++ (take (taken + 1) bytes ++ more)) < 2 ^ 32
+      → TellsChange old.plan (fed ++ (take (taken + 1) bytes ++ more)) fault
 
 -- more bytes are put, or why one of them is not
 pub record SliceStep (old new : Putting) (bytes : List ℕ) (result : Result (Unit {0}) Fault)

@@ -4,12 +4,15 @@
 //! this in nothing: each document, pair and piece is compared with the plan, and a difference is
 //! refused with both numbers. So whatever a store does between the passes, no writer below is handed
 //! what it can't take.
-ghost use Rattle.std.specs.Prelude.{◌≡◌, ◌≤◌, ◌<◌, ◌*◌, ◌-◌, ◌∷◌, ℕ, List, [], length, get_or, IfOk, Some, slice_get};
+ghost use Rattle.std.specs.Prelude.{◌≡◌, ◌≤◌, ◌<◌, ◌*◌, ◌+◌, ◌/◌, ◌-◌, ◌∷◌, ℕ, List, [], length, get_or, IfOk, Some, slice_get};
 ghost use Rattle.mg_dev.specs.Moments.{Between};
 ghost use Rattle.mg_defs.specs.Marks.{code_of, piece as piece_mark};
 ghost use Rattle.mg_count.specs.DocCounting.{AreDocCounts};
 ghost use Rattle.mg_count.specs.Plans.{IsPlan};
-ghost use Rattle.mg_make.specs.Second.{HasWritten, IsChange, IsNext, term_at};
+ghost use Rattle.mg_dev.specs.declared.fault.Fault.TheVariants.{Changed};
+ghost use Rattle.mg_dev.specs.declared.what.What.TheVariants as what_is;
+ghost use Rattle.mg_make.specs.Changes.{unknown_of};
+ghost use Rattle.mg_make.specs.Second.{HasWritten, IsNext, term_at};
 ghost use Rattle.mg_index.specs.Steps.{PutStep};
 ghost use Rattle.mg_make.specs.Steps.{PassStep};
 ghost use Rattle.mg_make.specs.Written.{OfSecond};
@@ -125,7 +128,12 @@ impl<'a> SecondPass<'a> {
         requires begun { 1 ≤ self.now.doc }
         requires within { self.now.doc ≤ length self.now.plan.pairs }
         requires left { self.now.left ≤ 2 * get_or self.now.plan.pairs (self.now.doc - 1) 0 }
-        ensures { IsChange result }
+        ensures one_more { self.now.left ≡ 0 →
+            result ≡ Changed what_is.Pairs (get_or self.now.plan.pairs (self.now.doc - 1) 0)
+            (get_or self.now.plan.pairs (self.now.doc - 1) 0 + 1) }
+        ensures fewer { 0 < self.now.left →
+            result ≡ Changed what_is.Pairs (get_or self.now.plan.pairs (self.now.doc - 1) 0)
+            (get_or self.now.plan.pairs (self.now.doc - 1) 0 - (self.now.left + 1) / 2) }
     {
         let plan = self.plan;
         let at = (self.doc - 1) as usize;
@@ -225,7 +233,7 @@ impl<'a, S: Store> MarkWriter<'a, S> for SecondPass<'a> {
 
 /// A piece that was not counted.
 fn unknown(stream: Stream) -> Fault
-    ensures { IsChange result }
+    ensures { result ≡ unknown_of stream }
 {
     let what = match stream {
         Stream::Words => What::Words,

@@ -13,7 +13,8 @@ ghost use Rattle.mg_dev.specs.declared.part.Part.TheVariants as part;
 ghost use Rattle.mg_index.specs.Steps.{ReadRuns};
 ghost use Rattle.mg_layout.specs.Stands.{StandsForNone, StandsIn};
 ghost use Rattle.mg_count.specs.Plans.{IsPlan, IsRoomFor};
-ghost use Rattle.mg_make.specs.Putting.{ForPut, GrewByHead, HasPut, IsEmptied, IsUnbuilt, NextRefused, OthersSame, PutRefused};
+ghost use Rattle.mg_make.specs.Putting.{ForPut, GrewByHead, HasPut, IsEmptied, IsUnbuilt, NextRefused, NextTells};
+ghost use Rattle.mg_make.specs.Putting.{OthersSame, PutRefused};
 ghost use Rattle.mg_make.specs.Putting.{StandsForNoOther, WhereHeadLacks, with_head};
 ghost use Rattle.mg_make.specs.Outcomes.{HasSummaryOf, MakesSet};
 ghost use Rattle.mg_make.specs.SetSteps.{ByteStep, PartsStep, SliceStep, WentOn};
@@ -93,7 +94,7 @@ impl<'a> SetWriter<'a> {
     }
 
     /// Writes what one byte more makes. A refusal of `Changed` tells that the bytes begin no collection
-    /// of the plan.
+    /// of the plan, and in which number they differ from it.
     #[inline]
     pub fn take<S: Store>(&mut self, store: &mut S, byte: u8) -> Result<(), Fault>
         requires put { (fed : List ℕ) × HasPut self.old (S.files store.old) fed
@@ -111,6 +112,7 @@ impl<'a> SetWriter<'a> {
         ensures later { S.faults store.old ≤ S.faults store.new }
         ensures refused { NextRefused self.old (λ more. byte ∷ more) S.files S.faults store.old
             store.new result }
+        ensures tells { NextTells self.old (λ more. byte ∷ more) (S.files store.old) result }
     {
         if self.scanner.goes_on(byte) {
             self.size += 1;

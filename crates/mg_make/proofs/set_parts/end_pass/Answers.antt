@@ -1,4 +1,5 @@
 use Rattle.std.proofs.Common.{◌≡◌, ◌++◌, ℕ, List, refl, subst, sym}
+use Rattle.mg_dev.specs.Causes.{Rose}
 use Rattle.mg_defs.specs.Marks.{Mark, marks}
 use Rattle.mg_count.specs.Meeting.{Meeting, marks_of}
 use Rattle.mg_count.specs.Scanning.{HasMet}
@@ -24,7 +25,8 @@ returns-in-Err-clause-refused g c = λ fed met scanned written few.
     let next = marks_of c.met.result.now in
     let whole : ((fed : List ℕ) (met : List Mark) → HasMet c.args.scanner.now fed met → marks fed ≡ met ++ next)
     = λ fed met h. subst (λ (m : Meeting). marks fed ≡ met ++ marks_of m) (sym c.met.ensures) (c.finish.ensures.met fed met h) in
-    stops_before (g.W.MarkWriter.pass c.args.writer) (g.S.Store.files c.args.store.now) fed met next _ c.in-Err.refusal written (whole fed met scanned) few c.in-Err.ensures.refused
+    stops_before (g.W.MarkWriter.pass c.args.writer) (g.S.Store.files c.args.store.now) fed met next
+    (Rose (g.S.Store.faults c.args.store.now) (g.S.Store.faults c.put_marks.new.store)) c.in-Err.refusal written (whole fed met scanned) few c.in-Err.ensures.refused
 
 pub end_marks-requires : goal.end_marks-requires
 end_marks-requires g c =

@@ -10,7 +10,7 @@ use Rattle.mg_make.proofs.Frames.{index_kept, runs_wrote, text_kept, text_wrote,
 use Rattle.mg_make.proofs.MarkFronts.{open_at_piece, some_begun, turn_at_piece}
 use Rattle.mg_make.proofs.PassLaws.{pass_refused, text_done, text_refused}
 use Rattle.mg_make.proofs.SecondSteps.{few_taken, may_follow, put_bits, turn_now, wrote_piece}
-use Rattle.mg_make.proofs.Stopping.{other_piece, stops_change, stops_store}
+use Rattle.mg_make.proofs.Stopping.{other_piece, stops_store, stops_unknown, tells_store, tells_unknown}
 use Rattle.mg_make.proofs.second.SecondPass.put_piece.Goals as goal
 use Rattle.mg_make.proofs.second.SecondPass.put_piece.Goals.{in-Ok-add, in-Err-add}
 
@@ -18,7 +18,8 @@ pub returns-in-None : goal.returns-in-None
 returns-in-None g c =
     rw (← c.self.view_is, ← c.plan.view_is)
     (pass_refused (record {
-      cause = λ met collection is front. stops_change _ _ _ c.unknown.ensures (other_piece _ met c.args.stream c.args.piece.now collection front (sym c.in-None.ensures));
+      cause = λ met collection is front. stops_unknown _ _ c.args.stream _ c.unknown.ensures (other_piece _ met c.args.stream c.args.piece.now collection front (sym c.in-None.ensures));
+      tells = λ met collection is front. tells_unknown _ met c.args.stream c.args.piece.now collection _ front (sym c.in-None.ensures) c.unknown.ensures;
     }))
 
 pub returns-in-Err : goal.returns-in-Err
@@ -119,6 +120,7 @@ returns g c =
             refused = record {
               cause = λ met collection is front.
                   stops_store _ _ _ _ w.of_store-in-Err-add.ensures (λ f. rose_behind _ _ _ e.cause.later (w.in-Err-add.ensures.cause.failed f));
+              tells = λ met collection is front. tells_store _ collection _ _ w.of_store-in-Err-add.ensures;
             };
           })
     ]

@@ -4,7 +4,7 @@ use Rattle.mg_make.proofs.Frames.{index_kept}
 use Rattle.mg_make.proofs.MarkFronts.{closed_at_start}
 use Rattle.mg_make.proofs.PassLaws.{pass_none, pass_refused, text_done, text_refused}
 use Rattle.mg_make.proofs.SecondSteps.{none_open, pairs_room, same_there, wrote_start}
-use Rattle.mg_make.proofs.Stopping.{other_documents}
+use Rattle.mg_make.proofs.Stopping.{other_documents, tells_documents}
 use Rattle.mg_make.proofs.second.SecondPassMarkWriter.begin_if.Goals as goal
 
 pub returns-then-not-begins : goal.returns-then-not-begins
@@ -19,6 +19,8 @@ returns-then-at-len g c =
     (pass_refused (record {
       cause = λ met collection is front.
           ((λ e. omega (arith, e, long, c.len-then-at-len.ensures, c.from.ensures, is.within)), other_documents _ _ met collection is front all);
+      tells = λ met collection is front.
+          tells_documents _ _ met collection _ _ is front all (omega (arith, long, c.len-then-at-len.ensures)) (omega (arith, long, c.len-then-at-len.ensures, c.from.ensures, is.within, all));
     }))
 
 pub begin_doc-requires-clause-closed : goal.begin_doc-requires-clause-closed

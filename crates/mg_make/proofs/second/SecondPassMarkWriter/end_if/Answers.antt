@@ -3,7 +3,7 @@ use Rattle.mg_make.proofs.Frames.{index_kept}
 use Rattle.mg_make.proofs.MarkFronts.{open_at_stop}
 use Rattle.mg_make.proofs.PassLaws.{pass_none, pass_refused, text_done, text_refused}
 use Rattle.mg_make.proofs.SecondSteps.{wrote_stop}
-use Rattle.mg_make.proofs.Stopping.{other_stop, stops_change}
+use Rattle.mg_make.proofs.Stopping.{other_stop, stops_pairs, tells_fewer_pairs}
 use Rattle.mg_make.proofs.second.SecondPassMarkWriter.end_if.Goals as goal
 use Rattle.mg_make.proofs.second.SecondPassMarkWriter.end_if.Goals.{in-Ok, in-Err}
 
@@ -19,8 +19,14 @@ pub returns-then-self-gt0 : goal.returns-then-self-gt0
 returns-then-self-gt0 g c =
     let n = rw (c.if-not-ends.false, ← c.self.view_is) at c.requires.next in
     let is_open = n.written.is_open ∙ open_at_stop n.met n.collection n.front in
+    let tell = rw (← c.self.view_is) at c.other_pairs.ensures.fewer in
+    let told = tell c.if-self-gt0.true in
     rw (c.if-not-ends.false, ← c.self.view_is)
-    (pass_refused (record { cause = λ met collection is front. stops_change _ _ _ c.other_pairs.ensures (other_stop _ _ met collection is front is_open c.if-self-gt0.true) }))
+    (pass_refused (record {
+      cause = λ met collection is front.
+          stops_pairs _ _ _ _ _ told (λ e. omega (arith, e, n.written.put is_open, c.if-self-gt0.true)) (other_stop _ _ met collection is front is_open c.if-self-gt0.true);
+      tells = λ met collection is front. tells_fewer_pairs _ _ met collection _ is front is_open c.if-self-gt0.true told;
+    }))
 
 pub returns : goal.returns
 returns g c =

@@ -35,6 +35,7 @@ returns-then-goes_on g c =
       plain = omega arith;
       later = omega arith;
       refused = tt;
+      tells = tt;
     }
 
 -- it may end a piece, or begin or end a document
@@ -57,4 +58,5 @@ returns g c =
       plain = omega (arith, step.reads Plain);
       later = step.later;
       refused = step.refused;
+      tells = step.tells;
     }
