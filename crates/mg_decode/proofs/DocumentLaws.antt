@@ -21,8 +21,9 @@ use Rattle.mg_decode.specs.Documents.{ShownFirst}
 pub looked_none : (a b : Part) (f : Option Files) (r : Reads) (n : ℕ) → LookedAt a b f f r r n n
 looked_none a b f r n = record { files = refl; faults = omega arith; later = λ p. omega arith; others = λ p x y. refl }
 
-pub looked_more : (a b : Part) (f g h : Option Files) (r s t : Reads) (l m n : ℕ) → LookedAt a b f g r s l m → LookedAt a b g h s t m n → LookedAt a b f h r t l n
-looked_more a b f g h r s t l m n one two = record {
+pub looked_more : {a b : Part} {f g h : Option Files} {r s t : Reads} {l m n : ℕ} → LookedAt a b f g r s l m → LookedAt a b g h s t m n →
+    LookedAt a b f h r t l n
+looked_more one two = record {
   files = two.files ∙ one.files;
   faults = omega (arith, one.faults, two.faults);
   later = λ p. omega (arith, one.later p, two.later p);
@@ -32,8 +33,8 @@ looked_more a b f g h r s t l m n one two = record {
 pub same_none : (r : TextReading) → SameText r r
 same_none r = record { text = refl; places = refl; code = refl; version = refl; documents = refl; size = refl }
 
-pub same_more : (a b c : TextReading) → SameText a b → SameText b c → SameText a c
-same_more a b c one two = record {
+pub same_more : {a b c : TextReading} → SameText a b → SameText b c → SameText a c
+same_more one two = record {
   text = two.text ∙ one.text;
   places = two.places ∙ one.places;
   code = two.code ∙ one.code;

@@ -71,13 +71,14 @@ show_stops (Err (show.Part (Bad bad))) reads reads_now s0 s1 t out now le cause 
 show_stops (Err show.Write) reads reads_now s0 s1 t out now le cause = cause
 show_stops (Err show.Memory) reads reads_now s0 s1 t out now le cause = cause
 
-pub decode_stops : (refusal : ShowErr) (files : Option Files) (base : List ℕ) (r r_now : Reads) (s0 s1 t : ℕ) (out now : SinkAt) → s0 ≤ s1 → ShowStops (Err refusal) r r_now s1 t out now →
-    ((collection : List ℕ) → Stands files base collection → ShowIsNotBad (Err refusal)) → DecodeStops (Rose s0 t) (Rose out.faults now.faults) files base (fault_of_show refusal)
-decode_stops (show.Part Device) files base r r_now s0 s1 t out now le stops bad = omega (arith, le, stops)
-decode_stops (show.Part Memory) files base r r_now s0 s1 t out now le stops bad = tt
-decode_stops (show.Part (Bad b)) files base r r_now s0 s1 t out now le stops bad = bad
-decode_stops show.Write files base r r_now s0 s1 t out now le stops bad = stops
-decode_stops show.Memory files base r r_now s0 s1 t out now le stops bad = tt
+pub decode_stops : (refusal : ShowErr) {files : Option Files} {base : List ℕ} {s0 s1 : ℕ} (r r_now : Reads) (t : ℕ) (out now : SinkAt) → s0 ≤ s1 →
+    ShowStops (Err refusal) r r_now s1 t out now → ((collection : List ℕ) → Stands files base collection → ShowIsNotBad (Err refusal)) →
+    DecodeStops (Rose s0 t) (Rose out.faults now.faults) files base (fault_of_show refusal)
+decode_stops (show.Part Device) r r_now t out now le stops bad = omega (arith, le, stops)
+decode_stops (show.Part Memory) r r_now t out now le stops bad = tt
+decode_stops (show.Part (Bad b)) r r_now t out now le stops bad = bad
+decode_stops show.Write r r_now t out now le stops bad = stops
+decode_stops show.Memory r r_now t out now le stops bad = tt
 
 pub one_fault : (r : Result (Unit {0}) Fault) (a b : Fault) → r ≡ Err a → r ≡ Err b → a ≡ b
 one_fault r a b is other = cc

@@ -75,7 +75,7 @@ returns-in-Err-show_set-clause-content g c = λ collection stands.
     c.in-Err-show_set.ensures.content by.0 collection by.1
 
 pub returns-in-Err-show_set-clause-cause : goal.returns-in-Err-show_set-clause-cause
-returns-in-Err-show_set-clause-cause g c = rw c.from-in-Err-show_set.ensures (decode_stops c.in-Err-show_set.refusal _ _ _ _ _ _ _ _ _ c.in-Ok.ensures.cause.later c.in-Err-show_set.ensures.cause
+returns-in-Err-show_set-clause-cause g c = rw c.from-in-Err-show_set.ensures (decode_stops c.in-Err-show_set.refusal _ _ _ _ _ c.in-Ok.ensures.cause.later c.in-Err-show_set.ensures.cause
     (λ collection stands.
     let by = stands_loaded _ _ _ collection c.in-Ok.loaded c.in-Some.head c.in-Some.is c.in-Ok.ensures.files c.in-Ok.ensures.answer stands in
     c.in-Err-show_set.ensures.never_bad by.0 collection by.1))
@@ -98,7 +98,7 @@ returns-in-Err-show_set-clause-not_built g c = λ told empty. absurd (no_empty_h
 pub returns-in-Err-show_set-clause-complete : goal.returns-in-Err-show_set-clause-complete
 returns-in-Err-show_set-clause-complete g c = λ collection stands calm well.
     rw c.from-in-Err-show_set.ensures (done (fault_of_show c.in-Err-show_set.refusal) _ _ _ _ collection stands calm well
-    (decode_stops c.in-Err-show_set.refusal _ _ _ _ _ _ _ _ _ c.in-Ok.ensures.cause.later c.in-Err-show_set.ensures.cause
+    (decode_stops c.in-Err-show_set.refusal _ _ _ _ _ c.in-Ok.ensures.cause.later c.in-Err-show_set.ensures.cause
     (λ other is.
     let by = stands_loaded _ _ _ other c.in-Ok.loaded c.in-Some.head c.in-Some.is c.in-Ok.ensures.files c.in-Ok.ensures.answer is in
     c.in-Err-show_set.ensures.never_bad by.0 other by.1)))

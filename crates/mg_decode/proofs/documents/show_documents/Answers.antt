@@ -38,8 +38,8 @@ returns-in-Err-clause-added g c = adds_less (adds_more c.loop-index.invariant.ad
 pub loop-index-preserved : goal.loop-index-preserved
 loop-index-preserved g c = record {
   fits = c.in-Ok.ensures.fits;
-  same = same_more _ _ _ c.loop-index.invariant.same c.in-Ok.ensures.same;
-  looked = looked_more _ _ _ _ _ _ _ _ _ _ _ c.loop-index.invariant.looked c.in-Ok.ensures.looked;
+  same = same_more c.loop-index.invariant.same c.in-Ok.ensures.same;
+  looked = looked_more c.loop-index.invariant.looked c.in-Ok.ensures.looked;
   added = adds_more c.loop-index.invariant.added c.in-Ok.ensures.added;
   told = λ collection stands ends size.
       let first = c.loop-index.invariant.told collection stands ends size in
