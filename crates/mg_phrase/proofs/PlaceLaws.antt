@@ -96,20 +96,20 @@ unfolding place_count_from
 from_none phrase begun = refl
 
 -- the phrase was carried on by a word that is not empty
-pub word_taken : (phrase : List (List ℕ)) (begun now : List (List (List ℕ))) (p : Pair) (pairs rest : List Pair) (places more total : ℕ) (none done : Bool) →
-    pairs ≡ p ∷ rest → none ≡ (length p.word == 0) → none ≡ false →
-    now ≡ carry_on (folded p.word) (phrase ∷ begun) → one_if done ≡ complete now → more ≡ places + one_if done →
-    places + place_count_from phrase begun (terms_in pairs) ≡ total → more + place_count_from phrase now (terms_in rest) ≡ total
-word_taken phrase begun now p pairs rest places more total none done e test some carried ends counted sum =
+pub word_taken : (phrase : List (List ℕ)) (begun : List (List (List ℕ))) (places : ℕ) {now : List (List (List ℕ))} {p : Pair} {pairs rest : List Pair}
+    {more total : ℕ} {none : Bool} (done : Bool) → pairs ≡ p ∷ rest → none ≡ (length p.word == 0) → none ≡ false → now ≡ carry_on (folded p.word) (phrase ∷ begun) →
+    one_if done ≡ complete now → more ≡ places + one_if done → places + place_count_from phrase begun (terms_in pairs) ≡ total →
+    more + place_count_from phrase now (terms_in rest) ≡ total
+word_taken phrase begun places {now} {p} {pairs} {rest} done e test some carried ends counted sum =
     let step : place_count_from phrase begun (terms_in pairs) ≡ complete now + place_count_from phrase now (terms_in rest) =
     ap (λ ps. place_count_from phrase begun (terms_in ps)) e ∙ ap (place_count_from phrase begun) (in-word p rest (empty_test p.word ∙ sym test ∙ some))
     ∙ from_word phrase begun now p.word (terms_in rest) carried in
     omega (arith, step, ends, counted, sum)
 
-pub word_passed : (phrase : List (List ℕ)) (begun : List (List (List ℕ))) (p : Pair) (pairs rest : List Pair) (places total : ℕ) (none : Bool) →
+pub word_passed : (phrase : List (List ℕ)) (begun : List (List (List ℕ))) (places : ℕ) {p : Pair} {pairs rest : List Pair} {total : ℕ} {none : Bool} →
     pairs ≡ p ∷ rest → none ≡ (length p.word == 0) → none ≡ true → places + place_count_from phrase begun (terms_in pairs) ≡ total →
     places + place_count_from phrase begun (terms_in rest) ≡ total
-word_passed phrase begun p pairs rest places total none e test is_none sum =
+word_passed phrase begun places {p} {pairs} {rest} e test is_none sum =
     let step : place_count_from phrase begun (terms_in pairs) ≡ place_count_from phrase begun (terms_in rest) =
     ap (λ ps. place_count_from phrase begun (terms_in ps)) e ∙ ap (place_count_from phrase begun)
     (in-empty p rest (empty_test p.word ∙ sym test ∙ is_none)) in
@@ -132,9 +132,9 @@ none_in : terms_in [] ≡ []
 unfolding terms_in
 none_in = refl
 
-pub all_taken : (phrase : List (List ℕ)) (begun : List (List (List ℕ))) (pairs : List Pair) (places total : ℕ) → pairs ≡ [] →
+pub all_taken : (phrase : List (List ℕ)) (begun : List (List (List ℕ))) {pairs : List Pair} {places total : ℕ} → pairs ≡ [] →
     places + place_count_from phrase begun (terms_in pairs) ≡ total → places ≡ total
-all_taken phrase begun pairs places total e sum =
+all_taken phrase begun {pairs} e sum =
     let step : place_count_from phrase begun (terms_in pairs) ≡ 0 = ap (λ ps. place_count_from phrase begun (terms_in ps)) e ∙ ap (place_count_from phrase begun) none_in ∙ from_none phrase begun in
     omega (arith, step, sum)
 

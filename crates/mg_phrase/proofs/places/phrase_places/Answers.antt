@@ -17,22 +17,22 @@ loop-pair-init c = record {
 pub loop-pair-preserved-then-carry_on : goal.loop-pair-preserved-then-carry_on
 loop-pair-preserved-then-carry_on c = record {
   few = omega (arith, ap length c.in-Some.ensures.steps, c.loop-pair.invariant.few);
-  is = word_taken _ _ _ _ _ _ _ _ _ _ c.carry_on.result c.in-Some.ensures.steps c.is_empty-in-loop-pair.ensures c.if-not-is_empty.true
+  is = word_taken _ _ _ c.carry_on.result c.in-Some.ensures.steps c.is_empty-in-loop-pair.ensures c.if-not-is_empty.true
       c.carry_on.ensures.carried c.carry_on.ensures.complete (omega (arith, counts_as c.carry_on.result c.if-carry_on.true)) c.loop-pair.invariant.is;
 }
 
 pub loop-pair-preserved-else-carry_on : goal.loop-pair-preserved-else-carry_on
 loop-pair-preserved-else-carry_on c = record {
   few = omega (arith, ap length c.in-Some.ensures.steps, c.loop-pair.invariant.few);
-  is = word_taken _ _ _ _ _ _ _ _ _ _ c.carry_on.result c.in-Some.ensures.steps c.is_empty-in-loop-pair.ensures c.if-not-is_empty.true
+  is = word_taken _ _ _ c.carry_on.result c.in-Some.ensures.steps c.is_empty-in-loop-pair.ensures c.if-not-is_empty.true
       c.carry_on.ensures.carried c.carry_on.ensures.complete (omega (arith, counts_not c.carry_on.result c.if-carry_on.false)) c.loop-pair.invariant.is;
 }
 
 pub loop-pair-preserved : goal.loop-pair-preserved
 loop-pair-preserved c = record {
   few = omega (arith, ap length c.in-Some.ensures.steps, c.loop-pair.invariant.few);
-  is = word_passed _ _ _ _ _ _ _ _ c.in-Some.ensures.steps c.is_empty-in-loop-pair.ensures c.if-not-is_empty.false c.loop-pair.invariant.is;
+  is = word_passed _ _ _ c.in-Some.ensures.steps c.is_empty-in-loop-pair.ensures c.if-not-is_empty.false c.loop-pair.invariant.is;
 }
 
 pub returns : goal.returns
-returns c = all_taken _ _ _ _ _ c.in-None.ensures.steps.0 c.loop-pair.invariant.is ∙ ap (λ (p : List (List ℕ)). phrase_places p c.args.doc.now) c.as_slice-words.ensures
+returns c = all_taken _ _ c.in-None.ensures.steps.0 c.loop-pair.invariant.is ∙ ap (λ (p : List (List ℕ)). phrase_places p c.args.doc.now) c.as_slice-words.ensures
