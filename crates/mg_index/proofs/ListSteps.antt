@@ -20,11 +20,11 @@ use Rattle.mg_index.proofs.SquareSteps.{squares_front, squares_first, summed_beg
 
 -- ---- one posting
 
-pub can_more : RunsStay → (merge next : Merging) (lists now : Listing) (sums summed : List ℕ) (f h g : Option Files) (p : Posting) → CanList merge lists sums f →
-    SameMerge merge next → h ≡ f → ((left : List TermPosting) → IsMerging merge f left → IsMerging next h (drop 1 left)) → WroteParts OfPostings next.base h g →
-    ((done : List (List Posting)) (ps : List Posting) → Took lists h done ps → Took now g done (ps ++ p ∷ [])) → SameFiles lists now → length summed ≡ length sums → now.last ≤ lists.all →
-    CanList next now summed g
-can_more stay merge next lists now sums summed f h g p can same files merging wrote took names each within = record {
+pub can_more : {merge next : Merging} {lists now : Listing} {sums summed : List ℕ} {f h g : Option Files} (p : Posting) → RunsStay →
+    CanList merge lists sums f → SameMerge merge next → h ≡ f → ((left : List TermPosting) → IsMerging merge f left → IsMerging next h (drop 1 left)) →
+    WroteParts OfPostings next.base h g → ((done : List (List Posting)) (ps : List Posting) → Took lists h done ps → Took now g done (ps ++ p ∷ [])) →
+    SameFiles lists now → length summed ≡ length sums → now.last ≤ lists.all → CanList next now summed g
+can_more {next} {lists} {h} {g} p stay can same files merging wrote took names each within = record {
   left = drop 1 can.left;
   merging = merging_stays stay next h g (drop 1 can.left) wrote (merging can.left can.merging);
   done = can.done;
@@ -45,15 +45,13 @@ unfolding Rises
 rest_rises all last p left h = h.1
 
 -- where the posting that was read is the first of those left
-pub in_list_more : RunsStay → (number : ℕ) (merge next : Merging) (lists now : Listing) (sums summed : List ℕ) (f h g : Option Files) (p q : Posting)
-    (done : List (List Posting)) (ps left : List Posting) (later : List TermPosting) →
-    IsInList number merge lists sums f done ps (p ∷ left) later → h ≡ f → q ≡ p →
-    ((left : List TermPosting) → IsMerging merge f left → IsMerging next h (drop 1 left)) → WroteParts OfPostings next.base h g →
+pub in_list_more : {number : ℕ} {merge next : Merging} {lists now : Listing} {sums summed : List ℕ} {f h g : Option Files} {p q : Posting}
+    {done : List (List Posting)} {ps left : List Posting} {later : List TermPosting} → RunsStay → IsInList number merge lists sums f done ps (p ∷ left) later → h ≡ f →
+    q ≡ p → ((left : List TermPosting) → IsMerging merge f left → IsMerging next h (drop 1 left)) → WroteParts OfPostings next.base h g →
     ((done : List (List Posting)) (ps : List Posting) → Took lists h done ps → Took now g done (ps ++ q ∷ [])) →
     ((done : List (List Posting)) (ps : List Posting) → SquaresFit (done ++ (ps ++ q ∷ []) ∷ []) → AreSquares sums (done ++ ps ∷ []) → AreSquares summed (done ++ (ps ++ q ∷ []) ∷ [])) →
-    now.all ≡ lists.all → now.last ≡ q.doc →
-    IsInList number next now summed g done (ps ++ p ∷ []) left later
-in_list_more stay number merge next lists now sums summed f h g p q done ps left later in_list files is merging wrote took sum all last =
+    now.all ≡ lists.all → now.last ≡ q.doc → IsInList number next now summed g done (ps ++ p ∷ []) left later
+in_list_more {number} {next} {lists} {now} {summed} {h} {g} {p} {done} {ps} {left} {later} stay in_list files is merging wrote took sum all last =
     let whole : (ps ++ p ∷ []) ++ left ≡ ps ++ (p ∷ left) = append_assoc ps (p ∷ []) left in
     let fit : SquaresFit (done ++ ((ps ++ p ∷ []) ++ left) ∷ []) = subst (λ xs. SquaresFit (done ++ xs ∷ [])) (sym whole) in_list.fit in
     let front : SquaresFit (done ++ (ps ++ p ∷ []) ∷ []) = λ doc. omega (arith, squares_front doc done (ps ++ p ∷ []) left, fit doc) in
@@ -91,11 +89,12 @@ one_more_taken P Q ps left n lt step h =
     ∙ ap (λ xs. ps ++ xs) (sym (take_more left n none lt)) in
     subst (λ xs. Q xs (drop (n + 1) left)) front (step (ps ++ take n left) (get_or left n none) (drop (n + 1) left) (subst (λ xs. P (ps ++ take n left) xs) (drop_more left n none lt) h))
 
-pub rest_after : (number docs n : ℕ) (merge next : Merging) (lists now : Listing) (sums summed : List ℕ) (f g : Option Files) → n < docs → is_some g ≡ is_some f →
-    (IsSome f → (done : List (List Posting)) (ps left : List Posting) (later : List TermPosting) → docs ≤ length left → IsInList number merge lists sums f done ps left later →
-    IsInList number next now summed g done (ps ++ take n left) (drop n left) later) →
+pub rest_after : (number docs n : ℕ) {merge next : Merging} {lists now : Listing} {sums summed : List ℕ} {f g : Option Files} → n < docs →
+    is_some g ≡ is_some f →
+    (IsSome f → (done : List (List Posting)) (ps left : List Posting) (later : List TermPosting) → docs ≤ length left →
+    IsInList number merge lists sums f done ps left later → IsInList number next now summed g done (ps ++ take n left) (drop n left) later) →
     HasRest number docs merge lists sums f → HasRest number 1 next now summed g
-rest_after number docs n merge next lists now sums summed f g lt told step rest = record {
+rest_after number docs n lt told step rest = record {
   told = told ∙ rest.told;
   done = rest.done;
   ps = rest.ps ++ take n rest.left;

@@ -28,7 +28,7 @@ returns-in-Ok-clause-can g c =
     let wrote =
     wrote_lists c.next_posting.new.merge.base _ _ _ _ (can.post ∙ ap (λ b. full_name b Post) (sym base)) (can.skip ∙ ap (λ b. full_name b Skip) (sym base))
     c.write_posting.ensures.told c.write_posting.ensures.others in
-    can_more c.runs_stay.ensures.left _ _ _ _ _ _ _ _ _ _ can next.looked.same next.looked.files c.in_ok-posting.ensures.left wrote c.in-Ok.ensures.took
+    can_more _ c.runs_stay.ensures.left can next.looked.same next.looked.files c.in_ok-posting.ensures.left wrote c.in-Ok.ensures.took
     c.in-Ok.ensures.same c.in-Ok.ensures.each (omega (
       arith,
       c.in-Ok.ensures.pushed.last,
@@ -48,7 +48,7 @@ returns-in-Ok-clause-told g c told done ps p left later is =
     c.write_posting.ensures.told c.write_posting.ensures.others in
     let first : TermPosting = record { term = c.args.number; doc = p.doc; count = p.freq } in
     let read : c.in_ok-posting.posting ≡ first = c.in_ok-posting.ensures.told told first (term_list c.args.number left ++ later) is.merging in
-    in_list_more c.runs_stay.ensures.left c.args.number _ _ _ _ _ _ _ _ _ p _ done ps left later is next.looked.files (ap (λ (x : TermPosting). posting_of x.doc x.count) read)
+    in_list_more c.runs_stay.ensures.left is next.looked.files (ap (λ (x : TermPosting). posting_of x.doc x.count) read)
     c.in_ok-posting.ensures.left wrote c.in-Ok.ensures.took c.in-Ok.ensures.summed c.in-Ok.ensures.same.all c.in-Ok.ensures.pushed.last
 
 pub returns-in_err-posting-clause-step : goal.returns-in_err-posting-clause-step

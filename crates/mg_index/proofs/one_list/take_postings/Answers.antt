@@ -11,7 +11,7 @@ pub returns-in_err-last-clause-refused : goal.returns-in_err-last-clause-refused
 returns-in_err-last-clause-refused g c =
     let inv = c.loop.invariant in
     passed_on c.from_residual.result c.in_err-last.field-0.0 (err_from_is_err_and c.from_residual.result c.from_residual.ensures.1) (rose_behind _ _ _ inv.step.later)
-    (rest_after c.args.number c.args.docs c.loop.counter _ _ _ _ _ _ _ _ (omega arith) inv.step.wrote.told inv.told)
+    (rest_after c.args.number c.args.docs c.loop.counter (omega arith) inv.step.wrote.told inv.told)
     c.in_err-last.ensures.refused
 
 pub returns-in_err-last-clause-step : goal.returns-in_err-last-clause-step
