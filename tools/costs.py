@@ -8,17 +8,17 @@ The prover writes a file for each module when it has checked it; the time from t
 are seconds of the clock, so nothing else should run. A function's modules are `Lts` (the walk of borrows), `Proof` (goals
 that are searched), `Answers` (goals that are answered by hand) and smaller ones. A star marks what the contributor's
 page asks to be cut or answered: an `Lts` of more than 3 MB, or a `Proof` of more than 3 seconds.
-
-What the crate's `out/` kept before is put aside, and comes back where the check fails.
 """
 
 import argparse
 import os
 import pathlib
 import re
-import shutil
 import subprocess
 import sys
+import tempfile
+
+from kit import kit
 
 ROOT = pathlib.Path(__file__).resolve().parent.parent
 MOST_LTS = 3_000_000
@@ -71,24 +71,18 @@ def shown(rows, count):
         yield f"{row['all']:8.1f} {kinds} {dear}{function}"
 
 
-def check_anew(crate):
-    """Checks the crate with nothing kept, and answers the folder of its modules."""
-    folder = ROOT / "crates" / crate
-    kept, aside = folder / "out" / "incremental", folder / "out" / "incremental.aside"
+def check_anew(name, fresh):
+    """Checks the crate into a folder in which nothing is kept."""
+    folder = ROOT / "crates" / name
     # The libraries below are proved first, and are no part of what is measured.
     if subprocess.run(["rt", "check", "--jobs", "1"], cwd=folder).returncode:
-        sys.exit(f"costs: {crate} is not proved")
-    kept.rename(aside)
-    status = 1
-    try:
-        status = subprocess.run(["rt", "check", "--jobs", "1"], cwd=folder).returncode
-    finally:
-        if status:
-            shutil.rmtree(kept, ignore_errors=True)
-            aside.rename(kept)
-        else:
-            shutil.rmtree(aside)
-    return kept
+        sys.exit(f"costs: {name} is not proved")
+    # The prover is called with rt's own words, since rt itself begins with what any checkout on this machine kept.
+    rtlib = kit("costs", ("rtlib",), "give the prover an empty folder by hand, by --incremental").rtlib
+    crate = next(it for it in rtlib.crates_below(str(ROOT)) if it.name == name)
+    words = [rtlib.RATTLE, "check", *crate.words(["--jobs", "1"]), "--incremental", fresh]
+    if subprocess.run(words, cwd=folder).returncode:
+        sys.exit(f"costs: {name} is not proved from nothing")
 
 
 def main():
@@ -98,7 +92,9 @@ def main():
     given = words.parse_args()
     if not (ROOT / "crates" / given.crate / "src").is_dir():
         sys.exit(f"costs: there is no crate {given.crate}")
-    found = modules(check_anew(given.crate))
+    with tempfile.TemporaryDirectory() as fresh:
+        check_anew(given.crate, fresh)
+        found = modules(pathlib.Path(fresh))
     rows = table(given.crate, found)
     print(f"\n{given.crate}: {sum(took for _, took, _ in found):.1f} seconds for {len(found)} modules of {len(rows)} functions and files")
     print("\n".join(shown(rows, given.rows)))

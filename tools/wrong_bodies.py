@@ -23,8 +23,6 @@ refused. --list prints the table of faults of docs/WRONG-BODIES.md and tries not
 
 import argparse
 import functools
-import importlib.machinery
-import importlib.util
 import os
 import pathlib
 import shutil
@@ -36,6 +34,7 @@ from dataclasses import dataclass
 
 from copied import copy_crates, is_left_by_gate, kept_work, take_kept_work
 from edits import read_edit
+from kit import kit, stop
 from refusals import not_judged, refused_at
 from wrong_bodies_page import GATE, LEFT_OUT, PAGE, ROOT, crates_of, edits_of, faults, write_page
 
@@ -63,27 +62,6 @@ class Tried:
         clause = self.clause or "no clause is told"
         clause = clause if self.is_refused else "NOT REFUSED"
         return ROW.format(self.crate, self.edit, self.function, clause, self.over, round(self.seconds))
-
-
-def stop(why):
-    """Ends with status 2."""
-    print(f"wrong_bodies: {why}", file=sys.stderr)
-    sys.exit(2)
-
-
-def kit():
-    """The kit's command `rt` as a module."""
-    found = shutil.which("rt")
-    if not found:
-        stop("there is no command rt: the toolchain's kit is missing")
-    loader = importlib.machinery.SourceFileLoader("rt", os.path.realpath(found))
-    spec = importlib.util.spec_from_loader("rt", loader)
-    module = importlib.util.module_from_spec(spec)
-    loader.exec_module(module)
-    lacking = [name for name in NEEDED if not hasattr(module, name)]
-    if lacking:
-        stop(f"this kit's rt has no {lacking[0]}: try the edits by hand, by rt must-fail")
-    return module
 
 
 class Trial:
@@ -202,7 +180,7 @@ def write_table(file, tried, seconds, jobs):
 def listed():
     """The table of faults, a line for each."""
     if not (ROOT / PAGE).is_file():
-        stop(f"there is no {PAGE}")
+        stop("wrong_bodies", f"there is no {PAGE}")
     form = "{:<72} {:<13} {:<56} {}"
     rows = [form.format(it.fault, it.crate, ", ".join(it.edits + it.tests), it.refused_by) for it in faults(ROOT)]
     return "\n".join([form.format("Fault", "Crate", "Edit or test", "Refused by"), *rows])
@@ -230,9 +208,9 @@ def main():
     having = [name for name in crates_of(ROOT) if edits_of(ROOT, name, folders)]
     unknown = [name for name in asked.crates if name not in having]
     if unknown:
-        stop(f"{unknown[0]} has no edit in crates/{unknown[0]}/{LEFT_OUT}")
+        stop("wrong_bodies", f"{unknown[0]} has no edit in crates/{unknown[0]}/{LEFT_OUT}")
     chosen = [name for name in having if not asked.crates or name in asked.crates]
-    rt = kit()
+    rt = kit("wrong_bodies", NEEDED, "try the edits by hand, by rt must-fail")
     jobs = asked.jobs or subprocess.run([ROOT / "tools" / "jobs.sh"], capture_output=True, text=True).stdout.strip()
     os.environ["RT_JOBS"] = jobs
     print("\n".join(head()), flush=True)
