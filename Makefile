@@ -10,6 +10,7 @@
 # make bench      measures it beside SQLite's FTS5, Xapian, gzip and grep, on the kernel's documentation, beside what it is to
 #                 reach, and draws what it saw
 # make costs CRATE=mg_bool    lists the modules of a crate's proof by their time
+# make libraries CRATE=mg_bool    behind a gate, lets `rt check` of a crate use the libraries that the gate left
 #
 # NAME is the name of the installed program, of its page and of its completion: Debian has an editor of the name mg, and
 # where that is wanted too, `make install NAME=mgr` installs this program beside it. What it prints calls it mg all the same.
@@ -66,7 +67,7 @@ bin/mg: $(SOURCES)
 	jobs=$$(tools/jobs.sh); (cd "$$work" && RT_JOBS=$${RT_JOBS:-$$jobs} rt ci); \
 	cp "$$work/crates/mg/out/mg" bin/mg
 
-.PHONY: try check wrong-bodies install uninstall dist deb docs bench costs
+.PHONY: try check wrong-bodies install uninstall dist deb docs bench costs libraries
 
 try: bin/mg
 	bin/mg build examples/letters.mail bin/letters
@@ -135,3 +136,6 @@ bench: bin/mg
 
 costs:
 	python3 tools/costs.py $(CRATE)
+
+libraries:
+	python3 tools/libraries.py $(CRATE)

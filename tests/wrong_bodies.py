@@ -229,17 +229,49 @@ pub fn behind(number: u32) -> u32
 }
 
 
+def small_repository(folder):
+    """Lays out the two crates, with the tools beside them."""
+    root = pathlib.Path(folder)
+    for name, text in SMALL.items():
+        (root / name).parent.mkdir(parents=True, exist_ok=True)
+        (root / name).write_text(text)
+    shutil.copytree(ROOT / "tools", root / "tools", ignore=shutil.ignore_patterns("__pycache__"))
+    return root
+
+
+def libraries_are_used(suite):
+    """Behind a gate a check takes the library below as the gate left it, and not once its text has changed."""
+    if shutil.which("rt") is None:
+        print("no rt: tools/libraries.py was not tried")
+        return
+    with tempfile.TemporaryDirectory() as folder:
+        root = small_repository(folder)
+        tool = [sys.executable, str(root / "tools" / "libraries.py"), "high"]
+        told = subprocess.run(tool, capture_output=True, text=True).stdout
+        suite.check("libraries before a gate", told, "0 libraries are used as the gate left them; to be proved anew: low\n")
+        for crate in ("low", "high"):
+            subprocess.run(["rt", "fmt"], cwd=root / "crates" / crate, capture_output=True)
+        gate = subprocess.run(["rt", "ci"], cwd=root, capture_output=True, text=True)
+        suite.check("the gate over two crates", (gate.returncode, gate.stdout.splitlines()[-1:]), (0, ["2 passed, 0 failed"]))
+        told = subprocess.run(tool, capture_output=True, text=True).stdout
+        suite.check("libraries behind a gate", told, "1 libraries are used as the gate left them; to be proved anew: none\n")
+        built = (root / "crates/low/out/rlib/low.rlib").stat().st_ino
+        check = subprocess.run(["rt", "check", "--jobs", "1"], cwd=root / "crates/high", capture_output=True, text=True)
+        suite.check("a check over them", (check.returncode, (root / "crates/low/out/rlib/low.rlib").stat().st_ino), (0, built))
+        (root / "crates/low/out/rlib/stamp").unlink()
+        text = next((root / "crates/low/src").iterdir())
+        text.write_text(text.read_text() + "// Another line.\n")
+        told = subprocess.run(tool, capture_output=True, text=True).stdout
+        suite.check("libraries behind a change", told, "0 libraries are used as the gate left them; to be proved anew: low\n")
+
+
 def tool_tries(suite):
     """The tool tells what refuses a wrong body, and ends with 1 where one is not refused."""
     if shutil.which("rt") is None:
         print("no rt: tools/wrong_bodies.py was not tried")
         return
     with tempfile.TemporaryDirectory() as folder:
-        root = pathlib.Path(folder)
-        for name, text in SMALL.items():
-            (root / name).parent.mkdir(parents=True, exist_ok=True)
-            (root / name).write_text(text)
-        shutil.copytree(ROOT / "tools", root / "tools", ignore=shutil.ignore_patterns("__pycache__"))
+        root = small_repository(folder)
         tool = [sys.executable, str(root / "tools" / "wrong_bodies.py"), "--jobs", "1", "--table", str(root / "table")]
         run = subprocess.run(tool, capture_output=True, text=True)
         table = (root / "table").read_text()
@@ -254,4 +286,4 @@ def tool_tries(suite):
         suite.check("the crate is left as it was", left, ["src", "wrong-bodies"])
 
 
-PARTS = [edits_apply, edits_are_named, faults_are_refused, statuses_have_faults, tool_lists, refusals_are_read, places_are_found, tool_tries]
+PARTS = [edits_apply, edits_are_named, faults_are_refused, statuses_have_faults, tool_lists, refusals_are_read, places_are_found, libraries_are_used, tool_tries]
