@@ -229,6 +229,14 @@ pub fn behind(number: u32) -> u32
 }
 
 
+def lacks_rt(tool):
+    """Whether there is no toolchain, so that a tool can't be tried; that is printed."""
+    lacks = shutil.which("rt") is None
+    if lacks:
+        print(f"no rt: tools/{tool} was not tried")
+    return lacks
+
+
 def small_repository(folder):
     """Lays out the two crates, with the tools beside them."""
     root = pathlib.Path(folder)
@@ -241,8 +249,7 @@ def small_repository(folder):
 
 def libraries_are_used(suite):
     """Behind a gate a check takes the library below as the gate left it, and not once its text has changed."""
-    if shutil.which("rt") is None:
-        print("no rt: tools/libraries.py was not tried")
+    if lacks_rt("libraries.py"):
         return
     with tempfile.TemporaryDirectory() as folder:
         root = small_repository(folder)
@@ -267,8 +274,7 @@ def libraries_are_used(suite):
 
 def tool_tries(suite):
     """The tool tells what refuses a wrong body, and ends with 1 where one is not refused."""
-    if shutil.which("rt") is None:
-        print("no rt: tools/wrong_bodies.py was not tried")
+    if lacks_rt("wrong_bodies.py"):
         return
     with tempfile.TemporaryDirectory() as folder:
         root = small_repository(folder)
