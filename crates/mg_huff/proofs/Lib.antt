@@ -6,3 +6,4 @@ mod Undoing
 mod Places
 mod Listing
 mod Whole
+mod Existence

@@ -30,7 +30,7 @@ pub sorted-least : (low : ℕ) (xs ys : List ℕ) → Above low xs → Above low
 sorted-least low xs ys a b =
     sorted-swap low xs ys ∙ in_order-front low (sorted (xs ++ ys)) (Above-sorted low (xs ++ ys) (Above-append low xs ys a b))
 
-Above-lower : (low high : ℕ) → low ≤ high → (xs : List ℕ) → Above high xs → Above low xs
+pub Above-lower : (low high : ℕ) → low ≤ high → (xs : List ℕ) → Above high xs → Above low xs
 Above-lower low high h [] all = tt
 Above-lower low high h (x ∷ xs) all = (let e : high ≤ x = all.0 in omega arith, Above-lower low high h xs all.1)
 

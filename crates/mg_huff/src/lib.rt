@@ -12,6 +12,7 @@
 mod counted;
 mod depth;
 mod join;
+mod laws;
 
 ghost use Rattle.std.specs.Prelude.{◌≡◌, ◌^◌, ◌<◌, ◌≤◌, length, sum, IfOk, IfErr, []};
 ghost use Rattle.std.specs.List.{All};
@@ -21,6 +22,7 @@ ghost use Rattle.mg_defs.specs.Cost.{huffman_cost, cost_of};
 use crate::counted::{in_places, ranked, weights};
 use crate::depth::leaf_depths;
 use crate::join::grow;
+pub use crate::laws::counts_have_codes;
 use std::alloc::{AllocError, Global};
 
 /// The lengths of two or more counts.
