@@ -14,6 +14,7 @@ pub mod MatchLists
 pub mod MetBlocks
 pub mod OnePassLaws
 pub mod OracleExamples
+pub mod PartLaws
 pub mod PatternExamples
 pub mod PatternLaws
 pub mod PatternLines

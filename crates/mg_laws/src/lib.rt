@@ -7,6 +7,7 @@
 
 mod bounds;
 mod counts;
+mod existence;
 mod heads;
 mod inversion;
 mod joins;
@@ -19,6 +20,7 @@ mod sizes;
 
 pub use bounds::bounds_in_words;
 pub use counts::{documents_are_counted, lists_are_short, occurrences_in_range};
+pub use existence::collections_have_parts;
 pub use heads::cut_heads;
 pub use inversion::{postings_are_lists, squares_fit, squares_weigh};
 pub use joins::{documents_of_both, lists_of_both, pieces_of_both};
