@@ -86,12 +86,12 @@ counts_as b e = rw e refl
 pub counts_not : (b : Bool) → b ≡ false → one_if b ≡ 0
 counts_not b e = rw e refl
 
-from_word : (phrase : List (List ℕ)) (begun now : List (List (List ℕ))) (w : List ℕ) (ts : List (List ℕ)) → now ≡ carry_on (folded w) (phrase ∷ begun) →
+pub from_word : (phrase : List (List ℕ)) (begun now : List (List (List ℕ))) (w : List ℕ) (ts : List (List ℕ)) → now ≡ carry_on (folded w) (phrase ∷ begun) →
     place_count_from phrase begun (folded w ∷ ts) ≡ complete now + place_count_from phrase now ts
 unfolding place_count_from
 from_word phrase begun now w ts e = rw e refl
 
-from_none : (phrase : List (List ℕ)) (begun : List (List (List ℕ))) → place_count_from phrase begun [] ≡ 0
+pub from_none : (phrase : List (List ℕ)) (begun : List (List (List ℕ))) → place_count_from phrase begun [] ≡ 0
 unfolding place_count_from
 from_none phrase begun = refl
 
@@ -127,6 +127,17 @@ pub none_taken : (phrase : List (List ℕ)) (doc : List ℕ) (pairs : List Pair)
     begun ≡ [] → 0 + place_count_from phrase begun (terms_in pairs) ≡ phrase_places phrase doc
 none_taken phrase doc pairs begun some e none = zero-add _ ∙ ap (λ b. place_count_from phrase b (terms_in pairs)) none
     ∙ ap (λ ps. place_count_from phrase [] (terms_in ps)) e ∙ ap (place_count_from phrase []) (all_in doc) ∙ whole_places phrase doc some
+
+-- a phrase without words
+counts_nothing : (ts : List (List ℕ)) → place_count_from [] [] ts ≡ 0
+unfolding place_count_from
+counts_nothing [] = refl
+counts_nothing (t ∷ ts) = zero-add _ ∙ counts_nothing ts
+
+pub whole_count : (phrase : List (List ℕ)) (doc : List ℕ) → place_count_from phrase [] (terms doc) ≡ phrase_places phrase doc
+unfolding phrase_places
+whole_count [] doc = counts_nothing (terms doc)
+whole_count (w ∷ ws) doc = one_pass w ws doc
 
 none_in : terms_in [] ≡ []
 unfolding terms_in

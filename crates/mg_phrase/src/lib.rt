@@ -10,7 +10,11 @@
 //! them; see Witten, Moffat and Bell, *Managing Gigabytes*, chapter 4.
 #![tactic(auto)]
 
+mod count;
+mod marks;
 mod places;
 
+pub use count::PhraseCount;
+pub use marks::Marks;
 pub use mg_query::{QueryErr, Terms, parse_phrase};
 pub use places::phrase_places;

@@ -9,12 +9,12 @@ use mg_parse::{Pairs, is_term};
 use mg_query::{Term, Terms};
 
 /// The most words of a phrase.
-const MOST_WORDS: usize = 64;
+pub(crate) const MOST_WORDS: usize = 64;
 
 /// Goes on by a word of the document: `begun[i]` then says whether the phrase's first i + 1 words end
 /// with it. Whether all of them do.
 #[inline]
-fn carry_on(begun: &mut [bool; MOST_WORDS], phrase: &[Term], word: &[u8]) -> bool
+pub(crate) fn carry_on(begun: &mut [bool; MOST_WORDS], phrase: &[Term], word: &[u8]) -> bool
     requires some { 0 < length phrase.now }
     requires few { length phrase.now ≤ 64 }
     ensures carried { to_come phrase.now begun.new ≡ carry_on_spec (folded word.now)

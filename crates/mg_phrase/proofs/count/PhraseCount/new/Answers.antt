@@ -1,0 +1,5 @@
+use Rattle.mg_phrase.proofs.MarkLaws.{none_counted}
+use Rattle.mg_phrase.proofs.count.PhraseCount.new.Goals as goal
+
+pub returns-clause-count : goal.returns-clause-count
+returns-clause-count c = λ doc. none_counted c.args.phrase.now c.as_slice.result.now doc c.as_slice.ensures
