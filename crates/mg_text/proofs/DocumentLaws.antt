@@ -29,7 +29,7 @@ never_true : true ≡ false → ⊥
 never_true e = absurd cc
 
 -- a part that is not Text is not that of a feed of Text
-not_text : (own p : Part) → own ≡ part.Text → same_part p part.Text ≡ false → Some own ≢ Some p
+pub not_text : (own p : Part) → own ≡ part.Text → same_part p part.Text ≡ false → Some own ≢ Some p
 not_text own p is other same =
     let p_is : p ≡ part.Text = cc (same, is) in
     never_true (subst (λ q. same_part q part.Text ≡ false) p_is other)

@@ -133,14 +133,14 @@ place_wanted r files collection number stands some within = (
 )
 
 -- what stands from the place of a document on, as far as the next one
-record DocAt (code : TextCode) (source : Option (List ℕ)) (place end : ℕ) (doc : List ℕ) : Type 0 where
-  pairs : PairsIn code (parse doc)
-  few : length (parse doc) < 2 ^ 32
-  small : place + length (coded_doc code doc) ≤ 2 ^ 63
-  shows : Shows source place (coded_doc code doc)
-  ends : place + length (coded_doc code doc) ≤ end
+pub record DocAt (code : TextCode) (source : Option (List ℕ)) (place end : ℕ) (doc : List ℕ) : Type 0 where
+  pub pairs : PairsIn code (parse doc)
+  pub few : length (parse doc) < 2 ^ 32
+  pub small : place + length (coded_doc code doc) ≤ 2 ^ 63
+  pub shows : Shows source place (coded_doc code doc)
+  pub ends : place + length (coded_doc code doc) ≤ end
 
-doc_at : (r : TextReading) (files mid : Option Files) (collection : List ℕ) (number from place : ℕ) (feed : Paging) → TextStands r files collection → 1 ≤ number → number ≤ r.documents → mid ≡ files →
+pub doc_at : (r : TextReading) (files mid : Option Files) (collection : List ℕ) (number from place : ℕ) (feed : Paging) → TextStands r files collection → 1 ≤ number → number ≤ r.documents → mid ≡ files →
     from ≡ place_after r.code collection (number - 1) → place ≡ 8 * from → feed ≡ r.text →
     DocAt r.code (told_at mid feed.name) place (8 * place_after r.code collection number) (get_or (documents collection) (number - 1) [])
 doc_at r files mid collection number from place feed stands some within same at place_is fed =

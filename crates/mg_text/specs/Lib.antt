@@ -3,3 +3,4 @@ pub mod Refusals
 pub mod Places
 pub mod Reading
 pub mod Held
+pub mod Listing

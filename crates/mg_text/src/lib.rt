@@ -17,9 +17,12 @@ mod reader_parts;
 mod show_buffer;
 mod symbols;
 mod text_reader;
+mod word_list;
+mod word_lister;
 
 pub use closing::is_closed;
 pub use held_document::HeldDocument;
 pub use reader_laws::texts_stand;
 pub use show_buffer::ShowBuffer;
 pub use text_reader::TextReader;
+pub use word_list::WordList;

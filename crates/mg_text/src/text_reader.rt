@@ -8,6 +8,7 @@ ghost use Rattle.mg_defs.specs.Split.{documents};
 ghost use Rattle.mg_front.specs.Reading.{IsNotBad, LookedAt};
 ghost use Rattle.mg_text.specs.Decoding.{bytes_to_come};
 ghost use Rattle.mg_text.specs.Held.{ForShortDocument, WhereShort};
+ghost use Rattle.mg_text.specs.Listing.{ReadsWords};
 ghost use Rattle.mg_text.specs.Reading.{AnswersReader, CanRead, ComparesSizes, DiffersInSize, GathersDoc, IsReaderOver, IsTextReader, ReadsDoc, TextFits, TextStands, WhereIsText, WhereTextStands, WritesDocument, stored_at};
 ghost use Rattle.mg_dev.specs.Moments.{Between};
 ghost use Rattle.mg_dev.specs.Streams.{AfterPut};
@@ -16,6 +17,8 @@ use crate::decoder::{gather_doc, show_doc};
 use crate::places::{first_byte, width_of};
 use crate::reader_parts::ReaderParts;
 use crate::show_buffer::ShowBuffer;
+use crate::word_list::WordList;
+use crate::word_lister::list_doc;
 use mg_bits::{BitReader, PageFeed};
 use mg_dev::{FileRef, Part, PartErr, ShowErr, Sink, Store};
 use mg_layout::{Head, expect_size};
@@ -248,6 +251,35 @@ impl<'a, S: Store> TextReader<'a, S> {
         self.text.seek(place);
         buffer.begin(place);
         gather_doc(&self.model, &mut self.text, store, buffer, out)
+    }
+
+    /// Lists the symbols of the words of a document, from 1 to the number of documents, in place of those
+    /// that were listed; an empty word has a symbol too. It reads what [`TextReader::doc_within`] reads, and
+    /// refuses what that refuses, but shows no byte. The reader stays of use whatever it answers.
+    ///
+    /// # Errors
+    ///
+    /// `Device` where the store failed; `Bad` where the place or the bits of the document are damaged or
+    /// tell of more bytes than `most`; `Memory` where it is wanted for the symbols.
+    pub fn words(
+        &mut self,
+        store: &mut S,
+        number: u32,
+        most: u64,
+        list: &mut WordList,
+    ) -> Result<(), PartErr>
+        requires { CanRead self.old (S.files store.old) number }
+        ensures { Between S.files S.reads S.faults store.old store.new
+            (ReadsWords number most result self.old self.new list.new) }
+    {
+        let (version, size) = (self.version, self.size);
+        let from = match first_byte(&mut self.places, store, version, size, number - 1) {
+            Ok(from) => from,
+            Err(refusal) => return Err(refusal),
+        };
+        self.text.seek(8 * from);
+        list.begin(most, 8 * from);
+        list_doc(&self.model, &mut self.text, store, list)
     }
 
     /// The models of both streams, as they were loaded.
