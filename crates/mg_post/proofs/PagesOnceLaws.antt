@@ -1,15 +1,17 @@
 -- Each page of Post is read at most once over a cursor's life.
-use Rattle.std.proofs.Common.{arith, ◌≡◌, ◌+◌, ◌*◌, ◌-◌, ◌^◌, ◌≤◌, ◌<◌, ℕ, List, take, drop, length, min, Option, Some, None, Ok, Err, refl, sym, ◌∙◌, ap, subst, length-append, inl, inr}
+use Rattle.std.proofs.Common.{arith, ◌≡◌, ◌+◌, ◌*◌, ◌-◌, ◌^◌, ◌≤◌, ◌<◌, ℕ, zero, suc, List, take, drop, length, min, Option, Some, None, Ok, Err, refl, sym, ◌∙◌, ap, subst, length-append, inl, inr}
 use Rattle.std.proofs.Math.Seq.{take-add}
 use Rattle.std.proofs.lemmas.Bool.{cases_lt}
 use Rattle.std.proofs.lemmas.List.{take_all}
 use Rattle.mg_bits.specs.Feed.{held_after, lacks, to_read}
 use Rattle.mg_bits.specs.Pages.{Paging, feeding_of}
 use Rattle.mg_defs.specs.declared.Posting.{Posting}
-use Rattle.mg_defs.specs.Lists.{bits_after, bits_before, block_count, last_doc}
+use Rattle.mg_defs.specs.Lists.{bits_after, bits_before, block_count, block_pages, last_doc}
+use Rattle.mg_defs.specs.PageBounds.{whole_pages}
 use Rattle.mg_defs.specs.PagesOf.{page_at, pages}
 use Rattle.mg_defs.proofs.ListLaws.{bits_append}
-use Rattle.mg_defs.proofs.PageLaws.{pages_some, pages_within}
+use Rattle.mg_defs.proofs.PageLaws.{pages_none, pages_of_both, pages_some, pages_within}
+use Rattle.mg_laws.proofs.BoundLaws.{whole_more}
 use Rattle.mg_post.specs.Cursor.{Cursoring}
 use Rattle.mg_post.specs.Finding.{ReadTo}
 use Rattle.mg_post.specs.PagesOnce.{PostReads, ReadsBlocks, ReadsOn, ReadsOnce, front_pages}
@@ -46,6 +48,20 @@ whole_rises at b n docs ps is =
   where
     all_bits : (b m n : ℕ) (ps : List Posting) → length ps ≤ m → length ps ≤ n → bits_before b m ps ≡ bits_before b n ps
     all_bits b m n ps some more = ap (λ l. length (bits_after b 0 l)) (take_all m ps some ∙ sym (take_all n ps more))
+
+no_bits : (b : ℕ) (ps : List Posting) → bits_before b (64 * zero) ps ≡ 0
+unfolding bits_before bits_after
+no_bits b ps = refl
+
+-- the pages of the first blocks are no more than those of each of them
+pub blocks_whole : (b at n : ℕ) (ps : List Posting) → pages at (at + bits_before b (64 * n) ps) ≤ whole_pages b at n ps
+unfolding block_pages
+blocks_whole b at zero ps = omega (arith, pages_none at (at + bits_before b (64 * zero) ps) (omega (arith, no_bits b ps)))
+blocks_whole b at (suc n) ps =
+    let from = at + bits_before b (64 * n) ps in
+    let to = at + bits_before b (64 * (n + 1)) ps in
+    let is : suc n ≡ n + 1 = omega arith in
+    rw is (omega (arith, blocks_whole b at n ps, whole_more b at n ps, pages_of_both at from to (omega arith) (blocks_rise at b n (n + 1) ps (omega arith))))
 
 page_rise : (a b : ℕ) → a ≤ b → page_at a ≤ page_at b
 page_rise a b le = omega (arith, le)

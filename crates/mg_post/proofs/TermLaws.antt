@@ -14,7 +14,7 @@ use Rattle.mg_defs.specs.Lists.{postings, from_doc, bits_before, block_count, li
 use Rattle.mg_defs.specs.PagesOf.{pages}
 use Rattle.mg_defs.proofs.PageLaws.{pages_within}
 use Rattle.mg_defs.specs.Lexicon as defs
-use Rattle.mg_defs.specs.PageBounds.{met_pages, pages_for, parameter_of, list_bit}
+use Rattle.mg_defs.specs.PageBounds.{list_bit, list_pages, met_pages, pages_for, parameter_of}
 use Rattle.mg_laws.proofs.LedLists.{length_postings}
 use Rattle.mg_laws.proofs.MetBlocks.{from_zero, from_from, met_all, number_is, term_some}
 use Rattle.mg_layout.specs.Infos.{IsInfoOf}
@@ -23,7 +23,7 @@ use Rattle.mg_post.specs.Answers.{AnswersList}
 use Rattle.mg_post.specs.Cursor.{AnswersRest, Cursoring, CursorStands, IsOver, SameList, StandsAt, head_of, entered_pages, post_pages, Enters, ReadsTwo}
 use Rattle.mg_post.specs.CursorSteps.{CursorStep}
 use Rattle.mg_post.specs.PagesOnce.{PostReads, ReadsOnce, front_pages, span_pages}
-use Rattle.mg_post.proofs.PagesOnceLaws.{blocks_pages, whole_rises}
+use Rattle.mg_post.proofs.PagesOnceLaws.{blocks_pages, blocks_whole, whole_rises}
 use Rattle.mg_post.specs.TermLists.{AnswersAsk, CursorFor, IsAmong, ListsStand, MayAsk, PagesWithin}
 use Rattle.mg_bits.proofs.CallerLemmas.{is_told}
 use Rattle.mg_post.proofs.StandLaws.{term_stands}
@@ -175,6 +175,11 @@ span_for base collection asked t n c f =
       pages_within (8 * c.post_at) (8 * c.post_at) _ _ (omega arith) (whole_rises (8 * c.post_at) c.parameter c.reached c.docs (postings collection t) f.over.docs_is),
       span_is base collection asked t n c c f (record { post = refl; skip = refl; post_at = refl; skip_at = refl; docs = refl; all = refl; parameter = refl }),
     )
+
+-- and no more than those of each block
+pub span_in_list : (collection t : List ℕ) → span_pages collection t ≤ list_pages collection t
+unfolding list_pages
+span_in_list collection t = blocks_whole (parameter_of collection t) (list_bit collection t) (block_count (length (postings collection t))) (postings collection t)
 
 pub cursor_later : (base collection asked t : List ℕ) (m n : ℕ) (c : Cursoring) → m ≤ n → CursorFor base collection asked t m c → CursorFor base collection asked t n c
 cursor_later base collection asked t m n c le f = record {
