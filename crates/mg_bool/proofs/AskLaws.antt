@@ -14,7 +14,6 @@ use Rattle.mg_defs.specs.Split.{documents}
 use Rattle.mg_defs.specs.Terms.{document, docs}
 use Rattle.mg_defs.specs.Weights.{has_term}
 use Rattle.mg_defs.specs.Lists.{postings, from_doc}
-use Rattle.mg_defs.specs.PageBounds.{pages_for}
 use Rattle.mg_laws.proofs.LedLists.{first_of, is_number, length_postings, posting_is}
 use Rattle.mg_post.proofs.CallerLemmas.{cursor_later}
 use Rattle.mg_post.specs.PagesOnce.{span_pages}
@@ -22,7 +21,7 @@ use Rattle.mg_post.specs.Answers.{AnswersList}
 use Rattle.mg_post.specs.Cursor.{Cursoring, head_of, post_pages}
 use Rattle.mg_post.specs.TermLists.{CursorFor, ListsStand, PagesWithin}
 use Rattle.mg_bool.specs.Places.{AnswersAll, AnswersPlace, AreInfos, AsksAll, AsksPlace, Asking, IsToldOf, Place, PlaceFits, PlaceFor}
-use Rattle.mg_bool.specs.Places.{PlaceOn, PlacesFit, PlacesFor, PlacesOn, SamePlace, SamePlaces, number_in, pages_read, place_pages, is_first}
+use Rattle.mg_bool.specs.Places.{PlaceOn, PlacesFit, PlacesFor, PlacesOn, SamePlace, SamePlaces, number_in, pages_read, place_bound, place_pages, is_first}
 use Rattle.mg_bool.specs.Calls.{SkipsWithin, place_skips, skips_read}
 use Rattle.mg_bool.specs.Shown.{IsListOf, PlaceStands}
 
@@ -202,18 +201,18 @@ asking_end base collection asked ts doc i old now there before after a le size =
 
 -- ---- how many pages
 
-pub place_bound : (base collection asked t : List ℕ) (n : ℕ) (p : Place) → PlaceFor base collection asked t n p →
-    ((c : Cursoring) → CursorFor base collection asked t n c → post_pages c ≤ pages_for collection asked t) → place_pages p ≤ pages_for collection asked t
-place_bound base collection asked t n None f law = omega arith
-place_bound base collection asked t n (Some c) f law = law c f
+pub place_within : (base collection asked t : List ℕ) (n : ℕ) (p : Place) → PlaceFor base collection asked t n p →
+    ((c : Cursoring) → CursorFor base collection asked t n c → post_pages c ≤ place_bound collection asked t) → place_pages p ≤ place_bound collection asked t
+place_within base collection asked t n None f law = omega arith
+place_within base collection asked t n (Some c) f law = law c f
 
-sums_within : (f : List ℕ → ℕ) (places : List Place) (ts : List (List ℕ)) → length places ≡ length ts →
-    ((k : ℕ) → k < length ts → place_pages (slice_index_or places k None) ≤ f (get_or ts k [])) → pages_read places ≤ sum_by f ts
-sums_within f [] [] size each = omega arith
-sums_within f [] (t ∷ ts) size each = absurd (omega (arith, size))
-sums_within f (p ∷ places) [] size each = absurd (omega (arith, size))
-sums_within f (p ∷ places) (t ∷ ts) size each =
-    omega (arith, sum_by-cons place_pages p places, sum_by-cons f t ts, each 0 (omega arith), sums_within f places ts (omega (arith, size)) (λ k lt. each (suc k) (omega (arith, lt))))
+pub sums_within : (g : Place → ℕ) (f : List ℕ → ℕ) (places : List Place) (ts : List (List ℕ)) → length places ≡ length ts →
+    ((k : ℕ) → k < length ts → g (slice_index_or places k None) ≤ f (get_or ts k [])) → sum_by g places ≤ sum_by f ts
+sums_within g f [] [] size each = omega arith
+sums_within g f [] (t ∷ ts) size each = absurd (omega (arith, size))
+sums_within g f (p ∷ places) [] size each = absurd (omega (arith, size))
+sums_within g f (p ∷ places) (t ∷ ts) size each =
+    omega (arith, sum_by-cons g p places, sum_by-cons f t ts, each 0 (omega arith), sums_within g f places ts (omega (arith, size)) (λ k lt. each (suc k) (omega (arith, lt))))
 
 place_span : (base collection asked t : List ℕ) (n : ℕ) (p : Place) → PlaceFor base collection asked t n p →
     ((c : Cursoring) → CursorFor base collection asked t n c → post_pages c ≤ span_pages collection t) → place_pages p ≤ span_pages collection t
@@ -224,39 +223,39 @@ place_span base collection asked t n (Some c) f law = law c f
 pub places_span : (base collection asked : List ℕ) (ts : List (List ℕ)) (n : ℕ) (places : List Place) →
     ((base collection asked t : List ℕ) (n : ℕ) (c : Cursoring) → CursorFor base collection asked t n c → post_pages c ≤ span_pages collection t) →
     PlacesFor base collection asked ts n places → pages_read places ≤ sum_by (span_pages collection) ts
-places_span base collection asked ts n places law f = sums_within (span_pages collection) places ts f.size
+places_span base collection asked ts n places law f = sums_within place_pages (span_pages collection) places ts f.size
     (λ k lt. place_span base collection asked (get_or ts k []) n (slice_index_or places k None) (f.each k lt) (law base collection asked (get_or ts k []) n))
 
 -- what mg_post says of the pages of one cursor
 abbrev pub CursorsWithin : Type 0
-CursorsWithin = (base collection asked t : List ℕ) (n : ℕ) (c : Cursoring) → CursorFor base collection asked t n c → post_pages c ≤ pages_for collection asked t
+CursorsWithin = (base collection asked t : List ℕ) (n : ℕ) (c : Cursoring) → CursorFor base collection asked t n c → post_pages c ≤ place_bound collection asked t
 
 pub places_bound : (base collection asked : List ℕ) (ts : List (List ℕ)) (n : ℕ) (places : List Place) → CursorsWithin →
-    PlacesFor base collection asked ts n places → pages_read places ≤ sum_by (pages_for collection asked) ts
-places_bound base collection asked ts n places law f = sums_within (pages_for collection asked) places ts f.size
-    (λ k lt. place_bound base collection asked (get_or ts k []) n (slice_index_or places k None) (f.each k lt) (law base collection asked (get_or ts k []) n))
+    PlacesFor base collection asked ts n places → pages_read places ≤ sum_by (place_bound collection asked) ts
+places_bound base collection asked ts n places law f = sums_within place_pages (place_bound collection asked) places ts f.size
+    (λ k lt. place_within base collection asked (get_or ts k []) n (slice_index_or places k None) (f.each k lt) (law base collection asked (get_or ts k []) n))
 
 pub set_bound : (base collection asked : List ℕ) (ts : List (List ℕ)) (n i : ℕ) (now : List Place) (v : Place) → CursorsWithin →
-    PlacesFor base collection asked ts n now → i < length ts → place_pages v ≤ pages_for collection asked (get_or ts i []) →
-    pages_read (slice_set now i v) ≤ sum_by (pages_for collection asked) ts
-set_bound base collection asked ts n i now v law f lt le = sums_within (pages_for collection asked) (slice_set now i v) ts (length-set now i v ∙ f.size) each
+    PlacesFor base collection asked ts n now → i < length ts → place_pages v ≤ place_bound collection asked (get_or ts i []) →
+    pages_read (slice_set now i v) ≤ sum_by (place_bound collection asked) ts
+set_bound base collection asked ts n i now v law f lt le = sums_within place_pages (place_bound collection asked) (slice_set now i v) ts (length-set now i v ∙ f.size) each
   where
-    each : (k : ℕ) → k < length ts → place_pages (slice_index_or (slice_set now i v) k None) ≤ pages_for collection asked (get_or ts k [])
+    each : (k : ℕ) → k < length ts → place_pages (slice_index_or (slice_set now i v) k None) ≤ place_bound collection asked (get_or ts k [])
     each k inside =
         elim (cases_eq k i) [
           | inl same ↦ rw same (omega (arith, ap place_pages (set_self now i v (omega (arith, lt, f.size))), le))
           | inr other ↦ omega (
             arith,
             ap place_pages (get_or-set_other now i k v None other),
-            place_bound base collection asked (get_or ts k []) n (slice_index_or now k None) (f.each k inside) (law base collection asked (get_or ts k []) n),
+            place_within base collection asked (get_or ts k []) n (slice_index_or now k None) (f.each k inside) (law base collection asked (get_or ts k []) n),
           )
         ]
 
 -- one place was asked, whatever it answered
 pub asked_pages : (base collection asked : List ℕ) (ts : List (List ℕ)) (n i : ℕ) (old now : List Place) (v : Place) (before mid after : Reads) →
     CursorsWithin → PlacesFor base collection asked ts n now → i < length ts → mid Post + pages_read old ≤ before Post + pages_read now →
-    PagesWithin (pages_for collection asked (get_or ts i [])) (place_pages (slice_index_or now i None)) (place_pages v) mid after →
-    PagesWithin (sum_by (pages_for collection asked) ts) (pages_read old) (pages_read (slice_set now i v)) before after
+    PagesWithin (place_bound collection asked (get_or ts i [])) (place_pages (slice_index_or now i None)) (place_pages v) mid after →
+    PagesWithin (sum_by (place_bound collection asked) ts) (pages_read old) (pages_read (slice_set now i v)) before after
 asked_pages base collection asked ts n i old now v before mid after law f lt so_far step = record {
   within = set_bound base collection asked ts n i now v law f lt step.within;
   post = omega (arith, sum_by-set place_pages now i v None (omega (arith, lt, f.size)), so_far, step.post);

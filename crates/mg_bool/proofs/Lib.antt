@@ -1,5 +1,6 @@
 mod LeadLaws
 mod AskLaws
+mod BoundLaws
 mod CallLaws
 mod AnyLaws
 mod FirstLaws

@@ -14,15 +14,15 @@ use Rattle.mg_defs.specs.QueryTerms.{query_terms}
 use Rattle.mg_defs.specs.ShownAnswers.{plain, found}
 use Rattle.mg_defs.proofs.ReplyLaws.{found-hit, found-miss}
 use Rattle.mg_defs.proofs.ListLaws.{list_rises}
-use Rattle.mg_defs.specs.PageBounds.{leading, leftmost_fewest, asked_of, asked_by_leader, numbers_in, all_numbers, is_met, in_range, boolean_bound, pages_for}
+use Rattle.mg_defs.specs.PageBounds.{leading, leftmost_fewest, asked_of, asked_by_leader, numbers_in, all_numbers, is_met, in_range}
 use Rattle.mg_laws.proofs.BoundLaws.{range_true}
 use Rattle.mg_laws.proofs.BoundsInWords.{number_there}
 use Rattle.mg_laws.proofs.LedLists.{first_of, list_from, from_front, length_front, docs_from, lead_skips, lead_ends, Skips}
 use Rattle.mg_laws.proofs.MetBlocks.{own_met, first_in}
 use Rattle.mg_query.specs.QueryOf.{query_of}
 use Rattle.mg_post.specs.TermLists.{IsAmong, ListsStand, PagesWithin}
-use Rattle.mg_bool.specs.Places.{AnswersPlace, AsksAll, AsksPlace, Place, PlaceOn, PlacesFor, PlacesOn, pages_read, place_pages}
-use Rattle.mg_bool.specs.Matches.{GoesOn, GoesOver, IsNext, IsNextDoc, Leads, Matching, MatchesOver, PlacesOver, left_in, left_of}
+use Rattle.mg_bool.specs.Places.{AnswersPlace, AsksAll, AsksPlace, Place, PlaceOn, PlacesFor, PlacesOn, pages_read, place_bound, place_pages}
+use Rattle.mg_bool.specs.Matches.{GoesOn, GoesOver, IsNext, IsNextDoc, Leads, Matching, MatchesOver, PlacesOver, left_in, left_of, query_bound}
 use Rattle.mg_bool.proofs.AskLaws.{CursorsWithin, asked_one, asked_pages, first_number, places_bound, places_later}
 
 -- ---- which documents are asked
@@ -155,16 +155,16 @@ lead_answer base collection q files places lead place all decided v found goes l
 
 pub lead_pages : (base collection : List ℕ) (q : Query) (files : Option Files) (places : List Place) (lead : Option ℕ) (place all decided : ℕ) (v : Place)
     (before after : Reads) → CursorsWithin → GoesOver base collection q files places lead all decided → LeadAsked base collection q files places place decided →
-    PagesWithin (pages_for collection (asked_of collection q) (get_or (query_terms q) place [])) (place_pages (slice_index_or places place None))
-    (place_pages v) before after → PagesWithin (boolean_bound collection q) (pages_read places) (pages_read (slice_set places place v)) before after
-unfolding boolean_bound
+    PagesWithin (place_bound collection (asked_of collection q) (get_or (query_terms q) place [])) (place_pages (slice_index_or places place None))
+    (place_pages v) before after → PagesWithin (query_bound collection q) (pages_read places) (pages_read (slice_set places place v)) before after
+unfolding query_bound
 lead_pages base collection q files places lead place all decided v before after law goes l step =
     asked_pages base collection (asked_of collection q) (query_terms q) (decided + 1) place places places v before before after law goes.over.each l.there (omega arith) step
 
 pub still_pages : (base collection : List ℕ) (q : Query) (n : ℕ) (places : List Place) (before : Reads) → CursorsWithin →
     PlacesFor base collection (asked_of collection q) (query_terms q) n places →
-    PagesWithin (boolean_bound collection q) (pages_read places) (pages_read places) before before
-unfolding boolean_bound
+    PagesWithin (query_bound collection q) (pages_read places) (pages_read places) before before
+unfolding query_bound
 still_pages base collection q n places before law f = record { within = places_bound base collection (asked_of collection q) (query_terms q) n places law f; post = omega arith }
 
 -- the place that leads is over as many documents
@@ -215,9 +215,9 @@ pub pages_more : (bound old mid now : ℕ) (before between after : Reads) → be
 pages_more bound old mid now before between after so_far step = record { within = step.within; post = omega (arith, so_far, step.post) }
 
 pub sum_pages : (collection : List ℕ) (q : Query) (old now : ℕ) (before after : Reads) →
-    PagesWithin (sum_by (pages_for collection (asked_of collection q)) (query_terms q)) old now before after →
-    PagesWithin (boolean_bound collection q) old now before after
-unfolding boolean_bound
+    PagesWithin (sum_by (place_bound collection (asked_of collection q)) (query_terms q)) old now before after →
+    PagesWithin (query_bound collection q) old now before after
+unfolding query_bound
 sum_pages collection q old now before after p = p
 
 -- ---- the loop over the documents
@@ -275,8 +275,8 @@ going_end base collection q old now lead all d e before after going le =
     (subst (λ l. GoesOn l (left_in collection q e) None) (sym (going.left ∙ none)) none, going.over)
 
 pub going_pages : (base collection : List ℕ) (q : Query) (old now : List Place) (lead : Option ℕ) (all d e : ℕ) (before after : Reads) → CursorsWithin →
-    Going base collection q old now lead all d e before after → PagesWithin (boolean_bound collection q) (pages_read old) (pages_read now) before after
-unfolding boolean_bound
+    Going base collection q old now lead all d e before after → PagesWithin (query_bound collection q) (pages_read old) (pages_read now) before after
+unfolding query_bound
 going_pages base collection q old now lead all d e before after law going = record {
   within = places_bound base collection (asked_of collection q) (query_terms q) (e + 1) now law going.over.each;
   post = going.post;
@@ -291,5 +291,5 @@ ended_goes base collection m is over =
     (subst (λ l. GoesOn l (left_of collection m) None) (sym none) none, over)
 
 pub ended_pages : (base collection : List ℕ) (m : Matching) (before : Reads) → CursorsWithin → MatchesOver base collection m →
-    PagesWithin (boolean_bound collection (query_of m.asks)) (pages_read m.places) (pages_read m.places) before before
+    PagesWithin (query_bound collection (query_of m.asks)) (pages_read m.places) (pages_read m.places) before before
 ended_pages base collection m before law over = still_pages base collection (query_of m.asks) (m.decided + 1) m.places before law over.each

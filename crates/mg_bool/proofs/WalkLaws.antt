@@ -7,12 +7,12 @@ use Rattle.mg_dev.specs.declared.part_err.PartErr.TheVariants as err
 use Rattle.mg_defs.specs.Terms.{document}
 use Rattle.mg_defs.specs.Sat.{Query, satisfies}
 use Rattle.mg_defs.specs.QueryTerms.{query_terms}
-use Rattle.mg_defs.specs.PageBounds.{asked_of, boolean_bound}
+use Rattle.mg_defs.specs.PageBounds.{asked_of}
 use Rattle.mg_query.specs.Holds.{AreThere, holds}
 use Rattle.mg_post.specs.Answers.{AnswersList}
 use Rattle.mg_post.specs.Cursor.{NamesItsPart}
 use Rattle.mg_bool.specs.Places.{AnswersFirst, AsksAll, FindsFirst, Place, PlacesAnswer, PlacesFit, PlacesFor, PlacesRead, pages_read}
-use Rattle.mg_bool.specs.Matches.{FindsCandidate, GoesOver, IsNext, IsNextDoc, Leads, ReadsBetween, left_in}
+use Rattle.mg_bool.specs.Matches.{FindsCandidate, GoesOver, IsNext, IsNextDoc, Leads, ReadsBetween, left_in, query_bound}
 use Rattle.mg_bool.specs.Walked.{IsReady, Spot, Walked}
 use Rattle.mg_bool.proofs.ShownLaws.{NextShown, Passes, passes_miss, passes_on, passes_start, shown_end, shown_hit}
 use Rattle.mg_bool.proofs.AskLaws.{CursorsWithin, err_answer, places_later, same_then}
@@ -82,7 +82,7 @@ module _ {q : Query} {led : Option ℕ} {all : ℕ} {old mid : Spot} {f g : Opti
       (there : length told ≡ length mid.there) (pages : ReadsBetween q g s t led all mid.places places mid.decided) where
     more_pages : ReadsBetween q f r t led all old.places places old.decided
     more_pages base collection goes =
-        pages_more (boolean_bound collection q) (pages_read old.places) (pages_read mid.places) (pages_read places) r s t (u.goes base collection goes).post
+        pages_more (query_bound collection q) (pages_read old.places) (pages_read mid.places) (pages_read places) r s t (u.goes base collection goes).post
         (pages base collection (now_over base collection goes))
 
     -- a call refused
@@ -188,7 +188,7 @@ module _ {q : Query} {led : Option ℕ} {all d doc : ℕ} {places between : List
 
   pub asked_reads : (now : List Place) (t : Reads) → PlacesRead doc g1 between now s1 t → ReadsBetween q g s t led all places now d
   asked_reads now t read base collection goes =
-      pages_more (boolean_bound collection q) (pages_read places) (pages_read between) (pages_read now) s s1 t (pages base collection goes).post
+      pages_more (query_bound collection q) (pages_read places) (pages_read between) (pages_read now) s s1 t (pages base collection goes).post
       (sum_pages collection q (pages_read between) (pages_read now) s1 t (read base collection (asked_of collection q) (query_terms q) (asks_at base collection goes)))
 
   pub asked_decides : (now : List Place) (told : List Bool) (b : Bool) → PlacesAnswer {T = Unit {0}} doc g1 between now told (Ok tt) → Says q told b → Decides q g led all places d doc b now

@@ -9,12 +9,12 @@ use Rattle.mg_defs.specs.Terms.{document}
 use Rattle.mg_defs.specs.Lists.{postings, from_doc}
 use Rattle.mg_defs.specs.Sat.{Query, term}
 use Rattle.mg_defs.specs.QueryTerms.{query_terms}
-use Rattle.mg_defs.specs.PageBounds.{asked_of, boolean_bound}
+use Rattle.mg_defs.specs.PageBounds.{asked_of}
 use Rattle.mg_defs.specs.Weights.{has_term}
 use Rattle.mg_post.specs.TermLists.{PagesWithin}
 use Rattle.mg_laws.proofs.LedLists.{first_after, first_of, list_from, list_hit, list_miss}
 use Rattle.mg_bool.specs.Places.{AnswersPlace, IsInRange, Place}
-use Rattle.mg_bool.specs.Matches.{GoesOn, GoesOver, PlacesOver, left_in}
+use Rattle.mg_bool.specs.Matches.{GoesOn, GoesOver, PlacesOver, left_in, query_bound}
 use Rattle.mg_bool.proofs.AskLaws.{first_number, places_later}
 use Rattle.mg_bool.proofs.NextLaws.{LeadAsked, all_over, decided_hit, decided_over, lead_answer, lead_from, none_goes}
 
@@ -83,8 +83,8 @@ word_goes base collection t q files places lead place all decided is led goes =
     subst (λ (r : Query). GoesOver base collection r files places (Some place) all decided) is (subst (λ (l : Option ℕ). GoesOver base collection q files places l all decided) led goes)
 
 pub word_pages : (collection t : List ℕ) (q : Query) (old now : ℕ) (before after : Reads) → q ≡ term t →
-    PagesWithin (boolean_bound collection (term t)) old now before after → PagesWithin (boolean_bound collection q) old now before after
-word_pages collection t q old now before after is pages = subst (λ (r : Query). PagesWithin (boolean_bound collection r) old now before after) (sym is) pages
+    PagesWithin (query_bound collection (term t)) old now before after → PagesWithin (query_bound collection q) old now before after
+word_pages collection t q old now before after is pages = subst (λ (r : Query). PagesWithin (query_bound collection r) old now before after) (sym is) pages
 
 pub word_found : (base collection t : List ℕ) (q : Query) (places : List Place) (lead : Option ℕ) (place all decided n m : ℕ) (found : Option ℕ) → q ≡ term t → lead ≡ Some place → n ≡ m →
     GoesOn (left_in collection (term t) decided) (left_in collection (term t) m) found × PlacesOver base collection (term t) places (Some place) all m →

@@ -1,5 +1,5 @@
 -- The documents that satisfy a query, one after another: what contracts see of them.
-use Rattle.std.specs.Prelude.{◌≡◌, ℕ, ◌+◌, ◌<◌, ◌≤◌, ◌∷◌, ◌-◌, List, [], length, get_or, drop, unwrap_or, Option, Result, Some, None}
+use Rattle.std.specs.Prelude.{◌≡◌, ℕ, ◌+◌, ◌<◌, ◌≤◌, ◌∷◌, ◌-◌, List, [], length, get_or, drop, sum_by, unwrap_or, Option, Result, Some, None}
 use Rattle.mg_dev.specs.Files.{Files, Reads}
 use Rattle.mg_dev.specs.Names.{full_name}
 use Rattle.mg_dev.specs.declared.part.Part.TheVariants as part
@@ -16,7 +16,7 @@ use Rattle.mg_layout.specs.declared.term_info.TermInfo.{TermInfo}
 use Rattle.mg_bits.specs.Alike.{WhereSame}
 use Rattle.mg_post.specs.Answers.{AnswersList}
 use Rattle.mg_post.specs.TermLists.{IsAmong, ListsStand, PagesWithin}
-use Rattle.mg_bool.specs.Places.{AreInfos, Place, PlacesFit, PlacesFor, PlacesOn, pages_read}
+use Rattle.mg_bool.specs.Places.{AreInfos, Place, PlacesFit, PlacesFor, PlacesOn, pages_read, place_bound}
 
 pub record Matching : Type 0 where
   -- the query, its places from left to right, and which of them leads
@@ -93,6 +93,10 @@ IsWithin (Some place) n = place < n
 
 -- ---- what a call finds and reads
 
+-- the pages of Post that a query may read: at each place of a term those that the place may read for the documents that are asked
+unfoldable pub query_bound : List ℕ → Query → ℕ
+query_bound collection q = sum_by (place_bound collection (asked_of collection q)) (query_terms q)
+
 -- before the first document that satisfies the query, of whose terms these are told
 abbrev pub StartsMatches : List ℕ → Query → List (Option TermInfo) → ℕ → Matching → Type 0
 StartsMatches base q infos all m = (collection : List ℕ) → AreInfos collection (query_terms q) infos →
@@ -108,7 +112,7 @@ abbrev pub MatchesGoOn : List ℕ → List ℕ → Matching → Matching → Opt
 MatchesGoOn base collection old now found = GoesOn (left_of collection old) (left_of collection now) found
     × MatchesOver base collection now
 
--- no more pages of Post are read than the query may read of the collection
+-- no more pages of Post are read than those of the blocks whose range holds a document that is asked
 abbrev pub MatchesRead : List ℕ → Matching → Matching → Reads → Reads → Type 0
 MatchesRead collection old now before after = PagesWithin (boolean_bound collection (query_of old.asks))
     (pages_read old.places) (pages_read now.places) before after
@@ -137,7 +141,7 @@ FindsNext q files lead all old now decided decided_now result = (base collection
 abbrev pub ReadsBetween : Query → Option Files → Reads → Reads → Option ℕ → ℕ → List Place → List Place → ℕ → Type 0
 ReadsBetween q files before after lead all old now decided = (base collection : List ℕ) →
     GoesOver base collection q files old lead all decided →
-    PagesWithin (boolean_bound collection q) (pages_read old) (pages_read now) before after
+    PagesWithin (query_bound collection q) (pages_read old) (pages_read now) before after
 
 -- the same of a store, by what tells its files and its reads
 abbrev pub ReadsNext : {X : Type 0} → Query → (X → Option Files) → (X → Reads) → X → X → Option ℕ → ℕ → List Place →

@@ -1,20 +1,22 @@
 -- The places of a query's terms: a cursor over the list of each, or none where no document has the term.
-use Rattle.std.specs.Prelude.{◌≡◌, ℕ, ◌+◌, ◌≤◌, ◌<◌, ◌==◌, nat_lt, true, false, Bool, List, [], length, get_or, slice_index_or, sum_by, Option, Result, Some, None, IfSome}
+use Rattle.std.specs.Prelude.{◌≡◌, ℕ, ◌+◌, ◌≤◌, ◌<◌, ◌==◌, nat_lt, min, true, false, Bool, List, [], length, get_or, slice_index_or, sum_by, Option, Result, Some, None, IfSome}
 use Rattle.mg_dev.specs.Files.{Files, Reads}
 use Rattle.mg_dev.specs.Names.{full_name}
 use Rattle.mg_dev.specs.declared.part.Part.TheVariants as part
 use Rattle.mg_dev.specs.declared.part_err.PartErr.{PartErr}
 use Rattle.mg_defs.specs.declared.Posting.{Posting}
 use Rattle.mg_defs.specs.Split.{documents}
-use Rattle.mg_defs.specs.Terms.{document, docs}
+use Rattle.mg_defs.specs.Terms.{document, docs, term_number}
 use Rattle.mg_defs.specs.Weights.{has_term}
-use Rattle.mg_defs.specs.Lists.{postings, from_doc}
+use Rattle.mg_defs.specs.Lists.{block_count, first_entry, from_doc, postings}
 use Rattle.mg_defs.specs.PageBounds.{pages_for}
 use Rattle.mg_layout.specs.Infos.{IsInfoOf}
 use Rattle.mg_layout.specs.declared.term_info.TermInfo.{TermInfo}
 use Rattle.mg_query.specs.Holds.{AreThere}
 use Rattle.mg_post.specs.Cursor.{Cursoring, CursorFits, SameList, head_of, post_pages}
+use Rattle.mg_post.specs.PagesOnce.{span_pages}
 use Rattle.mg_post.specs.Answers.{AnswersList}
+use Rattle.mg_post.specs.Finding.{entries_pages}
 use Rattle.mg_post.specs.TermLists.{CursorFor, IsAmong, ListsStand, MayAsk, PagesWithin}
 
 -- ---- what the lexicon tells
@@ -50,6 +52,16 @@ PlaceFits files (Some c) = CursorFits c files
 abbrev pub place_pages : Place → ℕ
 place_pages None = 0
 place_pages (Some c) = post_pages c
+
+-- the pages of Post that a place of a term may read: those of the blocks of its list whose range holds a document that is
+-- asked, or where these are fewer those on which the list lies
+unfoldable pub place_bound : List ℕ → List ℕ → List ℕ → ℕ
+place_bound collection asked t = min (pages_for collection asked t) (span_pages collection t)
+
+-- the pages of Skip on which the entries of the list of a term lie
+unfoldable pub term_entries : List ℕ → List ℕ → ℕ
+term_entries collection t = entries_pages (first_entry collection (term_number collection t))
+    (block_count (length (postings collection t)))
 
 -- over the list of a term that was asked for no document past n; none where no document has the term
 abbrev pub PlaceFor : List ℕ → List ℕ → List ℕ → List ℕ → ℕ → Place → Type 0
@@ -96,11 +108,11 @@ CursorAnswers doc files old now result = (base collection asked t : List ℕ) �
     AnswersList result (λ found. (found ≡ number_in (head_of (from_doc doc (postings collection t))))
     × CursorFor base collection asked t doc now)
 
--- where it may be asked, no more pages of Post are read than its list has for the documents that are asked
+-- where it may be asked, no more pages of Post are read than its place may read for the documents that are asked
 abbrev pub CursorReads : ℕ → Option Files → Cursoring → Cursoring → Reads → Reads → Type 0
 CursorReads doc files old now before after = (base collection asked t : List ℕ) →
     MayAsk base collection asked t doc files old →
-    PagesWithin (pages_for collection asked t) (post_pages old) (post_pages now) before after
+    PagesWithin (place_bound collection asked t) (post_pages old) (post_pages now) before after
 
 -- where a place may be asked for the document, the answer is the first document of its list from that one on
 abbrev pub PlaceAnswers : ℕ → Option Files → Place → Place → Result (Option ℕ) PartErr → Type 0
@@ -108,11 +120,11 @@ PlaceAnswers doc files old now result = (base collection asked t : List ℕ) →
     AsksPlace base collection asked t doc files old →
     AnswersList result (λ found. AnswersPlace base collection asked t doc found now)
 
--- where it may be asked, no more pages of Post are read than its list has for the documents that are asked
+-- where it may be asked, no more pages of Post are read than its place may read for the documents that are asked
 abbrev pub PlaceReads : ℕ → Option Files → Place → Place → Reads → Reads → Type 0
 PlaceReads doc files old now before after = (base collection asked t : List ℕ) →
     AsksPlace base collection asked t doc files old →
-    PagesWithin (pages_for collection asked t) (place_pages old) (place_pages now) before after
+    PagesWithin (place_bound collection asked t) (place_pages old) (place_pages now) before after
 
 -- a document from the one asked for up to the last of all
 abbrev pub IsInRange : ℕ → ℕ → ℕ → Type 0
@@ -168,11 +180,11 @@ PlacesAnswer doc files old now there result = (base collection asked : List ℕ)
     AsksAll base collection asked ts doc files old →
     AnswersList result (λ _. AnswersAll base collection asked ts doc there now)
 
--- where all may be asked, no more pages of Post are read than their lists have for the documents that are asked
+-- where all may be asked, no more pages of Post are read than their places may read for the documents that are asked
 abbrev pub PlacesRead : ℕ → Option Files → List Place → List Place → Reads → Reads → Type 0
 PlacesRead doc files old now before after = (base collection asked : List ℕ) (ts : List (List ℕ)) →
     AsksAll base collection asked ts doc files old →
-    PagesWithin (sum_by (pages_for collection asked) ts) (pages_read old) (pages_read now) before after
+    PagesWithin (sum_by (place_bound collection asked) ts) (pages_read old) (pages_read now) before after
 
 -- ---- the first document that the list of any place has
 

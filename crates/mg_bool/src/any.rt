@@ -5,10 +5,10 @@ ghost use Rattle.mg_query.specs.QueryOf.{query_of};
 ghost use Rattle.mg_query.specs.Holds.{holds as holds_spec};
 ghost use Rattle.mg_bool.specs.Walked.{IsReady, Walked, spot};
 
+use crate::laws::cursors_are_within;
 use crate::places::ask_first;
 use crate::walk::{Asks, Walk};
 use mg_dev::{PartErr, Store};
-use mg_post::cursor_pages_are_within;
 
 /// The next document that satisfies a query which holds in no document without any of its terms:
 /// only the documents that some list has are asked, each the first of all lists behind the last.
@@ -25,7 +25,7 @@ pub(crate) fn next_of_any<S: Store>(
         (Walked (query_of asks.now.query.now) asks.now.lead asks.now.all (spot walk.old)
         (spot walk.new) result) }
 {
-    cursor_pages_are_within();
+    cursors_are_within();
     let all = asks.all;
     while walk.decided < all {
         let doc = match ask_first(&mut walk.places, store, walk.decided + 1, &mut walk.there) {

@@ -20,5 +20,8 @@ mod places;
 mod walk;
 mod word;
 
-pub use laws::{all_are_to_come, matches_read_each_page_once, matches_still_fit, skips_are_within};
+pub use laws::{
+    all_are_to_come, matches_read_each_page_once, matches_still_fit, query_bound_is_the_lesser,
+    skips_are_within,
+};
 pub use matches::Matches;

@@ -9,17 +9,17 @@ ghost use Rattle.mg_post.specs.Cursor.{NamesItsPart};
 ghost use Rattle.mg_post.specs.TermLists.{ReadsLists};
 ghost use Rattle.mg_bool.specs.Calls.{PlacesSkip, SkipsWithin, skips_read};
 ghost use Rattle.mg_bool.specs.Places.{pages_read};
-ghost use Rattle.mg_bool.specs.Matches.{MatchesFit, SameMatches, StartsMatches, ForMatches, MatchesGoOn, MatchesRead};
+ghost use Rattle.mg_bool.specs.Matches.{MatchesFit, SameMatches, StartsMatches, ForMatches, MatchesGoOn, MatchesRead, query_bound};
 ghost use Rattle.mg_bool.specs.Leads.{NeedsPlace};
 ghost use Rattle.mg_bool.specs.Shown.{AnswersShown, AreLists, MatchesStand, SameLists};
 
+use crate::laws::{cursors_are_within, query_bound_is_the_lesser};
 use crate::lead::lead_place;
 use crate::next::next_match;
 use crate::places::start_all;
 use crate::walk::{Asks, Walk};
 use mg_dev::{PartErr, Store};
 use mg_layout::TermInfo;
-use mg_post::cursor_pages_are_within;
 use mg_query::Query;
 use std::alloc::{AllocError, Global};
 use std::marker::Model;
@@ -117,6 +117,10 @@ impl<'a, S: Store> Matches<'a, S> {
         ensures pages { ForMatches (S.files store.old) self.old
             (λ _ collection. MatchesRead collection self.old self.new (S.reads store.old)
             (S.reads store.new)) }
+        // Nor more than at each place the lesser of these and the pages on which its list lies.
+        ensures least { ForMatches (S.files store.old) self.old
+            (λ _ collection. pages_read self.new.places
+            ≤ query_bound collection (query_of self.old.asks)) }
         // Whatever the parts have, of Skip no more is read than the lists' entries lie on.
         ensures skips { PlacesSkip self.old.places self.new.places (S.reads store.old)
             (S.reads store.new) }
@@ -136,7 +140,8 @@ impl<'a, S: Store> Matches<'a, S> {
         ensures memory { result ≢ Err PartErr.Memory }
         ensures cause { HasPartCause (S.faults store.old) (S.faults store.new) result }
     {
-        cursor_pages_are_within();
+        cursors_are_within();
+        query_bound_is_the_lesser();
         if self.walk.decided == self.asks.all {
             return Ok(None);
         }

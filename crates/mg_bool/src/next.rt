@@ -10,12 +10,12 @@ ghost use Rattle.mg_bool.specs.Shown.{PlacesStand, ShowsCandidate};
 ghost use Rattle.mg_bool.specs.Walked.{IsReady, Walked, spot};
 
 use crate::any::next_of_any;
+use crate::laws::cursors_are_within;
 use crate::place::Place;
 use crate::places::{ask_all, ask_at};
 use crate::walk::{Asks, Walk};
 use crate::word::next_of_word;
 use mg_dev::{PartErr, Store};
-use mg_post::cursor_pages_are_within;
 use mg_query::Query;
 
 /// The next document that may satisfy the query: of the list that leads, or any where none does.
@@ -41,7 +41,7 @@ fn candidate<S: Store>(
         IfOk result (λ found. ShowsCandidate (S.files store.old) places.old.items lead decided found
         × PlacesStand (S.files store.new) places.new.items (decided + 1)) }
 {
-    cursor_pages_are_within();
+    cursors_are_within();
     let Some(place) = lead else {
         return Ok(Some(decided + 1));
     };
@@ -60,7 +60,7 @@ fn next_asked<S: Store>(
         (Walked (query_of asks.now.query.now) asks.now.lead asks.now.all (spot walk.old)
         (spot walk.new) result) }
 {
-    cursor_pages_are_within();
+    cursors_are_within();
     while walk.decided < asks.all {
         let doc = match candidate(&mut walk.places, store, asks.lead, walk.decided, asks.all) {
             Ok(Some(doc)) => doc,

@@ -8,10 +8,10 @@ ghost use Rattle.mg_bool.specs.Places.{IsInRange, PlaceOn, PlacesFit, PlacesOn, 
 ghost use Rattle.mg_bool.specs.Places.{StartPlaces, PlacesAnswer, PlacesRead, FindsFirst, TakesFound, comes_sooner, is_first};
 ghost use Rattle.mg_bool.specs.Shown.{AllAsked, AreLists, FirstAsked, PlaceAsked, PlacesStand};
 
+use crate::laws::cursors_are_within;
 use crate::place::Place;
 use mg_dev::{PartErr, Store};
 use mg_layout::TermInfo;
-use mg_post::cursor_pages_are_within;
 use std::alloc::{AllocError, Global};
 
 /// Whether it is this document.
@@ -72,7 +72,7 @@ pub(crate) fn ask_all<S: Store>(
     ensures shows { AllAsked places.old.items places.new.items (S.files store.old)
         (S.files store.new) doc there.new.items result }
 {
-    cursor_pages_are_within();
+    cursors_are_within();
     for i in 0..places.len() {
         match ask_at(places, store, i, doc) {
             Ok(found) => there[i] = is_at(found, doc),
@@ -161,7 +161,7 @@ pub(crate) fn ask_first<S: Store>(
     ensures shows { FirstAsked places.old.items places.new.items (S.files store.old)
         (S.files store.new) from there.new.items result }
 {
-    cursor_pages_are_within();
+    cursors_are_within();
     let mut first = None;
     for i in 0..places.len() {
         match ask_at(places, store, i, from) {

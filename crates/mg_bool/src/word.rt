@@ -7,10 +7,10 @@ ghost use Rattle.mg_bool.specs.Places.{IsInRange, PlacesFit, PlacesOn};
 ghost use Rattle.mg_bool.specs.Matches.{decided_by, FindsNext, ReadsNext};
 ghost use Rattle.mg_bool.specs.Shown.{PlacesStand, ShowsCandidate};
 
+use crate::laws::cursors_are_within;
 use crate::place::Place;
 use crate::places::ask_at;
 use mg_dev::{PartErr, Store};
-use mg_post::cursor_pages_are_within;
 
 /// The next document of the only list of a query of one word: it is the next one that satisfies the
 /// query, so that nothing is asked twice. Where none is left all are decided.
@@ -37,6 +37,6 @@ pub(crate) fn next_of_word<S: Store>(
         IfOk result (λ found. ShowsCandidate (S.files store.old) places.old.items (Some place)
         decided found × PlacesStand (S.files store.new) places.new.items (decided + 1)) }
 {
-    cursor_pages_are_within();
+    cursors_are_within();
     ask_at(places, store, place, decided + 1)
 }

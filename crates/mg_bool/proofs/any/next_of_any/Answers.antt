@@ -64,4 +64,4 @@ loop-walk-preserved g c =
 -- ---- all documents were decided
 
 pub returns : goal.returns
-returns g c = walk_end c.loop-walk.invariant c.cursor_pages_are_within.ensures (omega (arith, c.loop-walk-test.false))
+returns g c = walk_end c.loop-walk.invariant c.cursors_are_within.ensures (omega (arith, c.loop-walk-test.false))

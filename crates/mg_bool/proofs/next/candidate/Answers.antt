@@ -1,11 +1,11 @@
 use Rattle.std.proofs.Common.{arith, ◌+◌, List, [], get_or, refl, sym, subst}
 use Rattle.std.specs.Prelude.{slice_index_or, slice_set, None}
 use Rattle.mg_defs.specs.QueryTerms.{query_terms}
-use Rattle.mg_defs.specs.PageBounds.{asked_of, boolean_bound}
+use Rattle.mg_defs.specs.PageBounds.{asked_of}
 use Rattle.mg_post.specs.Answers.{AnswersList}
 use Rattle.mg_post.specs.TermLists.{PagesWithin}
 use Rattle.mg_bool.specs.Places.{Place, PlacesFor, pages_read}
-use Rattle.mg_bool.specs.Matches.{IsNext, Leads}
+use Rattle.mg_bool.specs.Matches.{IsNext, Leads, query_bound}
 use Rattle.mg_bool.proofs.AskLaws.{answers_more}
 use Rattle.mg_bool.proofs.CallLaws.{called, stepped_none}
 use Rattle.mg_bool.proofs.ShownLaws.{candidate_asked}
@@ -23,7 +23,7 @@ returns-in_default-clause-answer g c = λ q base collection goes.
     (any_next collection q c.args.decided (omega (arith, goes.over.all_is, c.requires.more)) (subst (Leads collection q) c.in_default.is goes.over.leads), goes.over.each)
 
 pub returns-in_default-clause-pages : goal.returns-in_default-clause-pages
-returns-in_default-clause-pages g c = λ q base collection goes. still_pages base collection q (c.args.decided + 1) c.args.places.now.items _ c.cursor_pages_are_within.ensures goes.over.each
+returns-in_default-clause-pages g c = λ q base collection goes. still_pages base collection q (c.args.decided + 1) c.args.places.now.items _ c.cursors_are_within.ensures goes.over.each
 
 pub returns-clause-range : goal.returns-clause-range
 returns-clause-range g c = c.ask_at.ensures.range c.requires.on.0 c.args.all (c.requires.on.1.each c.in-Some.place)
@@ -43,10 +43,10 @@ returns-clause-answer g c = λ q base collection goes.
 pub returns-clause-pages : goal.returns-clause-pages
 returns-clause-pages g c = λ q base collection goes.
     let l = lead_of base collection q _ _ c.args.lead c.in-Some.place c.args.all c.args.decided c.in-Some.is goes in
-    subst (λ (ps : List Place). PagesWithin (boolean_bound collection q) (pages_read c.args.places.now.items) (pages_read ps) (g.S.Store.reads c.args.store.now)
+    subst (λ (ps : List Place). PagesWithin (query_bound collection q) (pages_read c.args.places.now.items) (pages_read ps) (g.S.Store.reads c.args.store.now)
     (g.S.Store.reads c.ask_at.new.store)) (sym c.ask_at.ensures.places)
     (lead_pages base collection q _ c.args.places.now.items c.args.lead c.in-Some.place c.args.all c.args.decided
-    (slice_index_or c.ask_at.new.places.items c.in-Some.place None) _ _ c.cursor_pages_are_within.ensures goes l
+    (slice_index_or c.ask_at.new.places.items c.in-Some.place None) _ _ c.cursors_are_within.ensures goes l
     (c.ask_at.ensures.pages base collection (asked_of collection q) (get_or (query_terms q) c.in-Some.place []) l.asks))
 
 pub returns-in_default-clause-shows : goal.returns-in_default-clause-shows

@@ -1,6 +1,7 @@
 use Rattle.std.proofs.Common.{arith, ap, refl, Some, None}
 use Rattle.mg_bool.specs.Places.{number_in}
 use Rattle.mg_bool.proofs.AskLaws.{err_answer}
+use Rattle.mg_bool.proofs.BoundLaws.{asked_within}
 use Rattle.mg_bool.proofs.CallLaws.{cursor_called, cursor_refused}
 use Rattle.mg_bool.proofs.place.ask_cursor.Goals as goal
 
@@ -16,6 +17,21 @@ returns-in-Ok-None-clause-answer g c = λ base collection asked t may.
 
 pub returns-in-Err-clause-answer : goal.returns-in-Err-clause-answer
 returns-in-Err-clause-answer g c = λ base collection asked t may. err_answer _ _ _ (c.in-Err.ensures.answer base collection asked t may)
+
+pub returns-in-Ok-Some-clause-pages : goal.returns-in-Ok-Some-clause-pages
+returns-in-Ok-Some-clause-pages g c = λ base collection asked t may.
+    let e = c.in-Ok-Some.ensures in
+    asked_within may e.same (e.once base collection asked t may) (e.pages base collection asked t may)
+
+pub returns-in-Ok-None-clause-pages : goal.returns-in-Ok-None-clause-pages
+returns-in-Ok-None-clause-pages g c = λ base collection asked t may.
+    let e = c.in-Ok-None.ensures in
+    asked_within may e.same (e.once base collection asked t may) (e.pages base collection asked t may)
+
+pub returns-in-Err-clause-pages : goal.returns-in-Err-clause-pages
+returns-in-Err-clause-pages g c = λ base collection asked t may.
+    let e = c.in-Err.ensures in
+    asked_within may e.same (e.once base collection asked t may) (e.pages base collection asked t may)
 
 pub returns-in-Ok-Some-clause-shows : goal.returns-in-Ok-Some-clause-shows
 returns-in-Ok-Some-clause-shows g c = λ stands.

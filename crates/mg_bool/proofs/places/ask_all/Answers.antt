@@ -2,8 +2,7 @@ use Rattle.std.proofs.Common.{arith, ◌<◌, ◌+◌, List, [], length, get_or,
 use Rattle.std.specs.Prelude.{slice_index_or, slice_set, None, sum_by}
 use Rattle.std.proofs.lemmas.List.{length-set}
 use Rattle.mg_post.specs.TermLists.{PagesWithin}
-use Rattle.mg_bool.specs.Places.{Asking, Place, pages_read}
-use Rattle.mg_defs.specs.PageBounds.{pages_for}
+use Rattle.mg_bool.specs.Places.{Asking, Place, pages_read, place_bound}
 use Rattle.mg_bool.proofs.AskLaws.{asking_start, asking_next, asking_end, places_bound, asked_pages, err_answer, found_is, asks_one}
 use Rattle.mg_bool.proofs.CallLaws.{called, refused, stepped, stepped_none, stepped_on}
 use Rattle.mg_bool.proofs.ShownLaws.{AskingShown, asking_shown_next, asking_shown_start}
@@ -61,7 +60,7 @@ returns-clause-answer g c = λ base collection asked ts asks.
 pub returns-clause-pages : goal.returns-clause-pages
 returns-clause-pages g c = λ base collection asked ts asks.
     let a = c.loop-i.invariant.asking base collection asked ts asks in
-    record { within = places_bound base collection asked ts c.args.doc _ c.cursor_pages_are_within.ensures a.places_for; post = a.post }
+    record { within = places_bound base collection asked ts c.args.doc _ c.cursors_are_within.ensures a.places_for; post = a.post }
 
 pub returns-in-Err-clause-answer : goal.returns-in-Err-clause-answer
 returns-in-Err-clause-answer g c = λ base collection asked ts asks.
@@ -76,11 +75,11 @@ returns-in-Err-clause-pages g c = λ base collection asked ts asks.
     let lt : c.loop-i.i < length ts = omega (arith, a.places_for.size, c.loop-i.invariant.step.same.size, c.loop-i-test.true, c.len-i-end.ensures) in
     let one = asks_one base collection asked ts c.args.doc c.loop-i.i _ _ c.loop-i.places.items c.args.places.now.items c.loop-i.invariant.step.files asks a.places_for lt in
     let step = c.ask_at.ensures.pages base collection asked (get_or ts c.loop-i.i []) one in
-    subst (λ (ps : List Place). PagesWithin (sum_by (pages_for collection asked) ts) (pages_read c.args.places.now.items) (pages_read ps)
+    subst (λ (ps : List Place). PagesWithin (sum_by (place_bound collection asked) ts) (pages_read c.args.places.now.items) (pages_read ps)
     (g.S.Store.reads c.args.store.now) (g.S.Store.reads c.ask_at.new.store)) (sym c.ask_at.ensures.places)
     (asked_pages base collection asked ts c.args.doc c.loop-i.i c.args.places.now.items c.loop-i.places.items
     (slice_index_or c.ask_at.new.places.items c.loop-i.i None) (g.S.Store.reads c.args.store.now) (g.S.Store.reads c.loop-i.store)
-    (g.S.Store.reads c.ask_at.new.store) c.cursor_pages_are_within.ensures a.places_for lt a.post step)
+    (g.S.Store.reads c.ask_at.new.store) c.cursors_are_within.ensures a.places_for lt a.post step)
 
 pub returns-clause-shows : goal.returns-clause-shows
 returns-clause-shows g c = λ stands.

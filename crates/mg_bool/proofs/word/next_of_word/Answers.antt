@@ -1,11 +1,12 @@
 use Rattle.std.proofs.Common.{List, [], get_or, refl, sym, subst}
 use Rattle.std.specs.Prelude.{slice_index_or, slice_set, None, Some}
 use Rattle.mg_defs.specs.QueryTerms.{query_terms}
-use Rattle.mg_defs.specs.PageBounds.{asked_of, boolean_bound}
+use Rattle.mg_defs.specs.PageBounds.{asked_of}
 use Rattle.mg_defs.specs.Sat.{term}
 use Rattle.mg_post.specs.Answers.{AnswersList}
 use Rattle.mg_post.specs.TermLists.{PagesWithin}
 use Rattle.mg_bool.specs.Places.{Place, pages_read}
+use Rattle.mg_bool.specs.Matches.{query_bound}
 use Rattle.mg_bool.proofs.AskLaws.{answers_more}
 use Rattle.mg_bool.proofs.ShownLaws.{candidate_asked}
 use Rattle.mg_bool.proofs.NextLaws.{lead_of, lead_pages}
@@ -28,10 +29,10 @@ returns-clause-answer g c = λ t base collection goes.
 pub returns-clause-pages : goal.returns-clause-pages
 returns-clause-pages g c = λ t base collection goes.
     let l = lead_of base collection (term t) _ _ (Some c.args.place) c.args.place c.args.all c.args.decided refl goes in
-    subst (λ (ps : List Place). PagesWithin (boolean_bound collection (term t)) (pages_read c.args.places.now.items) (pages_read ps)
+    subst (λ (ps : List Place). PagesWithin (query_bound collection (term t)) (pages_read c.args.places.now.items) (pages_read ps)
     (g.S.Store.reads c.args.store.now) (g.S.Store.reads c.ask_at.new.store)) (sym c.ask_at.ensures.places)
     (lead_pages base collection (term t) _ c.args.places.now.items (Some c.args.place) c.args.place c.args.all c.args.decided
-    (slice_index_or c.ask_at.new.places.items c.args.place None) _ _ c.cursor_pages_are_within.ensures goes l
+    (slice_index_or c.ask_at.new.places.items c.args.place None) _ _ c.cursors_are_within.ensures goes l
     (c.ask_at.ensures.pages base collection (asked_of collection (term t)) (get_or (query_terms (term t)) c.args.place []) l.asks))
 
 pub returns-clause-shows : goal.returns-clause-shows

@@ -1,6 +1,7 @@
 use Rattle.std.proofs.Common.{refl}
 use Rattle.mg_bool.proofs.AskLaws.{same_all}
 use Rattle.mg_bool.proofs.CallLaws.{skips_none}
+use Rattle.mg_bool.proofs.BoundLaws.{in_blocks}
 use Rattle.mg_bool.proofs.NextLaws.{ended_goes, ended_pages}
 use Rattle.mg_bool.proofs.ShownLaws.{ended_shown}
 use Rattle.mg_bool.proofs.matches.Matches.next.Goals as goal
@@ -9,10 +10,19 @@ pub returns-then-self-clause-answer : goal.returns-then-self-clause-answer
 returns-then-self-clause-answer g c = λ base collection stand over. ended_goes base collection c.args.self.now (rw (← c.self.view_is) c.if-self.true) over
 
 pub returns-then-self-clause-pages : goal.returns-then-self-clause-pages
-returns-then-self-clause-pages g c = λ base collection stand over. ended_pages base collection c.args.self.now _ c.cursor_pages_are_within.ensures over
+returns-then-self-clause-pages g c = λ base collection stand over.
+    in_blocks collection _ c.query_bound_is_the_lesser.ensures.blocks (ended_pages base collection c.args.self.now _ c.cursors_are_within.ensures over)
+
+pub returns-then-self-clause-least : goal.returns-then-self-clause-least
+returns-then-self-clause-least g c = λ base collection stand over.
+    (ended_pages base collection c.args.self.now (g.S.Store.reads c.args.store.now) c.cursors_are_within.ensures over).within
 
 pub returns-clause-pages : goal.returns-clause-pages
-returns-clause-pages g c = rw (← c.self.view_is) (λ base collection stand over. c.next_match.ensures.pages base collection (record { stand = stand; over = over }))
+returns-clause-pages g c = rw (← c.self.view_is) (λ base collection stand over.
+    in_blocks collection _ c.query_bound_is_the_lesser.ensures.blocks (c.next_match.ensures.pages base collection (record { stand = stand; over = over })))
+
+pub returns-clause-least : goal.returns-clause-least
+returns-clause-least g c = rw (← c.self.view_is) (λ base collection stand over. (c.next_match.ensures.pages base collection (record { stand = stand; over = over })).within)
 
 pub returns-then-self-clause-shows : goal.returns-then-self-clause-shows
 returns-then-self-clause-shows g c = ended_shown c.args.self.now _ (rw (← c.self.view_is) c.if-self.true)
