@@ -1,4 +1,5 @@
 mod Lists
+mod Keys
 mod Counting
 mod Order
 mod Sorting

@@ -15,7 +15,6 @@ use Rattle.std.specs.Option.{IsSome}
 use Rattle.mg_dev.specs.Files.{Files, Reads, bytes_at}
 use Rattle.mg_dev.specs.Names.{same_part}
 use Rattle.mg_dev.proofs.CallerLemmas.{cause_err, cause_ok}
-use Rattle.mg_dev.specs.PartCauses.{HasPartCause}
 use Rattle.mg_bits.specs.Pages.{Looked, Paging}
 use Rattle.mg_front.specs.Looks.{ReadOn, ReadTo}
 use Rattle.mg_front.proofs.CallerLemmas.{on_more, on_same, read_first, read_first_to}

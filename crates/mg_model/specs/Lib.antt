@@ -1,3 +1,4 @@
+pub mod Keys
 pub mod Vocabularies
 pub mod Blocks
 pub mod Pieces

@@ -14,8 +14,8 @@ use std::alloc::{AllocError, Global};
 use std::cmp::Ordering;
 use std::marker::Model;
 
-/// The most bytes of a piece that its entry holds.
-const SHORT: usize = 15;
+/// The most bytes of a piece that its entry or its key holds.
+pub(crate) const SHORT: usize = 15;
 
 /// Pieces in entries of sixteen bytes.
 ///

@@ -16,6 +16,7 @@ mod block;
 mod dropping;
 mod entry_walk;
 mod laws;
+mod piece_key;
 mod pieces;
 mod reading;
 mod room;

@@ -4,11 +4,13 @@ ghost use Rattle.std.specs.List.Sorted.{IsStrictlySortedBy};
 ghost use Rattle.std.specs.Ordering.{nat_cmp};
 ghost use Rattle.std.specs.Cmp.Lexicographic.{slice_cmp};
 ghost use Rattle.std.specs.Str.{bytes_eq};
+ghost use Rattle.indexmap.specs.IndexMap.{keys};
 ghost use Rattle.mg_defs.specs.Vocabulary.{has_piece, counted, total, sorted_of, counts_of};
 ghost use Rattle.mg_model.specs.Vocabularies.{IsVocabulary, pieces_of, entry_counts};
 
 use crate::VocabErr;
-use indexmap::IndexMap;
+use crate::piece_key::{PieceKey, key_of, new_key, order, piece_of};
+use indexmap::{IndexMap, IndexSet};
 use std::alloc::{AllocError, Global};
 use std::marker::Model;
 
@@ -18,21 +20,35 @@ const MOST_PIECES: usize = 1 << 22;
 /// The distinct pieces of a stream in the order of their first appearance, each with how often it
 /// came.
 ///
-/// A count takes four bytes, for fewer than 2^32 pieces are counted.
+/// A count takes four bytes, for fewer than 2^32 pieces are counted. The map has a key of sixteen
+/// bytes for each piece, which holds the piece where it has at most fifteen. The longer pieces stand
+/// in a set of their own.
 #[derive(Drop)]
 pub struct Vocab {
-    counts: IndexMap<Vec<u8>, u32>,
+    counts: IndexMap<PieceKey, u32>,
+    longer: IndexSet<Vec<u8>>,
 }
 
 impl Model for Vocab {
     ghost use Rattle.std.specs.Prelude.{ℕ, List};
-    ghost use Rattle.mg_model.specs.Vocabularies.{IsVocabulary, entries_of};
+    ghost use Rattle.mg_model.specs.Vocabularies.{IsKept, entries_of};
 
     ghost Value = { List (List ℕ × ℕ) };
 
-    ghost view = { λ v. entries_of v.counts.entries };
+    ghost view = { λ v. entries_of v.longer.keys v.counts.entries };
 
-    ghost invariant = { λ v. IsVocabulary (entries_of v.counts.entries) };
+    ghost invariant = { λ v. IsKept v.longer.keys v.counts.entries };
+}
+
+/// The place of a key in a map of at most 2^22.
+fn place_in(counts: &IndexMap<PieceKey, u32>, key: &PieceKey) -> Option<u32>
+    requires { length counts.now.entries ≤ 2 ^ 22 }
+    ensures { result ≡ position (λ k. bytes_eq key.now.entry k.entry) (keys counts.now) }
+{
+    match counts.get_index_of(key) {
+        Some(place) => Some(place as u32),
+        None => None,
+    }
 }
 
 impl Vocab {
@@ -42,6 +58,7 @@ impl Vocab {
     {
         Vocab {
             counts: IndexMap::new(alloc),
+            longer: IndexSet::new(alloc),
         }
     }
 
@@ -68,11 +85,26 @@ impl Vocab {
         ensures known { has_piece self.old piece.now ≡ true → IsOk result }
         ensures err { OnErr result (self.new ≡ self.old) }
     {
-        if let Some(count) = self.counts.get_mut(piece) {
-            *count += 1;
-            return Ok(());
+        match self.place_of(piece) {
+            Some(place) => {
+                self.count_again(place as usize, piece);
+                Ok(())
+            }
+            None => self.add(piece),
         }
-        self.add(piece)
+    }
+
+    // Adds one to the count of a piece that is there, at its place.
+    fn count_again(&mut self, place: usize, _piece: &[u8])
+        requires place { position (bytes_eq _piece.now) (pieces_of self.old) ≡ Some place }
+        requires total { total self.old < 2 ^ 32 - 1 }
+        requires short { length _piece.now ≤ 255 }
+        ensures { self.new ≡ counted _piece.now self.old }
+    {
+        let Some(count) = self.counts.get_index_mut(place) else {
+            return;
+        };
+        *count += 1;
     }
 
     // Adds a piece that is not there, last.
@@ -87,8 +119,8 @@ impl Vocab {
         if self.counts.len() >= MOST_PIECES {
             return Err(VocabErr::TooMany);
         }
-        let piece = Vec::from_slice(*self.counts.allocator(), piece)?;
-        self.counts.insert(piece, 1)?;
+        let key = new_key(*self.counts.allocator(), &mut self.longer, piece)?;
+        self.counts.insert(key, 1)?;
         Ok(())
     }
 
@@ -98,8 +130,8 @@ impl Vocab {
         ensures counts { OnOk result (entry_counts self.new ≡ counts_of self.old) }
         ensures rising { OnOk result (IsStrictlySortedBy (slice_cmp nat_cmp) (pieces_of self.new)) }
     {
-        self.counts.sort_unstable_keys()?;
-        Ok(())
+        let longer = &self.longer;
+        self.counts.sort_unstable_by(|one, _count, other, _other_count| order(longer, one, other))
     }
 
     /// The counts, in the order of the entries.
@@ -129,8 +161,8 @@ impl Vocab {
     pub(crate) fn place_of(&self, piece: &[u8]) -> Option<u32>
         ensures { result ≡ position (bytes_eq piece.now) (pieces_of self.now) }
     {
-        match self.counts.get_index_of(piece) {
-            Some(place) => Some(place as u32),
+        match key_of(&self.longer, piece) {
+            Some(key) => place_in(&self.counts, &key),
             None => None,
         }
     }
@@ -142,7 +174,7 @@ impl Vocab {
         ensures short { length result.now ≤ 255 }
     {
         match self.counts.get_index(place as usize) {
-            Some((piece, _)) => piece,
+            Some((key, _)) => piece_of(&self.longer, key),
             None => &[],
         }
     }

@@ -6,7 +6,7 @@ use Rattle.mg_model.proofs.Lists.{take-there, take-all}
 use Rattle.mg_model.proofs.vocab.Vocab.counts.Goals as goal
 
 pub count_at-requires : goal.count_at-requires
-count_at-requires c = omega (arith, length-entries c.self.inside.counts.entries, ap length c.self.view_is, c.len-place-end.ensures.len, c.loop-place-test.true)
+count_at-requires c = omega (arith, length-entries c.self.inside.longer.keys c.self.inside.counts.entries, ap length c.self.view_is, c.len-place-end.ensures.len, c.loop-place-test.true)
 
 pub loop-place-preserved : goal.loop-place-preserved
 loop-place-preserved c = c.in_ok-push.ensures.items ∙ ap (λ t. t ++ c.from.result ∷ []) c.loop-place.invariant
@@ -19,7 +19,7 @@ returns-clause-counts c =
     (omega (
       arith,
       (columns-long c.args.self.now).1,
-      length-entries c.self.inside.counts.entries,
+      length-entries c.self.inside.longer.keys c.self.inside.counts.entries,
       ap length c.self.view_is,
       c.len-place-end.ensures.len,
       c.loop-place-test.false,

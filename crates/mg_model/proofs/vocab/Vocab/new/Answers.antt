@@ -1,7 +1,7 @@
-use Rattle.std.proofs.Common.{subst, sym, ap}
-use Rattle.mg_model.specs.Vocabularies.{IsVocabulary, entries_of}
-use Rattle.mg_model.proofs.Counting.{none-counted}
+use Rattle.std.proofs.Common.{subst, sym}
+use Rattle.mg_model.specs.Vocabularies.{IsKept}
+use Rattle.mg_model.proofs.Counting.{none-kept}
 use Rattle.mg_model.proofs.vocab.Vocab.new.Goals as goal
 
 pub invariant_of-result : goal.invariant_of-result
-invariant_of-result c = subst IsVocabulary (sym (ap entries_of c.new.ensures.empty)) none-counted
+invariant_of-result c = subst (IsKept _) (sym c.new.ensures.empty) (none-kept _)

@@ -1,28 +1,37 @@
-use Rattle.std.proofs.Common.{◌∙◌, ap}
+use Rattle.std.proofs.Common.{rules, ◌≡◌, ◌∙◌, ap}
+use Rattle.std.specs.Ordering.{is_lt}
+use Rattle.std.proofs.lemmas.Fn.{always_returns_same}
+use Rattle.std.proofs.lemmas.Result.{on_ok_weaker}
 use Rattle.mg_defs.specs.Vocabulary.{sorted_of, counts_of}
 use Rattle.mg_model.specs.Vocabularies.{entries_of}
-use Rattle.mg_model.proofs.Order.{still-sorted, sorted-pieces, sorted-counts}
-use Rattle.mg_model.proofs.Sorting.{entries-moved, rising-entries}
+use Rattle.mg_model.proofs.Order.{sorted-pieces, sorted-counts}
+use Rattle.mg_model.proofs.Sorting.{comes_before, comes-weak, entries-moved, kept-moved, rising-entries}
 use Rattle.mg_model.proofs.vocab.Vocab.sort.Goals as goal
 
-pub invariant_of-self-2 : goal.invariant_of-self-2
-invariant_of-self-2 c =
-    let old = c.self.inside.counts.entries in
-    let new = c.sort_unstable_keys.new.self.entries in
-    still-sorted (entries_of old) (entries_of new) (entries-moved old new c.sort_unstable_keys.ensures.reordered.0) c.self.invariant
+pub invariant_of-self : goal.invariant_of-self
+invariant_of-self c =
+    kept-moved c.self.inside.longer.keys c.self.inside.counts.entries c.sort_unstable_by.new.self.entries c.sort_unstable_by.ensures.reordered.0 c.self.invariant
 
 pub returns-clause-rising : goal.returns-clause-rising
-returns-clause-rising c = rising-entries c.sort_unstable_keys.new.self.entries c.in_ok-sort_unstable_keys.ensures.sorted (invariant_of-self-2 c).distinct
+returns-clause-rising c =
+    let longer = c.self.inside.longer.keys in
+    on_ok_weaker c.sort_unstable_by.result (λ sorted. rising-entries longer c.sort_unstable_by.new.self.entries
+    (sorted (comes_before longer) (comes-weak longer)
+    (always_returns_same _ (λ a r. is_lt r ≡ comes_before longer (a.0.now, a.1.0.now) (a.1.1.0.now, a.1.1.1.0.now)) _ (λ a r f' k. search rules)))
+    (invariant_of-self c).vocabulary.distinct) c.sort_unstable_by.ensures.sorted
 
 pub returns-clause-pieces : goal.returns-clause-pieces
 returns-clause-pieces c =
+    let longer = c.self.inside.longer.keys in
     let old = c.self.inside.counts.entries in
-    let new = c.sort_unstable_keys.new.self.entries in
-    sorted-pieces (entries_of old) (entries_of new) (entries-moved old new c.sort_unstable_keys.ensures.reordered.0) (returns-clause-rising c) ∙ ap sorted_of c.self.view_is
+    let new = c.sort_unstable_by.new.self.entries in
+    on_ok_weaker c.sort_unstable_by.result (λ rising. sorted-pieces (entries_of longer old) (entries_of longer new)
+    (entries-moved longer old new c.sort_unstable_by.ensures.reordered.0) rising ∙ ap sorted_of c.self.view_is) (returns-clause-rising c)
 
 pub returns-clause-counts : goal.returns-clause-counts
 returns-clause-counts c =
+    let longer = c.self.inside.longer.keys in
     let old = c.self.inside.counts.entries in
-    let new = c.sort_unstable_keys.new.self.entries in
-    sorted-counts (entries_of old) (entries_of new) (entries-moved old new c.sort_unstable_keys.ensures.reordered.0) (invariant_of-self-2 c).distinct
-    (returns-clause-rising c) ∙ ap counts_of c.self.view_is
+    let new = c.sort_unstable_by.new.self.entries in
+    on_ok_weaker c.sort_unstable_by.result (λ rising. sorted-counts (entries_of longer old) (entries_of longer new)
+    (entries-moved longer old new c.sort_unstable_by.ensures.reordered.0) (invariant_of-self c).vocabulary.distinct rising ∙ ap counts_of c.self.view_is) (returns-clause-rising c)

@@ -1,0 +1,137 @@
+//! The keys by which a vocabulary's map finds its pieces.
+ghost use Rattle.std.specs.Prelude.{◌≡◌, ◌<◌, ◌≤◌, ◌^◌, ◌∷◌, [], length, IfOk, IfSome, IfNone};
+ghost use Rattle.std.specs.Ordering.{nat_cmp};
+ghost use Rattle.std.specs.Cmp.Lexicographic.{slice_cmp, bytes_decides};
+ghost use Rattle.std.specs.Cmp.Rules.{comparing};
+ghost use Rattle.std.specs.Str.{bytes_eq};
+ghost use Rattle.std.proofs.Common.{ap, rules};
+ghost use Rattle.mg_model.specs.Keys.{filled, longer_key, short_key, piece_in, Extends, HasNoNumber, IsKeyOf};
+
+use crate::block::{SHORT, short_piece};
+use indexmap::IndexSet;
+use mg_fields::{eight_at, eight_bytes};
+use std::alloc::{AllocError, Global};
+use std::cmp::Ordering;
+use std::hash::{Hash, Hasher};
+
+/// The first byte of a longer piece's key: no short piece has that length.
+const LONGER: u8 = 16;
+
+/// A key of sixteen bytes.
+///
+/// The key of a piece of at most fifteen bytes is the piece's length and the piece, so that a look-up
+/// reads nothing beside the key. The longer pieces have numbers, and the key of one is its number.
+#[derive(Clone, Copy)]
+pub(crate) struct PieceKey {
+    entry: [u8; 16],
+}
+
+impl PartialEq for PieceKey {
+    ghost eq = { λ one other. bytes_eq one.entry other.entry };
+
+    ghost laws = { Prim.search (comparing, rules) };
+
+    fn eq(&self, other: &PieceKey) -> bool {
+        self.entry == other.entry
+    }
+}
+
+impl Eq for PieceKey {
+    ghost laws = { Prim.search (comparing, rules) };
+}
+
+impl Hash for PieceKey {
+    ghost hash_input = { λ key. key.entry ∷ [] };
+
+    ghost respects_eq = { λ one other same.
+        ap (λ bytes. bytes ∷ []) ((bytes_decides one.entry other.entry).0 same) };
+
+    // All bytes in one call, for which the hasher multiplies once.
+    fn hash<H: Hasher>(&self, state: &mut H) {
+        state.write(&self.entry);
+    }
+}
+
+impl PieceKey {
+    // A first byte, and bytes behind it.
+    fn filled(first: u8, bytes: &[u8]) -> PieceKey
+        requires { length bytes.now ≤ 15 }
+        ensures { result.entry ≡ filled first bytes.now }
+    {
+        let mut entry = [0u8; 16];
+        entry[0] = first;
+        entry[1..bytes.len() + 1].copy_from_slice(bytes);
+        PieceKey { entry }
+    }
+
+    // The key of a piece that it holds.
+    fn short(piece: &[u8]) -> PieceKey
+        requires { length piece.now ≤ 15 }
+        ensures { result.entry ≡ short_key piece.now }
+    {
+        PieceKey::filled(piece.len() as u8, piece)
+    }
+
+    // The key of the longer piece with this number.
+    fn longer(number: usize) -> PieceKey
+        ensures key { result.entry ≡ longer_key number }
+        ensures fits { number < 2 ^ 64 }
+    {
+        PieceKey::filled(LONGER, &eight_bytes(number as u64))
+    }
+}
+
+/// The key of a piece. One of more than fifteen bytes has none where it is not among the longer ones.
+#[inline]
+pub(crate) fn key_of(longer: &IndexSet<Vec<u8>>, piece: &[u8]) -> Option<PieceKey>
+    ensures key { IfSome result (λ key. IsKeyOf longer.now.keys key.entry piece.now) }
+    ensures none { IfNone result (HasNoNumber longer.now.keys piece.now) }
+{
+    if piece.len() <= SHORT {
+        return Some(PieceKey::short(piece));
+    }
+    match longer.get_index_of(piece) {
+        Some(number) => Some(PieceKey::longer(number)),
+        None => None,
+    }
+}
+
+/// The key of a piece, which is added to the longer ones where it is one and not there.
+pub(crate) fn new_key(
+    alloc: Global,
+    longer: &mut IndexSet<Vec<u8>>,
+    piece: &[u8],
+) -> Result<PieceKey, AllocError>
+    ensures key { IfOk result (λ key. IsKeyOf longer.new.keys key.entry piece.now) }
+    ensures extends { Extends longer.old.keys longer.new.keys }
+{
+    if piece.len() <= SHORT {
+        return Ok(PieceKey::short(piece));
+    }
+    let kept = Vec::from_slice(alloc, piece)?;
+    let Ok((number, _)) = longer.insert_full(kept) else {
+        return Err(AllocError);
+    };
+    Ok(PieceKey::longer(number))
+}
+
+/// The piece of a key.
+pub(crate) fn piece_of<'a>(longer: &'a IndexSet<Vec<u8>>, key: &'a PieceKey) -> &'a [u8]
+    ensures { result.now ≡ piece_in longer.now.keys key.now.entry }
+{
+    if usize::from(key.entry[0]) <= SHORT {
+        return short_piece(&key.entry);
+    }
+    match longer.get_index(eight_at(&key.entry, 1) as usize) {
+        Some(piece) => piece,
+        None => &[],
+    }
+}
+
+/// The order of the pieces of two keys.
+pub(crate) fn order(longer: &IndexSet<Vec<u8>>, one: &PieceKey, other: &PieceKey) -> Ordering
+    ensures { result ≡ slice_cmp nat_cmp (piece_in longer.now.keys one.now.entry)
+        (piece_in longer.now.keys other.now.entry) }
+{
+    piece_of(longer, one).cmp(piece_of(longer, other))
+}
