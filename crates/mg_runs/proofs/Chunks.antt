@@ -1,4 +1,4 @@
--- Lists in chunks of one size, and bytes in chunks of 12.
+-- Lists in chunks of one size, and bytes in chunks of 8.
 use Rattle.std.proofs.Common.{◌≡◌, ℕ, zero, suc, ◌+◌, ◌-◌, ◌*◌, ◌<◌, ◌≤◌, ◌^◌, List, [], ◌∷◌, ◌++◌, length, refl, sym, ap, ◌∙◌, append-nil, arith, take, drop, map}
 use Rattle.std.proofs.lemmas.Grind.{common_steps}
 use Rattle.std.proofs.lemmas.List.{drop-take, drop-drop, drop_all, length-map, map-append, take-take, take_all}
@@ -44,20 +44,19 @@ pub write_back : (size : ℕ) (xs ys : List ℕ) → length ys ≡ length xs →
 write_back size xs ys same whole =
     ap (λ t. take size (ys ++ t)) (drop_all (length ys) xs (omega arith)) ∙ ap (λ t. take size t) (append-nil ys) ∙ take_all size ys (omega arith)
 
--- ---- entries of 12 bytes
+-- ---- entries of 8 bytes
 
-pub entry-of-bytes : (t d n : ℕ) → t < 2 ^ 32 → d < 2 ^ 32 → n < 2 ^ 32 → entry_in (bytes_of t d n) ≡ record { term = t; doc = d; count = n }
+pub entry-of-bytes : (t d : ℕ) → t < 2 ^ 32 → d < 2 ^ 32 → entry_in (bytes_of t d) ≡ record { term = t; doc = d; count = 1 }
 unfolding number_in bytes_of
-entry-of-bytes t d n ht hd hn =
-    let mk : ℕ → ℕ → ℕ → TermPosting = λ a b c. record { term = a; doc = b; count = c } in
+entry-of-bytes t d ht hd =
+    let mk : ℕ → ℕ → TermPosting = λ a b. record { term = a; doc = b; count = 1 } in
     let p = from_be_bytes-to_be_bytes_4 t ht in
     let q = from_be_bytes-to_be_bytes_4 d hd in
-    let r = from_be_bytes-to_be_bytes_4 n hn in
-    ap (λ a. mk a (number_in 4 (bytes_of t d n)) (number_in 8 (bytes_of t d n))) p ∙ ap (λ b. mk t b (number_in 8 (bytes_of t d n))) q ∙ ap (λ c. mk t d c) r
+    ap (λ a. mk a (number_in 4 (bytes_of t d))) p ∙ ap (λ b. mk t b) q
 
-pub length-bytes_of : (t d n : ℕ) → length (bytes_of t d n) ≡ 12
+pub length-bytes_of : (t d : ℕ) → length (bytes_of t d) ≡ 8
 unfolding bytes_of
-length-bytes_of t d n = refl
+length-bytes_of t d = refl
 
 front-put : (a b k : ℕ) (xs ys : List ℕ) → b ≡ a → a + k ≤ length xs → length ys ≡ k → take b (put_mid a k xs ys) ≡ take b xs
 front-put a b k xs ys e h w = take-put_mid_below a k xs ys b (omega arith) (omega arith)
@@ -65,25 +64,25 @@ front-put a b k xs ys e h w = take-put_mid_below a k xs ys b (omega arith) (omeg
 pub here-put : (a b k : ℕ) (xs ys : List ℕ) → b ≡ a → a + k ≤ length xs → length ys ≡ k → take k (drop b (put_mid a k xs ys)) ≡ ys
 here-put a b k xs ys e h w = grind (arith, common_steps)
 
-pub entries-put : (count : ℕ) (xs made : List ℕ) → 12 * count + 12 ≤ length xs → length made ≡ 12 →
-    entries_in (count + 1) (put_mid (12 * count) (12 * count + 12 - 12 * count) xs made) ≡ entries_in count xs ++ entry_in made ∷ []
+pub entries-put : (count : ℕ) (xs made : List ℕ) → 8 * count + 8 ≤ length xs → length made ≡ 8 →
+    entries_in (count + 1) (put_mid (8 * count) (8 * count + 8 - 8 * count) xs made) ≡ entries_in count xs ++ entry_in made ∷ []
 entries-put count xs made room whole =
-    let ys : List ℕ = put_mid (12 * count) (12 * count + 12 - 12 * count) xs made in
-    let size : 12 * count + 12 - 12 * count ≡ 12 = omega arith in
-    let put : put_mid (12 * count) 12 xs made ≡ ys = ap (λ k. put_mid (12 * count) k xs made) (sym size) in
-    let front : take (count * 12) ys ≡ take (count * 12) xs = ap (λ t. take (count * 12) t) (sym put) ∙ front-put (12 * count) (count * 12) 12 xs made (omega arith) room whole in
-    let here : take 12 (drop (count * 12) ys) ≡ made = ap (λ t. take 12 (drop (count * 12) t)) (sym put) ∙ here-put (12 * count) (count * 12) 12 xs made (omega arith) room whole in
+    let ys : List ℕ = put_mid (8 * count) (8 * count + 8 - 8 * count) xs made in
+    let size : 8 * count + 8 - 8 * count ≡ 8 = omega arith in
+    let put : put_mid (8 * count) 8 xs made ≡ ys = ap (λ k. put_mid (8 * count) k xs made) (sym size) in
+    let front : take (count * 8) ys ≡ take (count * 8) xs = ap (λ t. take (count * 8) t) (sym put) ∙ front-put (8 * count) (count * 8) 8 xs made (omega arith) room whole in
+    let here : take 8 (drop (count * 8) ys) ≡ made = ap (λ t. take 8 (drop (count * 8) t)) (sym put) ∙ here-put (8 * count) (count * 8) 8 xs made (omega arith) room whole in
     let one : count + 1 ≡ suc count = omega arith in
     ap (λ n. entries_in n ys) one
-    ∙ ap (λ t. map entry_in t) (chunks-more 12 count ys ∙ ap (λ t. t ++ take 12 (drop (count * 12) ys) ∷ []) (chunks-same 12 count ys xs front) ∙ ap (λ t. first_chunks 12 count xs ++ t ∷ []) here)
-    ∙ map-append entry_in (first_chunks 12 count xs) (made ∷ [])
+    ∙ ap (λ t. map entry_in t) (chunks-more 8 count ys ∙ ap (λ t. t ++ take 8 (drop (count * 8) ys) ∷ []) (chunks-same 8 count ys xs front) ∙ ap (λ t. first_chunks 8 count xs ++ t ∷ []) here)
+    ∙ map-append entry_in (first_chunks 8 count xs) (made ∷ [])
 
 -- where there are no chunks, none were asked for
 pub no_chunks : (k : ℕ) (xs : List ℕ) → first_chunks 64 k xs ≡ [] → k ≡ 0
 no_chunks k xs e = sym (length-chunks 64 k xs) ∙ ap (λ t. length t) e
 
 pub length_entries : (count : ℕ) (bytes : List ℕ) → length (entries_in count bytes) ≡ count
-length_entries count bytes = length-map (first_chunks 12 count bytes) entry_in ∙ length-chunks 12 count bytes
+length_entries count bytes = length-map (first_chunks 8 count bytes) entry_in ∙ length-chunks 8 count bytes
 
 -- where there are no entries, none are counted, and none are found in other bytes
 pub no_entries : (count : ℕ) (bytes : List ℕ) → entries_in count bytes ≡ [] → count ≡ 0

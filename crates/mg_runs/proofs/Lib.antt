@@ -1,6 +1,7 @@
 mod Chunks
 mod Like
 mod Short
+mod ByTerm
 mod Sorting
 mod Puts
 mod OnRun

@@ -12,37 +12,34 @@ use Rattle.mg_runs.specs.Groups.{IsGroup, IsLike}
 abbrev one_of : ℕ → ℕ → TermPosting
 one_of t d = record { term = t; doc = d; count = 1 }
 
-same_entry : (e : List ℕ) (t d : ℕ) → number_in 0 e ≡ t → number_in 4 e ≡ d → number_in 8 e ≡ 1 → entry_in e ≡ one_of t d
-same_entry e t d p q r =
-    let mk : ℕ → ℕ → ℕ → TermPosting = λ a b c. record { term = a; doc = b; count = c } in
-    ap (λ a. mk a (number_in 4 e) (number_in 8 e)) p ∙ ap (λ b. mk t b (number_in 8 e)) q ∙ ap (λ c. mk t d c) r
+same_entry : (e : List ℕ) (t d : ℕ) → number_in 0 e ≡ t → number_in 4 e ≡ d → entry_in e ≡ one_of t d
+same_entry e t d p q = ap (λ a. one_of a (number_in 4 e)) p ∙ ap (λ b. one_of t b) q
 
 step : (entries : List (List ℕ)) (i t d : ℕ) → i < length entries → number_in 0 (get_or entries i []) ≡ t → number_in 4 (get_or entries i []) ≡ d →
-    number_in 8 (get_or entries i []) ≡ 1 →
     gathered (map entry_in (drop i entries)) ≡ added (one_of t d) (gathered (map entry_in (drop (i + 1) entries)))
-step entries i t d h p q r =
-    ap (λ xs. gathered (map entry_in xs)) (drop_more entries i [] h) ∙ ap (λ e. added e (gathered (map entry_in (drop (i + 1) entries)))) (same_entry (get_or entries i []) t d p q r)
+step entries i t d h p q =
+    ap (λ xs. gathered (map entry_in xs)) (drop_more entries i [] h) ∙ ap (λ e. added e (gathered (map entry_in (drop (i + 1) entries)))) (same_entry (get_or entries i []) t d p q)
 
 pub like-first : (entries : List (List ℕ)) (from t d : ℕ) → from < length entries → number_in 0 (get_or entries from []) ≡ t →
-    number_in 4 (get_or entries from []) ≡ d → number_in 8 (get_or entries from []) ≡ 1 → IsLike entries from (from + 1) t d
-like-first entries from t d h p q r =
+    number_in 4 (get_or entries from []) ≡ d → IsLike entries from (from + 1) t d
+like-first entries from t d h p q =
     let one : from + 1 - from ≡ suc zero = omega arith in
     record {
       after = omega arith;
-      added = step entries from t d h p q r ∙ ap (λ n. added_times n (one_of t d) (gathered (map entry_in (drop (from + 1) entries)))) (sym one);
+      added = step entries from t d h p q ∙ ap (λ n. added_times n (one_of t d) (gathered (map entry_in (drop (from + 1) entries)))) (sym one);
       within = omega arith;
     }
 
 pub like-more : (entries : List (List ℕ)) (from next t d : ℕ) → IsLike entries from next t d → next < length entries →
-    number_in 0 (get_or entries next []) ≡ t → number_in 4 (get_or entries next []) ≡ d → number_in 8 (get_or entries next []) ≡ 1 →
+    number_in 0 (get_or entries next []) ≡ t → number_in 4 (get_or entries next []) ≡ d →
     IsLike entries from (next + 1) t d
-like-more entries from next t d l h p q r =
+like-more entries from next t d l h p q =
     let rest : List TermPosting = gathered (map entry_in (drop (next + 1) entries)) in
     let after : from < next = l.after in
     let one : suc (next - from) ≡ next + 1 - from = omega arith in
     record {
       after = omega arith;
-      added = l.added ∙ ap (λ xs. added_times (next - from) (one_of t d) xs) (step entries next t d h p q r) ∙ added_times-end (next - from) (one_of t d) rest
+      added = l.added ∙ ap (λ xs. added_times (next - from) (one_of t d) xs) (step entries next t d h p q) ∙ added_times-end (next - from) (one_of t d) rest
           ∙ ap (λ n. added_times n (one_of t d) rest) one;
       within = omega arith;
     }

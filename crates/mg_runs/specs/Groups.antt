@@ -6,11 +6,10 @@ use Rattle.mg_defs.specs.Postings.{gathered, with_count}
 use Rattle.mg_runs.specs.PostingOrder.{NotFalling, added_times}
 use Rattle.mg_runs.specs.Bytes.{entry_in, number_in}
 
--- entries in order of term and document, of which each counts one and has a document
+-- entries in order of term and document, of which each has a document
 pub record InOrder (entries : List (List ℕ)) : Type 0 where
   pub few : length entries < 2 ^ 27
   pub order : NotFalling (map entry_in entries)
-  pub ones : All (λ e. number_in 8 e ≡ 1) entries
   pub docs : All (λ e. 1 ≤ number_in 4 e) entries
 
 -- the postings of the entries from here on are one of this many, and those of the entries after

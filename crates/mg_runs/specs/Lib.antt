@@ -1,6 +1,7 @@
 pub mod Bytes
 pub mod Pooled
 pub mod Groups
+pub mod Counting
 pub mod OnRun
 pub mod Fed
 pub mod Tournament

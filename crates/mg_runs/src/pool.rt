@@ -11,8 +11,11 @@ use mg_dev::{Failed, FileRef, Store};
 use std::alloc::{AllocError, Global};
 use std::marker::Model;
 
-/// Memory of a budget, reserved once, which is used either as entries of 12 bytes or as slots of
-/// 64 bytes.
+/// Memory of a budget, reserved once, which is used either for entries, 12 bytes for each, or as
+/// slots of 64 bytes.
+///
+/// Eight bytes of the 12 hold the entry. The other four stand behind all entries and serve to sort
+/// them.
 ///
 /// Both uses lie in one vector of bytes, so that no more than the budget is ever reserved. The
 /// greatest use so far is its peak, and `used <= peak <= limit` holds of every pool, where the

@@ -14,6 +14,7 @@ use crate::posting::{put_number, put_posting};
 use mg_bits::BitWriter;
 use mg_defs::TermPosting;
 use mg_dev::{PutErr, Store};
+use std::alloc::Global;
 
 /// A law: each number of a slice of bytes is one.
 fn bytes_fit(bytes: &[u8])
@@ -21,7 +22,7 @@ fn bytes_fit(bytes: &[u8])
 {}
 
 /// How many postings sorted entries have.
-fn distinct(entries: &[[u8; 12]]) -> u32
+fn distinct(entries: &[[u8; 8]]) -> u32
     requires { InOrder entries.now }
     ensures value { result ≡ length (gathered (map entry_in entries.now)) }
     ensures few { result < 2 ^ 27 }
@@ -39,7 +40,7 @@ fn distinct(entries: &[[u8; 12]]) -> u32
 fn put_list<S: Store>(
     w: &mut BitWriter<'_>,
     store: &mut S,
-    entries: &[[u8; 12]],
+    entries: &[[u8; 8]],
 ) -> Result<(), PutErr>
     requires holds { Holds w.old (S.files store.old) }
     requires place { w.old.place + 256 * length entries.now + 1024 ≤ 2 ^ 63 }
@@ -77,8 +78,10 @@ fn put_list<S: Store>(
     Ok(())
 }
 
-/// Sorts the first entries in their place and writes them as a run, which ends at a byte.
+/// Sorts the first entries in their place, with the four bytes for each that stand behind them, and
+/// writes them as a run, which ends at a byte.
 pub fn write_entries<S: Store>(
+    alloc: Global,
     w: &mut BitWriter<'_>,
     store: &mut S,
     bytes: &mut [u8],
@@ -94,9 +97,10 @@ pub fn write_entries<S: Store>(
     ensures whole { OnOk result (w.new.place % 8 ≡ 0) }
 {
     bytes_fit(bytes);
-    let front = &mut bytes[..12 * count];
-    let (entries, _) = front.as_chunks_mut::<12>();
-    sort_entries(entries);
+    let (front, back) = bytes.split_at_mut(8 * count);
+    let (entries, _) = front.as_chunks_mut::<8>();
+    let (docs, _) = back[..4 * count].as_chunks_mut::<4>();
+    sort_entries(alloc, entries, docs);
     put_list(w, store, entries)?;
     w.align(store)?;
     Ok(())

@@ -86,8 +86,9 @@ pub fn spill<S: Store>(pool: &mut Pool, w: &mut BitWriter<'_>, store: &mut S) ->
         (S.reads store.new) }
     ensures cause { HasPutCause (S.faults store.old) (S.faults store.new) result }
 {
+    let alloc = *pool.bytes.allocator();
     let count = pool.entries;
-    match write_entries(w, store, &mut pool.bytes, count) {
+    match write_entries(alloc, w, store, &mut pool.bytes, count) {
         Ok(()) => {}
         Err(refusal) => return Err(refusal),
     }

@@ -1,17 +1,15 @@
-use Rattle.std.proofs.Common.{[], sym, ◌∙◌, inl, inr}
+use Rattle.std.proofs.Common.{sym, ◌∙◌, inl, inr}
 use Rattle.mg_runs.proofs.Like.{like-first, like-more, like-end}
 use Rattle.mg_runs.proofs.groups.group_end.Goals as goal
 
 pub loop-next-init : goal.loop-next-init
 loop-next-init c =
     like-first c.args.entries.now c.args.from c.number_at-term.result c.number_at-doc.result c.requires.from (sym c.number_at-term.ensures) (sym c.number_at-doc.ensures)
-    (c.requires.order.ones c.args.from [] c.requires.from)
 
 pub loop-next-preserved : goal.loop-next-preserved
 loop-next-preserved c =
     like-more c.args.entries.now c.args.from c.loop-next.next c.number_at-term.result c.number_at-doc.result c.loop-next.invariant c.loop-next-test.true
     (sym c.number_at.ensures ∙ c.if-number_at-term.true) (sym c.number_at-then-number_at-term.ensures ∙ c.if-number_at-doc.true)
-    (c.requires.order.ones c.loop-next.next [] c.loop-next-test.true)
 
 pub returns-else-number_at-doc : goal.returns-else-number_at-doc
 returns-else-number_at-doc c = record {
