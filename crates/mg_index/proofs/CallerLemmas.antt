@@ -2,8 +2,10 @@
 
 -- failures that rose later rose
 pub use Rattle.mg_index.proofs.Causes.{rose_behind}
--- why lists are not written: of a store, and where more or less is known
-pub use Rattle.mg_index.proofs.ListFrames.{stops_for, store_stops}
+-- why lists are not written: of a store, and where more or less is known; and so of a reader
+pub use Rattle.mg_index.proofs.ListFrames.{read_for, stops_for, store_stops}
+-- what a change tells: of a store, and where more is known
+pub use Rattle.mg_index.proofs.ListFrames.{store_tells, tells_for}
 -- files that were written twice
 pub use Rattle.mg_index.proofs.ListFrames.{wrote_more}
 -- a want of the store, behind another call and where nothing is refused

@@ -6,17 +6,18 @@ use Rattle.mg_dev.specs.declared.device.PutErr.{PutErr}
 use Rattle.mg_dev.specs.declared.device.PutErr.TheVariants as put
 use Rattle.mg_dev.specs.declared.fault.Fault.{Fault}
 use Rattle.mg_dev.specs.declared.fault.Fault.TheVariants as fault
+use Rattle.mg_dev.specs.declared.what.What.TheVariants as what
 use Rattle.mg_dev.specs.declared.part.Part.{Part as AnyPart}
 use Rattle.mg_dev.specs.declared.part.Part.TheVariants.{Head, Words, Nonwords, Text, Places, Lex, LexAt, Post, Skip, Weights, Run, MergeA, MergeB, Plain}
 use Rattle.mg_dev.specs.Causes.{HasPutCause, Rose}
-use Rattle.mg_dev.specs.Faults.{fault_of_store}
+use Rattle.mg_dev.specs.Faults.{ReadStops, fault_of_store}
 use Rattle.mg_dev.specs.Files.{Files, file_at}
 use Rattle.mg_dev.specs.Laws.{same_part_of_name}
 use Rattle.mg_dev.specs.Names.{full_name, number}
 use Rattle.mg_defs.specs.declared.TermPosting.{TermPosting}
 use Rattle.mg_runs.specs.Joins.{IsRunPart}
 use Rattle.mg_runs.specs.Left.{IsMerging, Merging}
-use Rattle.mg_index.specs.Listing.{ListStops, OfPostings, SameMerge}
+use Rattle.mg_index.specs.Listing.{ListStops, OfPostings, SameMerge, TellsTermOfNone}
 use Rattle.mg_index.specs.Written.{OfLists, WroteParts}
 use Rattle.mg_index.proofs.Causes.{rose_behind}
 
@@ -157,26 +158,49 @@ pub store_stops : {T : Type 0} {l m n : ℕ} (same : Type 0) (refusal : PutErr) 
 store_stops {l = l} {m = m} {n = n} same put.Failed fault later cause is = rw is (rose_behind l m n later (cause.failed refl))
 store_stops same put.Memory fault later cause is = rw is tt
 
+-- of a reader, where more or less is known
+pub read_for : {rose rose' same same' : Type 0} (f : Fault) → (rose → rose') → (same' → same) → ReadStops rose same f → ReadStops rose' same' f
+read_for fault.StoreFault up down stop = up stop
+read_for fault.Memory up down stop = tt
+read_for (fault.Damaged bad) up down stop = λ same. stop (down same)
+read_for f up down stop = absurd stop
+
+-- what stops a reader stops the lists
+pub list_of_read : {rose rose' same same' : Type 0} (f : Fault) → (rose → rose') → (same' → same) → ReadStops rose same f → ListStops rose' same' f
+list_of_read fault.StoreFault up down stop = up stop
+list_of_read fault.Memory up down stop = tt
+list_of_read (fault.Damaged bad) up down stop = λ same. stop (down same)
+list_of_read f up down stop = absurd stop
+
 -- a refusal that is passed on
 pub passed_on : {T : Type 0} {rose rose' same same' : Type 0} (r : Result T Fault) (e : Fault) → (y : Fault) × (r ≡ Err y) × (y ≡ e) → (rose → rose') →
-    (same' → same) → ListStops rose same e → IfErr r (ListStops rose' same')
-passed_on r e p up down stops = rw (p.1, p.2) (stops_for e up down stops)
+    (same' → same) → ReadStops rose same e → IfErr r (ReadStops rose' same')
+passed_on r e p up down stops = rw (p.1, p.2) (read_for e up down stops)
 
--- where the lists of a collection are told by what is known of it
-pub passed_on_all : {T : Type 0} {rose rose' same : Type 0} (same' : List ℕ → Type 0) (r : Result T Fault) (e : Fault) → (y : Fault) × (r ≡ Err y) × (y ≡ e) →
-    (rose → rose') → ((collection : List ℕ) → same' collection → same) → ListStops rose same e →
-    IfErr r (λ f. (collection : List ℕ) → ListStops rose' (same' collection) f)
-passed_on_all same' r e p up down stops = rw (p.1, p.2) (λ collection. stops_for e up (down collection) stops)
-
-pub passed_on_each : {T : Type 0} {rose rose' : Type 0} (same same' : List ℕ → Type 0) (r : Result T Fault) (e : Fault) → (y : Fault) × (r ≡ Err y) × (y ≡ e) →
-    (rose → rose') → ((collection : List ℕ) → same' collection → same collection) →
-    ((collection : List ℕ) → ListStops rose (same collection) e) → IfErr r (λ f. (collection : List ℕ) → ListStops rose' (same' collection) f)
-passed_on_each same same' r e p up down stops = rw (p.1, p.2) (λ collection. stops_for e up (down collection) (stops collection))
-
+-- where it is told for each collection
 pub stops_within : {T : Type 0} {rose rose' : Type 0} (same same' : List ℕ → Type 0) (r : Result T Fault) → (rose → rose') → ((collection : List ℕ) → same' collection → same collection) →
     IfErr r (λ f. (collection : List ℕ) → ListStops rose (same collection) f) → IfErr r (λ f. (collection : List ℕ) → ListStops rose' (same' collection) f)
 stops_within same same' (Ok value) up down h = tt
 stops_within same same' (Err e) up down h = λ collection. stops_for e up (down collection) (h collection)
+
+-- ---- what a change tells
+
+-- the store's own refusal tells none
+pub store_tells : (none : Type 0) (refusal : PutErr) (fault : Fault) → fault ≡ fault_of_store refusal → TellsTermOfNone none fault
+store_tells none put.Failed fault is = rw is tt
+store_tells none put.Memory fault is = rw is tt
+
+-- a reader tells none
+pub read_tells : (rose same none : Type 0) (f : Fault) → ReadStops rose same f → TellsTermOfNone none f
+read_tells rose same none fault.StoreFault stop = tt
+read_tells rose same none fault.Memory stop = tt
+read_tells rose same none (fault.Damaged bad) stop = tt
+read_tells rose same none f stop = absurd stop
+
+-- one list tells what all of them do
+pub tells_for : {none some : Type 0} (f : Fault) → (none → some) → TellsTermOfNone none f → TellsTermOfNone some f
+tells_for (fault.Changed what.Words first second) up tells = (tells.0, tells.1, up tells.2)
+tells_for f up tells = tells
 
 -- a fact that needs no answer
 pub on_ok_of : {T E : Type 0} (r : Result T E) (fact : Type 0) → fact → OnOk r fact

@@ -22,6 +22,7 @@ terms_none can = record {
   all = refl;
   step = step_none refl (λ p. refl) (omega arith);
   refused = tt;
+  tells = tt;
 }
 
 -- those behind the ones that are indexed, or why they are not
@@ -34,6 +35,7 @@ terms_more {result = Ok done} one two = record {
   all = two.all ∙ one.all;
   step = step_then one.step two.step;
   refused = tt;
+  tells = tt;
 }
 terms_more {result = Err fault} {l = l} {m = m} {n = n} one two = record {
   can = tt;
@@ -41,9 +43,10 @@ terms_more {result = Err fault} {l = l} {m = m} {n = n} one two = record {
   all = two.all ∙ one.all;
   step = step_then one.step two.step;
   refused = λ collection. stops_for fault (rose_behind l m n one.step.later) (λ has. one.indexed collection has) (two.refused collection);
+  tells = two.tells;
 }
 
 -- where one is refused, it is the same for any number
 pub terms_err : {from to last : ℕ} {terms : Terms} {a b : Merging} {w x : IndexWriter} {s t : Vec ℕ Global} {fault : Fault} {f g : Option Files} {q r : Reads} {m n : ℕ} →
     TermsStep from to terms a b w x s t (Err fault) f g q r m n → TermsStep from last terms a b w x s t (Err fault) f g q r m n
-terms_err step = record { can = tt; indexed = λ collection has. tt; all = step.all; step = step.step; refused = step.refused }
+terms_err step = record { can = tt; indexed = λ collection has. tt; all = step.all; step = step.step; refused = step.refused; tells = step.tells }

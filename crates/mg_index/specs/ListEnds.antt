@@ -10,7 +10,8 @@ use Rattle.mg_dev.specs.declared.fault.Fault.{Fault}
 use Rattle.mg_post.specs.Writing.{Listing, SameFiles}
 use Rattle.mg_runs.specs.Left.{Merging}
 use Rattle.mg_index.specs.Listed.{BeginsInPost, BeginsInSkip, CanIndexTo, ForListLeft, HasPostBytes, HasSkipCount, IndexedTo, SumsAreSquares}
-use Rattle.mg_index.specs.Listing.{CanList, HasList, IsAtList, ListStops, ListedMore, ListsStand, OfPostings}
+use Rattle.mg_index.specs.Listing.{CanList, HasList, HasTermOfNone, IsAtList, ListStops, ListedMore, ListsStand, OfPostings}
+use Rattle.mg_index.specs.Listing.{TellsTermOfNone}
 use Rattle.mg_index.specs.Steps.{MergeStep}
 use Rattle.mg_index.specs.Written.{OfLists}
 use Rattle.mg_index.specs.declared.lists.IndexWriter.{IndexWriter}
@@ -42,6 +43,8 @@ pub record ListStep (docs number : ℕ) (merge merge_now : Merging) (lists lists
   -- why it stops
   pub refused : IfErr result (ListStops (Rose faults_before faults_now)
       (HasList number docs merge lists sums.items files_before))
+  -- a change is told exactly: no document has the term
+  pub tells : IfErr result (TellsTermOfNone (docs ≡ 0))
 
 -- the terms from one number up to another are indexed, or why they are not
 pub record TermsStep (from to : ℕ) (terms : Terms) (merge merge_now : Merging) (writer writer_now : IndexWriter)
@@ -61,6 +64,8 @@ pub record TermsStep (from to : ℕ) (terms : Terms) (merge merge_now : Merging)
   -- why it stops
   pub refused : IfErr result (λ fault. (collection : List ℕ) →
       ListStops (Rose faults_before faults_now) (IndexedTo from terms merge writer sums files_before collection) fault)
+  -- a change is told exactly: no document has one of the terms
+  pub tells : IfErr result (TellsTermOfNone (HasTermOfNone terms.docs.now))
 
 -- all lists and the lexicon are written, of each collection for which this is given, or why they are not
 pub record IndexStep (given : List ℕ → Type 0) (docs base : List ℕ) (merge merge_now : Merging)
@@ -81,3 +86,5 @@ pub record IndexStep (given : List ℕ → Type 0) (docs base : List ℕ) (merge
   -- why it stops
   pub refused : IfErr result (λ fault. (collection : List ℕ) →
       ListStops (Rose faults_before faults_now) (given collection) fault)
+  -- a change is told exactly: no document has one of the terms
+  pub tells : IfErr result (TellsTermOfNone (HasTermOfNone docs))

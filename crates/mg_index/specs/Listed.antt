@@ -1,5 +1,5 @@
 -- What writing lists, lexicon and sums does: words for the contracts of its steps.
-use Rattle.std.specs.Prelude.{◌≡◌, ◌≢◌, ◌≤◌, ◌+◌, ◌/◌, ◌++◌, ◌∷◌, ℕ, List, [], Vec, length, take, drop, IfOk, OnOk}
+use Rattle.std.specs.Prelude.{◌≡◌, ◌≢◌, ◌≤◌, ◌/◌, ◌++◌, ◌∷◌, ℕ, List, [], Vec, length, take, drop, IfOk, OnOk}
 use Rattle.std.proofs.Common.{Global}
 use Rattle.std.specs.Option.{IsSome}
 use Rattle.std.specs.declared.option.Option.{Option}

@@ -7,6 +7,7 @@ use Rattle.mg_dev.specs.declared.part.Part.{Part as AnyPart}
 use Rattle.mg_dev.specs.declared.part.Part.TheVariants.{Lex, LexAt, Post, Skip}
 use Rattle.mg_dev.specs.declared.fault.Fault.{Fault}
 use Rattle.mg_dev.specs.declared.fault.Fault.TheVariants.{Changed, Damaged, Memory, StoreFault}
+use Rattle.mg_dev.specs.declared.what.What.TheVariants as what
 use Rattle.mg_dev.specs.Files.{Files, bytes_at}
 use Rattle.mg_dev.specs.Names.{full_name}
 use Rattle.mg_defs.specs.declared.Posting.{Posting}
@@ -177,3 +178,15 @@ ListStops store_rose same Memory = Unit {0}
 ListStops store_rose same (Damaged bad) = ¬ same
 ListStops store_rose same (Changed what first second) = (first ≢ second) × ¬ same
 ListStops store_rose same _ = ⊥
+
+-- no document has one of the terms
+pub record HasTermOfNone (docs : List ℕ) : Type 0 where
+  pub number : ℕ
+  pub within : number < length docs
+  pub none : slice_index docs number ≡ 0
+
+-- a change is told only where a term is in no document, as a word that was there once and is not there now
+abbrev pub TellsTermOfNone : Type 0 → Fault → Type 0
+TellsTermOfNone none (Changed what.Words first second) = (first ≡ 1) × (second ≡ 0) × none
+TellsTermOfNone none (Changed _ first second) = ⊥
+TellsTermOfNone none _ = Unit {0}

@@ -6,6 +6,7 @@ use Rattle.mg_dev.specs.declared.fault.Fault.{Fault}
 use Rattle.mg_dev.specs.declared.fault.Fault.TheVariants as cause
 use Rattle.mg_dev.specs.Files.{Files}
 use Rattle.mg_defs.specs.Marks.{Mark, marks}
+use Rattle.mg_make.specs.Changes.{TellsChange}
 use Rattle.mg_make.specs.Finishing.{EndsWith, budget_of}
 use Rattle.mg_make.specs.Fronts.{IsFrontOf}
 use Rattle.mg_index.specs.Listing.{ListStops}
@@ -100,3 +101,19 @@ end_refused (Ok value) scanning old new f g next rose now grows same told wrote 
 end_refused (Err fault) scanning old new f g next rose now grows same told wrote whole stop = λ fed met scanned written few.
     stops_finish rose now (IsPlanOf new.plan fed) (IsSome g) (IsPlanOf old.plan fed) (IsSome f) fault grows (λ is. subst (λ p. IsPlanOf p fed) (sym same.plan) is) (λ is. told ∙ is)
     (stop fed (all_written old new f g fed met next wrote written (whole fed met scanned)))
+
+-- ---- what a change tells
+
+-- of what is met at the end
+pub tells_before : (s : Inversion) (f : Option Files) (fed : List ℕ) (met next : List Mark) (rose : Type 0) (fault : Fault) → HasWritten s f met →
+    marks fed ≡ met ++ next → length fed < 2 ^ 32 → StopsBefore s f next rose fault → TellsChange s.plan fed fault
+tells_before s f fed met next rose fault written whole few stops = stops.tells met fed written (last_front fed met next whole few)
+
+-- and behind it
+pub end_tells : {T : Type 0} (r : Result T Fault) (scanning : Scanning) (old new : Inversion) (f g : Option Files) (next : List Mark) →
+    SamePass old new → WroteMarks old new f g next → ((fed : List ℕ) (met : List Mark) → HasMet scanning fed met → marks fed ≡ met ++ next)
+    → IfErr r (λ fault. (collection : List ℕ) → HasWritten new g (marks collection) → TellsChange new.plan collection fault)
+    → IfErr r (λ fault. (fed : List ℕ) (met : List Mark) → HasMet scanning fed met → HasWritten old f met → length fed < 2 ^ 32 → TellsChange old.plan fed fault)
+end_tells (Ok value) scanning old new f g next same wrote whole tells = tt
+end_tells (Err fault) scanning old new f g next same wrote whole tells = λ fed met scanned written few.
+    subst (λ p. TellsChange p fed fault) same.plan (tells fed (all_written old new f g fed met next wrote written (whole fed met scanned)))

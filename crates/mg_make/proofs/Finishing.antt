@@ -1,5 +1,5 @@
 -- What the second pass ends with, and why it does not.
-use Rattle.std.proofs.Common.{◌≡◌, ◌≤◌, ◌<◌, ℕ, false, Err, List, [], refl, sym, ap, ◌∙◌, subst, length, arith, IsSome, is_some, unwrap_or}
+use Rattle.std.proofs.Common.{inr, ◌≡◌, ◌≤◌, ◌<◌, ℕ, false, Err, List, [], refl, sym, ap, ◌∙◌, subst, length, arith, IsSome, is_some, unwrap_or}
 use Rattle.std.specs.declared.option.Option.{Option}
 use Rattle.mg_dev.specs.Causes.{Rose}
 use Rattle.mg_dev.specs.Faults.{fault_of_part}
@@ -7,6 +7,7 @@ use Rattle.mg_dev.specs.Files.{Files, bytes_at}
 use Rattle.mg_dev.specs.Names.{full_name}
 use Rattle.mg_dev.specs.declared.fault.Fault.{Fault}
 use Rattle.mg_dev.specs.declared.fault.Fault.TheVariants.{Changed, Memory, StoreFault}
+use Rattle.mg_dev.specs.declared.what.What.TheVariants as what
 use Rattle.mg_dev.specs.PartCauses.{HasPartCause}
 use Rattle.mg_dev.specs.declared.part.Part.TheVariants.{Places, Run, Text}
 use Rattle.mg_dev.specs.declared.part_err.PartErr.{PartErr}
@@ -21,6 +22,7 @@ use Rattle.mg_runs.specs.Left.{Merging}
 use Rattle.mg_text_writer.specs.Documents.{coded_docs}
 use Rattle.mg_text_writer.specs.Writing.{DocumentsStand, IsOnText, text_bytes}
 use Rattle.mg_count.specs.DocCounting.{AreDocCounts, DocCounting}
+use Rattle.mg_make.specs.Changes.{TellsChange}
 use Rattle.mg_make.specs.Finishing.{EndsWith, IsMergeOf}
 use Rattle.mg_make.specs.Indexes.{Indexing, OfRuns}
 use Rattle.mg_count.specs.Plans.{IsPlanOf, Plan}
@@ -119,6 +121,13 @@ fewer_documents s files collection is few of =
     let same = ap length of.pairs in
     omega (arith, all, same, is.doc)
 
+-- and both numbers are told
+pub tells_fewer_documents : (s : Inversion) (files : Option Files) (collection : List ℕ) (first second : ℕ) → HasWritten s files (marks collection) →
+    s.doc < length s.plan.pairs → first ≡ length s.plan.pairs → second ≡ s.doc → TellsChange s.plan collection (Changed what.Documents first second)
+tells_fewer_documents s files collection first second is few planned there =
+    let all = all_documents collection in
+    (planned, inr (omega (arith, all, is.doc, there), omega (arith, all, is.doc, few, planned)))
+
 -- what stops the text stops the pass
 pub finish_stops : (rose same told : Type 0) (fault : Fault) → SecondStops rose same fault → FinishStops rose same told fault
 finish_stops rose same told StoreFault stops = stops
@@ -132,3 +141,9 @@ pub finish_by_part : {T : Type 0} {l m n : ℕ} (same : Type 0) (f g : Option Fi
 finish_by_part {l = l} {m = m} {n = n} same f g part_err.Device fault is less cause told sound = rw is (rose_behind l m n less cause.device)
 finish_by_part same f g part_err.Memory fault is less cause told sound = rw is tt
 finish_by_part same f g (part_err.Bad bad) fault is less cause told sound = rw is (λ t. sound (told ∙ t))
+
+-- the merge tells no change
+pub tells_part : (p : Plan) (collection : List ℕ) (refusal : PartErr) (fault : Fault) → fault ≡ fault_of_part refusal → TellsChange p collection fault
+tells_part p collection part_err.Device fault is = rw is tt
+tells_part p collection part_err.Memory fault is = rw is tt
+tells_part p collection (part_err.Bad bad) fault is = rw is tt

@@ -2,6 +2,7 @@ pub mod CountSizes
 pub mod WeightSteps
 pub mod IndexLaws
 pub mod MarkFronts
+pub mod LostTerms
 pub mod Frames
 pub mod SecondSteps
 pub mod Stopping

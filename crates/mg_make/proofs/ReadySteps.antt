@@ -17,6 +17,7 @@ use Rattle.mg_defs.specs.Summaries.{run_cap}
 use Rattle.mg_layout.specs.declared.head.Head as layout
 use Rattle.mg_text_writer.specs.Documents.{TextHolds, coded_docs}
 use Rattle.mg_text_writer.specs.Writing.{DocumentsStand, text_bytes}
+use Rattle.mg_make.specs.Changes.{TellsAtEnd, TellsChange}
 use Rattle.mg_make.specs.Finishing.{budget_of}
 use Rattle.mg_make.specs.Index.{IndexStands, OfIndex}
 use Rattle.mg_index.specs.Listing.{ListStops}
@@ -96,6 +97,14 @@ pub rest_refused : {T : Type 0} (result : Result T Fault) (w : Putting) (f g : O
 rest_refused (Ok value) w f g r rose now grows still handed stop = tt
 rest_refused (Err fault) w f g r rose now grows still handed stop = λ fed put. stops_for fault grows (λ both. (still both.0, both.1)) (stop fed f (handed fed put))
 
+-- and what a change tells there
+rest_tells : {T : Type 0} (result : Result T Fault) (w : Putting) (f g : Option Files) (r : Inverted) →
+    ((fed : List ℕ) → HasPut w f fed → IsHanded w.plan w.limit w.base fed f g r)
+    → IfErr result (λ fault. (fed : List ℕ) (before : Option Files) → IsHanded w.plan w.limit w.base fed before g r → TellsAtEnd w.plan fed fault)
+    → IfErr result (λ fault. (fed : List ℕ) → HasPut w f fed → TellsAtEnd w.plan fed fault)
+rest_tells (Ok value) w f g r handed tells = tt
+rest_tells (Err fault) w f g r handed tells = λ fed put. tells fed f (handed fed put)
+
 pub ready_all : {T : Type 0} (result : Result T Fault) (w : Putting) (fed : List ℕ) (h : Option Files) → OnOk result (IndexStands h w.base fed) →
     (IndexStands h w.base fed → IsReady (run_cap w.limit) h w.base w.plan.code fed) → OnOk result (IsReady (run_cap w.limit) h w.base w.plan.code fed)
 ready_all (Ok value) w fed h stands by = by stands
@@ -111,8 +120,9 @@ handed_put {w} {inverted} {f} {g} some first few hands fed put = handed_for w.pa
 
 -- the pass is not ended
 pub parts_refused : {w : Putting} {fault : Fault} {f g : Option Files} {q r : Reads} {m n : ℕ} (some : List ℕ) → HasPut w f some → length some < 2 ^ 32 →
-    SortStep OfSecond w.pass.base f g q r m n → ForScanned w.scanning w.pass f (PlanStops (Rose m n) w.pass.plan f fault) → PartsStep w (Err fault) f g q r m n
-parts_refused {w} {fault} {f} {g} {m = m} {n = n} some first few step stops =
+    SortStep OfSecond w.pass.base f g q r m n → ForScanned w.scanning w.pass f (PlanStops (Rose m n) w.pass.plan f fault) →
+    ForScanned w.scanning w.pass f (λ fed. TellsChange w.pass.plan fed fault) → PartsStep w (Err fault) f g q r m n
+parts_refused {w} {fault} {f} {g} {m = m} {n = n} some first few step stops tells =
     let second : WroteSecond w.base f g = subst (λ b. WroteSecond b f g) first.base_is step.wrote in
     record {
       ready = λ fed told put plan_of. tt;
@@ -125,6 +135,8 @@ parts_refused {w} {fault} {f} {g} {m = m} {n = n} some first few step stops =
       later = step.later;
       refused = λ fed put. subst (λ p. ListStops (Rose m n) (IsSome f × IsPlanOf p fed) fault) put.plan_is
           (stops fed put.met put.scanned put.written (put_few w f fed some put first few));
+      tells = λ fed put. inl (subst (λ p. TellsChange p fed fault) put.plan_is
+          (tells fed put.met put.scanned put.written (put_few w f fed some put first few)));
     }
 
 -- it is, and what follows it is written or not
@@ -146,4 +158,5 @@ parts_behind {w} {inverted} {result} {f} {g} {h} {l = l} {m = m} {n = n} laws so
       reads = λ p run first second. rest.step.reads p run first second ∙ step.reads p run first second;
       later = omega (arith, step.later, rest.step.later);
       refused = rest_refused result w f g inverted (Rose m n) (Rose l n) (λ rose. rose_behind l m n step.later rose) (λ told. second.told ∙ told) handed rest.refused;
+      tells = rest_tells result w f g inverted handed rest.tells;
     }

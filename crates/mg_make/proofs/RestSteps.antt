@@ -1,8 +1,10 @@
 -- The parts behind the second pass, and the head that belongs to the set.
-use Rattle.std.proofs.Common.{arith, ◌≡◌, ◌≤◌, ◌^◌, ◌∙◌, ℕ, Bool, List, length, sym, ap, subst, IsSome}
+use Rattle.std.proofs.Common.{arith, ◌≡◌, ◌≤◌, ◌^◌, ◌∙◌, ℕ, Bool, List, inl, inr, length, sym, ap, subst, IsSome}
 use Rattle.std.specs.Prelude.{sum}
 use Rattle.std.specs.declared.option.Option.{Option}
 use Rattle.mg_dev.specs.declared.fault.Fault.{Fault}
+use Rattle.mg_dev.specs.declared.fault.Fault.TheVariants.{Changed}
+use Rattle.mg_dev.specs.declared.what.What.TheVariants as what
 use Rattle.mg_dev.specs.Files.{Files}
 use Rattle.mg_defs.specs.CodedText.{TextCode, text_part}
 use Rattle.mg_defs.specs.Heads.{Head, run_count}
@@ -17,15 +19,17 @@ use Rattle.mg_laws.proofs.SizeLaws.{few_occurrences}
 use Rattle.mg_model.specs.Terms.{TermNumbers}
 use Rattle.mg_text_writer.specs.Documents.{coded_docs}
 use Rattle.mg_text_writer.specs.Writing.{text_bytes}
+use Rattle.mg_make.specs.Changes.{LostTerm, TellsAtEnd}
 use Rattle.mg_make.specs.Finishing.{budget_of}
 use Rattle.mg_make.specs.Index.{IsInverted}
-use Rattle.mg_index.specs.Listing.{AreListSizes, ListStops}
+use Rattle.mg_index.specs.Listing.{AreListSizes, HasTermOfNone, ListStops, TellsTermOfNone}
 use Rattle.mg_count.specs.Plans.{IsPlan, IsPlanOf, Plan}
 use Rattle.mg_make.specs.Putting.{IsHanded}
 use Rattle.mg_make.specs.Second.{coded_by, occurring_by}
 use Rattle.mg_make.specs.declared.inverter.Inverted.{Inverted}
 use Rattle.mg_make.proofs.CountSizes.{together}
 use Rattle.mg_make.proofs.Finishing.{planned_occurrences, planned_text}
+use Rattle.mg_make.proofs.LostTerms.{term_is_lost}
 use Rattle.mg_make.proofs.MarkFronts.{same_number}
 use Rattle.mg_make.proofs.Handing.{inverted_by_pass, sizes_of_pass}
 use Rattle.mg_index.proofs.CallerLemmas.{stops_for}
@@ -45,6 +49,16 @@ module _ (plan : Plan) (limit : ℕ) (base fed : List ℕ) (before now : Option 
   pub rest_stops : (rose : Type 0) (fault : Fault) → ((collection : List ℕ) → ListStops rose (IsInverted plan r.counts collection r.merge now) fault) →
       ListStops rose (IsSome now × IsPlanOf plan fed) fault
   rest_stops rose fault stop = stops_for fault (λ r. r) (λ both. handed_lists both.0 both.1) (stop fed)
+
+  -- and what a change tells
+  handed_lost : {first second : ℕ} → first ≡ 1 → second ≡ 0 → HasTermOfNone r.counts.docs → LostTerm plan fed first second
+  handed_lost {first} {second} one none lacks = subst (λ (p : Plan). LostTerm p fed first second) handed.plan_is
+      (term_is_lost handed.pass.plan r.counts fed handed.written.planned handed.ends.counts one none lacks)
+
+  pub rest_tells : (fault : Fault) → TellsTermOfNone (HasTermOfNone r.counts.docs) fault → TellsAtEnd plan fed fault
+  rest_tells (Changed what.Words first second) tells = inr (handed_lost tells.0 tells.1 tells.2)
+  rest_tells (Changed kind first second) tells = absurd tells
+  rest_tells fault tells = inl tt
 
   -- the numbers of occurrences and runs, and the greatest use of the pool
   pub handed_count : r.occurrences ≡ length (occurring_by plan (marks fed))

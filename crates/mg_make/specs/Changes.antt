@@ -1,5 +1,5 @@
 -- What a refusal of `Changed` tells: which number of the plan is another one in the collection, and both.
-use Rattle.std.specs.Prelude.{◌≡◌, ◌≢◌, ◌<◌, ◌+◌, ◌⊎◌, ℕ, List, length, get_or, None, position}
+use Rattle.std.specs.Prelude.{◌≡◌, ◌≢◌, ◌<◌, ◌+◌, ◌⊎◌, ℕ, List, Contains, length, get_or, None, position}
 use Rattle.std.specs.Str.{bytes_eq}
 use Rattle.mg_dev.specs.declared.fault.Fault.{Fault}
 use Rattle.mg_dev.specs.declared.fault.Fault.TheVariants.{Changed}
@@ -7,6 +7,7 @@ use Rattle.mg_dev.specs.declared.what.What.TheVariants as what
 use Rattle.mg_defs.specs.declared.Stream.{Stream}
 use Rattle.mg_defs.specs.declared.Stream.TheVariants.{Others, Words}
 use Rattle.mg_defs.specs.Marks.{code_of, pair_counts}
+use Rattle.mg_defs.specs.Terms.{dictionary}
 use Rattle.mg_defs.specs.Vocabulary.{sorted_pieces}
 use Rattle.mg_count.specs.Plans.{Plan}
 
@@ -39,6 +40,23 @@ TellsChange p collection (Changed what.Words first second) = OtherPiece Words p 
 TellsChange p collection (Changed what.Others first second) = OtherPiece Others p collection first second
 TellsChange p collection (Changed _ first second) = ⊥
 TellsChange p collection _ = Unit {0}
+
+-- a term of the plan is none of the collection's: it has a word there, and none here
+pub record LostTerm (p : Plan) (collection : List ℕ) (first second : ℕ) : Type 0 where
+  pub term : List ℕ
+  pub planned : Contains p.terms.terms term
+  pub lost : ¬ Contains (dictionary collection) term
+  pub one : first ≡ 1
+  pub none : second ≡ 0
+
+-- a change is told as that of such a term
+abbrev pub TellsLostTerm : Plan → List ℕ → Fault → Type 0
+TellsLostTerm p collection (Changed what.Words first second) = LostTerm p collection first second
+TellsLostTerm p collection _ = ⊥
+
+-- behind the last byte a change is told exactly, as before it or as that of such a term
+abbrev pub TellsAtEnd : Plan → List ℕ → Fault → Type 0
+TellsAtEnd p collection fault = TellsChange p collection fault ⊎ TellsLostTerm p collection fault
 
 -- the fault of a piece that was not counted
 abbrev pub unknown_of : Stream → Fault

@@ -20,6 +20,7 @@ use Rattle.mg_runs.specs.Left.{IsMerging, Merging}
 use Rattle.mg_text_writer.specs.Writing.{DocumentsStand, IsOnText, text_bytes}
 use Rattle.mg_count.specs.DocCounting.{AreDocCounts}
 use Rattle.mg_count.specs.Plans.{IsPlanOf}
+use Rattle.mg_make.specs.Changes.{TellsChange}
 use Rattle.mg_make.specs.Second.{HasWritten, Inversion, coded_by, occurring_by}
 use Rattle.mg_make.specs.Written.{SecondStops}
 use Rattle.mg_make.specs.declared.inverter.Inverted.{Inverted}
@@ -82,6 +83,9 @@ pub record TextEnd (old new : Inversion) (result : Result ℕ Fault) (files_befo
   -- why it stops
   pub refused : IfErr result (λ fault. (collection : List ℕ) → HasWritten old files_before (marks collection)
       → SecondStops (Rose faults_before faults_now) (IsPlanOf old.plan collection) fault)
+  -- a change is told exactly
+  pub tells : IfErr result (λ fault. (collection : List ℕ) → HasWritten old files_before (marks collection)
+      → TellsChange old.plan collection fault)
 
 -- whatever marks it wrote, a pass that wrote them ends with this
 abbrev pub HandsOn : {E : Type 0} → Inversion → Option Files → Option Files → Result Inverted E → Type 0

@@ -29,7 +29,7 @@ use Rattle.mg_index.specs.Listing.{ListStops}
 use Rattle.mg_count.specs.Plans.{IsPlanOf, Plan}
 use Rattle.mg_count.specs.Scanning.{HasMet, Scanning}
 use Rattle.mg_make.specs.Second.{HasWritten, Inversion}
-use Rattle.mg_make.specs.Changes.{TellsChange}
+use Rattle.mg_make.specs.Changes.{TellsAtEnd, TellsChange}
 use Rattle.mg_make.specs.Written.{OfSecond, SecondStops}
 use Rattle.mg_make.specs.declared.inverter.Inverted.{Inverted}
 use Rattle.mg_defs.specs.Limits.{least_cap, greatest_cap}
@@ -149,11 +149,21 @@ ScannedRefused scanning pass files faults before now result =
     IfErr result (λ fault. ForScanned scanning pass (files before)
     (PlanStops (Rose (faults before) (faults now)) pass.plan (files before) fault))
 
+-- and a change is told exactly
+abbrev pub ScannedTells : {T : Type 0} → Scanning → Inversion → Option Files → Result T Fault → Type 0
+ScannedTells scanning pass files result =
+    IfErr result (λ fault. ForScanned scanning pass files (λ fed. TellsChange pass.plan fed fault))
+
 -- what follows the last byte that was put is refused for such a reason
 abbrev pub PutRefused : {X T : Type 0} → Putting → (X → Option Files) → (X → ℕ) → X → X → Result T Fault → Type 0
 PutRefused w files faults before now result =
     IfErr result (λ fault. (fed : List ℕ) → HasPut w (files before) fed →
     PlanStops (Rose (faults before) (faults now)) w.plan (files before) fault fed)
+
+-- and a change that is told there is told exactly
+abbrev pub PutTells : {T : Type 0} → Putting → Option Files → Result T Fault → Type 0
+PutTells w files result =
+    IfErr result (λ fault. (fed : List ℕ) → HasPut w files fed → TellsAtEnd w.plan fed fault)
 
 -- bytes, behind those that were put and before more, are refused for such a reason
 abbrev pub NextRefused : {X T : Type 0} → Putting → (List ℕ → List ℕ) → (X → Option Files) → (X → ℕ) → X → X →

@@ -113,3 +113,9 @@ abbrev pub EndRefused : {X T : Type 0} → Inversion → (X → Option Files) �
 EndRefused s files faults before now result =
     IfErr result (λ fault. (collection : List ℕ) → HasWritten s (files before) (marks collection)
     → FinishStops (Rose (faults before) (faults now)) (IsPlanOf s.plan collection) (IsSome (files before)) fault)
+
+-- and a change is told exactly
+abbrev pub EndTells : {T : Type 0} → Inversion → Option Files → Result T Fault → Type 0
+EndTells s files result =
+    IfErr result (λ fault. (collection : List ℕ) → HasWritten s files (marks collection)
+    → TellsChange s.plan collection fault)

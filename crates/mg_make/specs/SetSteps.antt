@@ -14,12 +14,12 @@ use Rattle.mg_layout.specs.HeadAnswers.{fields_of}
 use Rattle.mg_layout.specs.declared.head.Head.{Head}
 use Rattle.mg_index.specs.Steps.{ReadRuns}
 use Rattle.mg_make.specs.Index.{HasPostPart, HasSkipPart, InvertedBy, OfIndex, WroteIndex}
-use Rattle.mg_index.specs.Listing.{ListStops}
+use Rattle.mg_index.specs.Listing.{HasTermOfNone, ListStops, TellsTermOfNone}
 use Rattle.mg_count.specs.Plans.{IsPlanOf, Plan}
 use Rattle.mg_make.specs.Putting.{ForHanded, ForPut, HasHeadOf, HasPeakOf, HasPut, MakesHead, MakesReady, OthersSame, PlanStops, Putting}
 use Rattle.mg_index.specs.Steps.{MergeStep}
 use Rattle.mg_make.specs.Steps.{SortStep}
-use Rattle.mg_make.specs.Changes.{TellsChange}
+use Rattle.mg_make.specs.Changes.{TellsAtEnd, TellsChange}
 use Rattle.mg_make.specs.Written.{SecondStops}
 use Rattle.mg_make.specs.declared.inverter.Inverted.{Inverted}
 use Rattle.mg_index.specs.declared.lists.Sizes.{Sizes}
@@ -117,6 +117,8 @@ pub record RestStep (plan : Plan) (limit size : ℕ) (base : List ℕ) (inverted
   -- why it stops
   pub refused : IfErr result (λ fault. ForHanded plan limit base files_before inverted
       (PlanStops (Rose faults_before faults_now) plan files_before fault))
+  -- a change is told exactly
+  pub tells : IfErr result (λ fault. ForHanded plan limit base files_before inverted (λ fed. TellsAtEnd plan fed fault))
 
 -- lists, lexicon and weights are written of what was inverted, or why they are not
 pub record WeighedStep (p : Plan) (inverted inverted_now : Inverted) (base : List ℕ) (result : Result Sizes Fault)
@@ -136,6 +138,8 @@ pub record WeighedStep (p : Plan) (inverted inverted_now : Inverted) (base : Lis
   -- why it stops
   pub refused : IfErr result (λ fault. (collection : List ℕ) →
       ListStops (Rose faults_before faults_now) (InvertedBy p inverted files_before collection) fault)
+  -- a change is told exactly: no document has one of the terms
+  pub tells : IfErr result (TellsTermOfNone (HasTermOfNone inverted.counts.docs))
 
 -- all parts but the head are written, or why they are not
 pub record PartsStep (w : Putting) (result : Result (Head × ℕ) Fault) (files_before files_now : Option Files)
@@ -159,3 +163,5 @@ pub record PartsStep (w : Putting) (result : Result (Head × ℕ) Fault) (files_
   -- why it stops
   pub refused : IfErr result (λ fault. (fed : List ℕ) → HasPut w files_before fed →
       PlanStops (Rose faults_before faults_now) w.plan files_before fault fed)
+  -- a change is told exactly
+  pub tells : IfErr result (λ fault. (fed : List ℕ) → HasPut w files_before fed → TellsAtEnd w.plan fed fault)

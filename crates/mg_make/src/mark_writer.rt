@@ -6,7 +6,7 @@ ghost use Rattle.mg_dev.specs.Moments.{Between};
 ghost use Rattle.mg_defs.specs.Marks.{start as start_mark, stop as stop_mark};
 ghost use Rattle.mg_make.specs.Finishing.{HandsOn, TextEnd};
 ghost use Rattle.mg_count.specs.Meeting.{marks_of, only_if, piece_if};
-ghost use Rattle.mg_make.specs.Second.{EndRefused, Inversion, IsNext, IsWhole};
+ghost use Rattle.mg_make.specs.Second.{EndRefused, EndTells, Inversion, IsNext, IsWhole};
 ghost use Rattle.mg_make.specs.Steps.{PassStep, SortStep};
 ghost use Rattle.mg_make.specs.Written.{OfSecond};
 
@@ -87,6 +87,7 @@ pub(crate) fn end_marks<'a, S: Store, W: MarkWriter<'a, S> + Drop>(
     ensures step { Between S.files S.reads S.faults store.old store.new
         (SortStep OfSecond (W.pass writer).base) }
     ensures refused { EndRefused (W.pass writer) S.files S.faults store.old store.new result }
+    ensures tells { EndTells (W.pass writer) (S.files store.old) result }
 {
     // A law: what the runs took stays while the text is written.
     runs_stay();

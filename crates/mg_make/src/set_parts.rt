@@ -16,7 +16,8 @@ ghost use Rattle.mg_model.specs.Models.{PartsHold};
 ghost use Rattle.mg_count.specs.DocCounting.{AreDocCounts};
 ghost use Rattle.mg_make.specs.Finishing.{budget_of};
 ghost use Rattle.mg_count.specs.Plans.{IsPlan};
-ghost use Rattle.mg_make.specs.Putting.{ForScanned, HandsFor, IsHanded, IsUnbuilt, OfPass, ScannedRefused};
+ghost use Rattle.mg_make.specs.Putting.{ForScanned, HandsFor, IsHanded, IsUnbuilt, OfPass};
+ghost use Rattle.mg_make.specs.Putting.{ScannedRefused, ScannedTells};
 ghost use Rattle.mg_count.specs.Scanning.{HasMet};
 ghost use Rattle.mg_make.specs.Second.{HasWritten};
 ghost use Rattle.mg_make.specs.SetSteps.{RestStep};
@@ -96,6 +97,7 @@ pub(crate) fn end_pass<'a, S: Store, W: MarkWriter<'a, S> + Drop>(
         (SortStep OfSecond (W.pass writer).base) }
     ensures refused { ScannedRefused scanner.old (W.pass writer) S.files S.faults store.old
         store.new result }
+    ensures tells { ScannedTells scanner.old (W.pass writer) (S.files store.old) result }
 {
     let mut writer = writer;
     scanner.finish();

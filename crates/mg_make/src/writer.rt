@@ -14,7 +14,7 @@ ghost use Rattle.mg_index.specs.Steps.{ReadRuns};
 ghost use Rattle.mg_layout.specs.Stands.{StandsForNone, StandsIn};
 ghost use Rattle.mg_count.specs.Plans.{IsPlan, IsRoomFor};
 ghost use Rattle.mg_make.specs.Putting.{ForPut, GrewByHead, HasPut, IsEmptied, IsUnbuilt, NextRefused, NextTells};
-ghost use Rattle.mg_make.specs.Putting.{OthersSame, PutRefused};
+ghost use Rattle.mg_make.specs.Putting.{OthersSame, PutRefused, PutTells};
 ghost use Rattle.mg_make.specs.Putting.{StandsForNoOther, WhereHeadLacks, with_head};
 ghost use Rattle.mg_make.specs.Outcomes.{HasSummaryOf, MakesSet};
 ghost use Rattle.mg_make.specs.SetSteps.{ByteStep, PartsStep, SliceStep, WentOn};
@@ -210,7 +210,8 @@ impl<'a> SetWriter<'a> {
     /// # Errors
     ///
     /// The store's faults, and want of memory. `Changed` and `Damaged` come only where the bytes are not those
-    /// of the plan or the store does not tell its files.
+    /// of the plan or the store does not tell its files. `Changed` tells in which number the bytes differ from
+    /// the plan; of a word that they lack, 1 and 0.
     pub fn finish<S: Store>(self, alloc: Global, store: &mut S) -> Result<Summary, Fault>
         requires put { (fed : List ℕ) × HasPut self (S.files store.old) fed
             × (length fed < 2 ^ 32) }
@@ -229,6 +230,7 @@ impl<'a> SetWriter<'a> {
         ensures plain { S.reads store.old part.Plain ≤ S.reads store.new part.Plain }
         ensures later { S.faults store.old ≤ S.faults store.new }
         ensures refused { PutRefused self.entry S.files S.faults store.old store.new result }
+        ensures tells { PutTells self.entry (S.files store.old) result }
     {
         let base = self.base;
         let limit = self.limit;

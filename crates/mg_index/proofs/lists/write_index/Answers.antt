@@ -9,7 +9,7 @@ use Rattle.mg_post.specs.Writing.{Took}
 use Rattle.mg_index.specs.Listing.{ListsStand}
 use Rattle.mg_index.proofs.Causes.{rose_behind}
 use Rattle.mg_index.proofs.IndexEnds.{ended}
-use Rattle.mg_index.proofs.ListFrames.{stops_for, store_stops}
+use Rattle.mg_index.proofs.ListFrames.{list_of_read, read_tells, store_stops, store_tells}
 use Rattle.mg_index.proofs.ListSteps.{took_between}
 use Rattle.mg_index.proofs.StepLaws.{step_for, step_look, step_more, step_put}
 use Rattle.mg_index.proofs.lists.write_index.Goals as goal
@@ -23,6 +23,7 @@ returns-in-Err g c = record {
   few = tt;
   step = c.write_terms.ensures.step;
   refused = c.in-Err.ensures.refused;
+  tells = c.in-Err.ensures.tells;
 }
 
 pub returns-in-Err-expect_end : goal.returns-in-Err-expect_end
@@ -33,11 +34,12 @@ returns-in-Err-expect_end g c = record {
   skip_count = λ collection has. tt;
   few = tt;
   step = step_more c.write_terms.ensures.step (step_look c.expect_end.ensures.looked);
-  refused = λ collection. stops_for c.in-Err-expect_end.refusal (rose_behind _ _ _ c.write_terms.ensures.step.later)
+  refused = λ collection. list_of_read c.in-Err-expect_end.refusal (rose_behind _ _ _ c.write_terms.ensures.step.later)
       (λ has.
       let e = ended c.args.terms.now.table.now.terms c.args.terms.now.docs.now collection _ _ _ _ _ _ refl (c.in-Ok.ensures.indexed collection has) in
       (e.told, e.merging))
       c.in-Err-expect_end.ensures.refused;
+  tells = read_tells _ _ _ c.in-Err-expect_end.refusal c.in-Err-expect_end.ensures.refused;
 }
 
 pub finish-requires : goal.finish-requires
@@ -79,6 +81,7 @@ returns-in-Ok-finish g c =
       few = omega (arith, c.in-Ok-finish.ensures.few, can.total, sum_by-take-le (λ x. x) docs (length terms));
       step = step_more (step_more c.write_terms.ensures.step (step_look c.expect_end.ensures.looked)) (step_for own (step_put c.finish.ensures.step));
       refused = tt;
+      tells = tt;
     }
 
 pub returns-in-Err-finish : goal.returns-in-Err-finish
@@ -93,4 +96,5 @@ returns-in-Err-finish g c =
       step = step_more (step_more c.write_terms.ensures.step (step_look c.expect_end.ensures.looked)) (step_for own (step_put c.finish.ensures.step));
       refused = λ collection. store_stops _ c.in-Err-finish.refusal _ (omega (arith, c.write_terms.ensures.step.later, c.expect_end.ensures.looked.later))
           c.in-Err-finish.ensures.step.cause c.of_store.ensures;
+      tells = store_tells _ c.in-Err-finish.refusal _ c.of_store.ensures;
     }

@@ -3,7 +3,7 @@ use Rattle.std.specs.Prelude.{OnOk}
 use Rattle.mg_index.specs.Listing.{ListsStand}
 use Rattle.mg_index.proofs.Causes.{rose_behind}
 use Rattle.mg_index.proofs.IndexEnds.{can_index_begun, indexed_begun}
-use Rattle.mg_index.proofs.ListFrames.{stops_within, store_stops}
+use Rattle.mg_index.proofs.ListFrames.{stops_within, store_stops, store_tells}
 use Rattle.mg_index.proofs.StepLaws.{step_for, step_more, step_put}
 use Rattle.mg_index.proofs.lists.write_lists.Goals as goal
 
@@ -16,6 +16,7 @@ returns-in-Err g c = record {
   few = tt;
   step = step_put c.start_writers.ensures.step;
   refused = λ collection. store_stops _ c.in-Err.refusal _ (omega arith) c.in-Err.ensures.step.cause c.of_store.ensures;
+  tells = store_tells _ c.in-Err.refusal _ c.of_store.ensures;
 }
 
 pub write_index-requires-clause-can : goal.write_index-requires-clause-can
@@ -49,4 +50,5 @@ returns g c =
           (λ collection has. indexed_begun c.runs_stay.ensures.left c.squares_fit.ensures.most terms docs collection _ _ _ _ _ _ c.args.base.now _ all c.requires.base wrote start.lists
           start.lex c.requires.zero has)
           e.refused;
+      tells = e.tells;
     }

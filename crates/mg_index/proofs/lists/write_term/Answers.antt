@@ -1,7 +1,7 @@
 use Rattle.std.proofs.Common.{arith, ◌∙◌, ◌+◌, ◌<◌, [], length, take, drop, get_or, sym}
 use Rattle.mg_defs.specs.Lists.{inverted}
 use Rattle.mg_index.proofs.IndexSteps.{above, can_index_more, indexed_more, terms_beside}
-use Rattle.mg_index.proofs.ListFrames.{of_lists, stops_for, store_stops}
+use Rattle.mg_index.proofs.ListFrames.{of_lists, stops_for, store_stops, store_tells, tells_for}
 use Rattle.mg_index.proofs.StepLaws.{step_lex, step_more, step_wider}
 use Rattle.mg_index.proofs.TermSteps.{has_list, info_is, list_next, number_within, size_at}
 use Rattle.mg_index.proofs.lists.write_term.Goals as goal
@@ -18,6 +18,9 @@ returns-in-Err g c =
       refused = λ collection. stops_for c.in-Err.refusal (λ rose. rose)
           (λ has. has_list terms docs collection c.args.number c.docs_of-docs.result _ _ _ _ _ c.requires.number c.docs_of-docs.ensures has)
           c.in-Err.ensures.refused;
+      tells = tells_for c.in-Err.refusal
+          (λ none. record { number = c.args.number; within = omega (arith, c.requires.number, c.requires.sizes.each); none = sym c.docs_of-docs.ensures ∙ none })
+          c.in-Err.ensures.tells;
     }
 
 pub push-requires-clause-took : goal.push-requires-clause-took
@@ -59,6 +62,7 @@ returns-in-Ok-push g c =
       all = written.files.all;
       step = step_more (step_wider of_lists written.step) (step_lex c.requires.can.base e.told e.others e.reads e.cause.later);
       refused = tt;
+      tells = tt;
     }
 
 pub returns-in-Err-push : goal.returns-in-Err-push
@@ -71,4 +75,5 @@ returns-in-Err-push g c =
       all = written.files.all;
       step = step_more (step_wider of_lists written.step) (step_lex c.requires.can.base e.told e.others e.reads e.cause.later);
       refused = λ collection. store_stops _ c.in-Err-push.refusal _ written.step.later c.in-Err-push.ensures.cause c.of_store.ensures;
+      tells = store_tells _ c.in-Err-push.refusal _ c.of_store.ensures;
     }

@@ -3,7 +3,7 @@ use Rattle.mg_dev.specs.Causes.{Rose}
 use Rattle.mg_defs.specs.Lists.{lists_bits, lists_entries}
 use Rattle.mg_defs.specs.PostingLists.{by_terms}
 use Rattle.mg_index.specs.Listing.{IsInList}
-use Rattle.mg_index.proofs.ListFrames.{stops_for, store_stops, wrote_lists}
+use Rattle.mg_index.proofs.ListFrames.{list_of_read, read_tells, store_stops, store_tells, wrote_lists}
 use Rattle.mg_index.proofs.ListSteps.{at_list_begun, at_list_ended, can_begun, can_ended, names_more, rest_of_list, whole_taken}
 use Rattle.mg_index.proofs.StepLaws.{step_begun, step_lists, step_none, step_then}
 use Rattle.mg_index.proofs.one_list.write_list.Goals as goal
@@ -18,6 +18,7 @@ returns-then-docs-eq0 g c = record {
   files = record { post = refl; skip = refl; all = refl };
   step = step_none refl (λ p. refl) (omega arith);
   refused = ((λ e. omega (arith, e)), λ has. omega (arith, has.some, c.if-docs-eq0.true));
+  tells = (refl, refl, omega (arith, c.if-docs-eq0.true));
 }
 
 -- a list is always begun
@@ -39,9 +40,10 @@ returns-in-Err-take_postings g c =
       listed = tt;
       files = names_more _ _ _ c.begin.ensures.same c.take_postings.ensures.files;
       step = step_begun g.S.Store.files g.S.Store.reads g.S.Store.faults c.begin.ensures.store c.take_postings.ensures.step;
-      refused = stops_for c.in-Err-take_postings.refusal (subst (λ s. Rose (g.S.Store.faults s) (g.S.Store.faults c.take_postings.new.store)) c.begin.ensures.store)
+      refused = list_of_read c.in-Err-take_postings.refusal (subst (λ s. Rose (g.S.Store.faults s) (g.S.Store.faults c.take_postings.new.store)) c.begin.ensures.store)
           (rest_of_list c.args.number c.args.docs _ _ _ _ _ _ files c.begin.ensures.took c.begin.ensures.between c.begin.ensures.same)
           c.in-Err-take_postings.ensures.refused;
+      tells = read_tells _ _ _ c.in-Err-take_postings.refusal c.in-Err-take_postings.ensures.refused;
     }
 
 pub end_list-requires-clause-took : goal.end_list-requires-clause-took
@@ -88,6 +90,7 @@ returns-in-Ok-end_list g c =
       step = step_then (step_begun g.S.Store.files g.S.Store.reads g.S.Store.faults c.begin.ensures.store c.take_postings.ensures.step)
           (step_lists can.post can.skip e.told e.others e.reads e.cause.later);
       refused = tt;
+      tells = tt;
     }
 
 pub returns-in-Err-end_list : goal.returns-in-Err-end_list
@@ -104,4 +107,5 @@ returns-in-Err-end_list g c =
       files = names_more _ _ _ (names_more _ _ _ c.begin.ensures.same c.take_postings.ensures.files) e.same;
       step = step_then begun (step_lists can.post can.skip e.told e.others e.reads e.cause.later);
       refused = store_stops _ c.in-Err-end_list.refusal _ begun.later c.in-Err-end_list.ensures.cause c.of_store-in-Err-end_list.ensures;
+      tells = store_tells _ c.in-Err-end_list.refusal _ c.of_store-in-Err-end_list.ensures;
     }

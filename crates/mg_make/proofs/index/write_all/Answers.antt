@@ -4,7 +4,8 @@ use Rattle.std.specs.List.{flat_map}
 use Rattle.mg_make.specs.Index.{IsInverted}
 use Rattle.mg_count.specs.Plans.{Plan}
 use Rattle.mg_make.proofs.IndexLaws.{index_stands, lists_of_inverted, of_index, size_is, weights_of_index, zeros}
-use Rattle.mg_index.proofs.CallerLemmas.{stops_for, store_stops}
+use Rattle.mg_index.specs.Listing.{HasTermOfNone, TellsTermOfNone}
+use Rattle.mg_index.proofs.CallerLemmas.{stops_for, store_stops, store_tells}
 use Rattle.mg_make.proofs.WeightSteps.{root_bytes, weights_are}
 use Rattle.mg_index.proofs.CallerLemmas.{put_wider, step_more, step_put, step_wider}
 use Rattle.mg_make.proofs.index.write_all.Goals as goal
@@ -23,6 +24,7 @@ returns-in-Err g c =
           lists_of_inverted c.postings_are_lists.ensures c.documents_are_counted.ensures.all c.docs.ensures all
           (subst (λ p. IsInverted p c.args.inverted.now.counts collection c.args.inverted.now.merge (g.S.Store.files c.args.store.now)) (sym c.plan.view_is) is))
           (c.in-Err.ensures.refused collection);
+      tells = subst (λ (docs : List ℕ). TellsTermOfNone (HasTermOfNone docs) c.in-Err.refusal) c.docs.ensures c.in-Err.ensures.tells;
     }
 
 pub returns-in-Ok-write_weights_part : goal.returns-in-Ok-write_weights_part
@@ -54,6 +56,7 @@ returns-in-Ok-write_weights_part g c =
       few = subst (λ (docs : List ℕ). c.in-Ok.sizes.skip_count ≤ sum docs) c.docs.ensures lists.few;
       step = step_more (step_wider of_index c.write_lists.ensures.step) (step_put (put_wider weights_of_index c.write_weights_part.ensures.step));
       refused = tt;
+      tells = tt;
     }
 
 pub returns-in-Err-write_weights_part : goal.returns-in-Err-write_weights_part
@@ -64,4 +67,5 @@ returns-in-Err-write_weights_part g c = record {
   few = tt;
   step = step_more (step_wider of_index c.write_lists.ensures.step) (step_put (put_wider weights_of_index c.write_weights_part.ensures.step));
   refused = λ collection. store_stops _ c.in-Err-write_weights_part.refusal _ c.write_lists.ensures.step.later c.in-Err-write_weights_part.ensures.step.cause c.of_store.ensures;
+  tells = store_tells _ c.in-Err-write_weights_part.refusal _ c.of_store.ensures;
 }

@@ -2,7 +2,7 @@ use Rattle.std.proofs.Common.{arith, ◌∙◌, ap, length, subst, sym}
 use Rattle.mg_defs.specs.Marks.{marks}
 use Rattle.mg_make.specs.Indexes.{HasTaken, Indexing}
 use Rattle.mg_make.specs.Second.{occurring_by}
-use Rattle.mg_make.proofs.Finishing.{ends_all, finish_by_part, finish_stops, whole_is_closed}
+use Rattle.mg_make.proofs.Finishing.{ends_all, finish_by_part, finish_stops, tells_part, whole_is_closed}
 use Rattle.mg_make.proofs.Frames.{index_kept, runs_alone, runs_wrote, text_wrote, wrote_both}
 use Rattle.mg_make.proofs.mark_writer.end_marks.Goals as goal
 
@@ -15,6 +15,9 @@ returns-in-Err-clause-step g c =
 
 pub returns-in-Err-clause-refused : goal.returns-in-Err-clause-refused
 returns-in-Err-clause-refused g c = λ collection is. finish_stops _ _ _ c.in-Err.refusal (c.in-Err.ensures.refused collection is)
+
+pub returns-in-Err-clause-tells : goal.returns-in-Err-clause-tells
+returns-in-Err-clause-tells g c = c.in-Err.ensures.tells
 
 -- ---- the runs
 
@@ -74,3 +77,6 @@ returns-in-Err-merge-clause-refused g c = λ collection is.
     let e = c.in-Ok.ensures in
     let m = c.in-Err-merge.ensures in
     finish_by_part _ _ _ c.in-Err-merge.refusal c.from.result c.from.ensures e.faults m.cause e.told m.undamaged
+
+pub returns-in-Err-merge-clause-tells : goal.returns-in-Err-merge-clause-tells
+returns-in-Err-merge-clause-tells g c = λ collection is. tells_part _ collection c.in-Err-merge.refusal c.from.result c.from.ensures

@@ -5,7 +5,7 @@ use Rattle.mg_count.specs.Meeting.{Meeting, marks_of}
 use Rattle.mg_count.specs.Scanning.{HasMet}
 use Rattle.mg_make.specs.Second.{HasWritten}
 use Rattle.mg_make.proofs.CallerLemmas.{rose_behind}
-use Rattle.mg_make.proofs.EndSteps.{all_written, end_refused, handed_all, is_whole, last_marks, stops_before}
+use Rattle.mg_make.proofs.EndSteps.{all_written, end_refused, end_tells, handed_all, is_whole, last_marks, stops_before, tells_before}
 use Rattle.mg_make.proofs.SortLaws.{sort_for, sort_more, sort_pass}
 use Rattle.mg_make.proofs.set_parts.end_pass.Goals as goal
 
@@ -64,3 +64,18 @@ returns-clause-refused g c =
     = λ fed met h. subst (λ (m : Meeting). marks fed ≡ met ++ marks_of m) (sym c.met.ensures) (c.finish.ensures.met fed met h) in
     end_refused c.end_marks.result c.args.scanner.now (g.W.MarkWriter.pass c.args.writer) (g.W.MarkWriter.pass c.put_marks.new.writer) (g.S.Store.files c.args.store.now) (g.S.Store.files c.put_marks.new.store) next _ _
     (λ rose. rose_behind _ _ _ c.in-Ok.ensures.faults rose) c.in-Ok.ensures.same c.in-Ok.ensures.wrote.told c.in-Ok.ensures.written whole c.end_marks.ensures.refused
+
+pub returns-in-Err-clause-tells : goal.returns-in-Err-clause-tells
+returns-in-Err-clause-tells g c = λ fed met scanned written few.
+    let next = marks_of c.met.result.now in
+    let whole : ((fed : List ℕ) (met : List Mark) → HasMet c.args.scanner.now fed met → marks fed ≡ met ++ next)
+    = λ fed met h. subst (λ (m : Meeting). marks fed ≡ met ++ marks_of m) (sym c.met.ensures) (c.finish.ensures.met fed met h) in
+    tells_before (g.W.MarkWriter.pass c.args.writer) (g.S.Store.files c.args.store.now) fed met next _ c.in-Err.refusal written (whole fed met scanned) few c.in-Err.ensures.refused
+
+pub returns-clause-tells : goal.returns-clause-tells
+returns-clause-tells g c =
+    let next = marks_of c.met.result.now in
+    let whole : ((fed : List ℕ) (met : List Mark) → HasMet c.args.scanner.now fed met → marks fed ≡ met ++ next)
+    = λ fed met h. subst (λ (m : Meeting). marks fed ≡ met ++ marks_of m) (sym c.met.ensures) (c.finish.ensures.met fed met h) in
+    end_tells c.end_marks.result c.args.scanner.now (g.W.MarkWriter.pass c.args.writer) (g.W.MarkWriter.pass c.put_marks.new.writer) (g.S.Store.files c.args.store.now)
+    (g.S.Store.files c.put_marks.new.store) next c.in-Ok.ensures.same c.in-Ok.ensures.written whole c.end_marks.ensures.tells

@@ -12,7 +12,7 @@ use Rattle.mg_defs.specs.Terms.{dictionary}
 use Rattle.mg_defs.specs.Vocabulary.{sorted_pieces}
 use Rattle.mg_count.specs.Plans.{Plan}
 use Rattle.mg_make.proofs.Finishing.{planned_occurrences}
-use Rattle.mg_make.proofs.RestSteps.{few_occurring, few_terms_of, handed_count, handed_docs, handed_high, handed_lists, handed_low, handed_peak, handed_runs, handed_sizes, handed_text, rest_stops, same_heads}
+use Rattle.mg_make.proofs.RestSteps.{few_occurring, few_terms_of, handed_count, handed_docs, handed_high, handed_lists, handed_low, handed_peak, handed_runs, handed_sizes, handed_text, rest_stops, rest_tells, same_heads}
 use Rattle.mg_make.proofs.SortLaws.{sort_merge}
 use Rattle.mg_make.proofs.set_parts.write_rest.Goals as goal
 
@@ -28,6 +28,8 @@ returns-in-Err g c = record {
   step = sort_merge c.in-Err.ensures.step;
   refused = λ fed before handed.
       rest_stops c.args.rest.now.plan.now c.args.rest.now.limit c.args.base.now fed before _ c.args.inverted.now handed _ c.in-Err.refusal c.in-Err.ensures.refused;
+  tells = λ fed before handed.
+      rest_tells c.args.rest.now.plan.now c.args.rest.now.limit c.args.base.now fed before _ c.args.inverted.now handed c.in-Err.refusal c.in-Err.ensures.tells;
 }
 
 pub returns : goal.returns
@@ -76,4 +78,5 @@ returns g c =
       stand = λ fed before handed told plan_of. c.in-Ok.ensures.stand fed (handed_lists plan limit base fed before _ r handed told plan_of);
       step = sort_merge c.in-Ok.ensures.step;
       refused = tt;
+      tells = tt;
     }

@@ -1,8 +1,8 @@
 use Rattle.std.proofs.Common.{◌≤◌, ◌<◌, refl, length, ap, arith}
 use Rattle.mg_count.specs.Plans.{Plan}
-use Rattle.mg_make.proofs.Finishing.{fewer_documents, whole_is_closed}
+use Rattle.mg_make.proofs.Finishing.{fewer_documents, tells_fewer_documents, whole_is_closed}
 use Rattle.mg_make.proofs.SecondSteps.{none_open}
-use Rattle.mg_make.proofs.Stopping.{stops_store}
+use Rattle.mg_make.proofs.Stopping.{stops_store, tells_store}
 use Rattle.mg_make.proofs.second.SecondPassMarkWriter.end_text.Goals as goal
 use Rattle.mg_make.proofs.second.SecondPassMarkWriter.end_text.Goals.{in-Ok, in-Err}
 
@@ -21,6 +21,8 @@ returns-then-self-len g c =
       reads = λ p. refl;
       faults = omega arith;
       refused = λ collection is. ((λ e. omega (arith, e, long, c.len-then-self-len.ensures, c.from.ensures, few)), fewer_documents _ _ collection is few);
+      tells = λ collection is.
+          tells_fewer_documents _ _ collection _ _ is few (omega (arith, long, c.len-then-self-len.ensures)) (omega (arith, c.from.ensures));
     })
 
 pub finish-requires-clause-closed : goal.finish-requires-clause-closed
@@ -51,6 +53,7 @@ returns g c =
             reads = e.reads;
             faults = e.cause.later;
             refused = tt;
+            tells = tt;
           })
       | in-Err w ↦
           rw (w.result-is, ← c.self.view_is)
@@ -64,5 +67,6 @@ returns g c =
             reads = e.reads;
             faults = e.cause.later;
             refused = λ collection is. stops_store _ _ _ _ w.of_store.ensures w.in-Err.ensures.cause.failed;
+            tells = λ collection is. tells_store _ collection _ _ w.of_store.ensures;
           })
     ]

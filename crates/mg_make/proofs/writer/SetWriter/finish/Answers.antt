@@ -16,6 +16,7 @@ use Rattle.mg_make.specs.Summaries.{summary_by}
 use Rattle.mg_make.proofs.HeadLaws.{empty_stands_for_none}
 use Rattle.mg_make.proofs.HeadSteps.{append_others, append_stops, grown_whole, left_here, merge_a_here, merge_b_here, stands_here, stands_of}
 use Rattle.mg_make.proofs.CallerLemmas.{others_more}
+use Rattle.mg_make.proofs.Stopping.{tells_store}
 use Rattle.mg_make.proofs.writer.SetWriter.finish.Goals as goal
 
 pub returns-in-Err-clause-left : goal.returns-in-Err-clause-left
@@ -134,6 +135,12 @@ returns-in-Err-write-clause-refused g c = λ fed put. subst
     (λ (fault : Fault). ListStops (Rose (g.S.Store.faults c.args.store.now) (g.S.Store.faults c.write.new.store))
     (IsSome (g.S.Store.files c.args.store.now) × IsPlanOf c.args.self.plan fed) fault) (sym c.of_store.ensures)
     (append_stops _ _ _ c.in-Err-write.refusal _ c.in-Ok.ensures.later c.in-Err-write.ensures.cause)
+
+pub returns-in-Err-clause-tells : goal.returns-in-Err-clause-tells
+returns-in-Err-clause-tells g c = c.in-Err.ensures.tells
+
+pub returns-in-Err-write-clause-tells : goal.returns-in-Err-write-clause-tells
+returns-in-Err-write-clause-tells g c = λ fed put. inl (tells_store _ fed c.in-Err-write.refusal _ c.of_store.ensures)
 
 pub returns-in-Err-clause-reads : goal.returns-in-Err-clause-reads
 returns-in-Err-clause-reads g c = c.write_parts.ensures.reads

@@ -4,7 +4,7 @@ use Rattle.mg_make.proofs.writer.SetWriter.write_parts.Goals as goal
 pub returns-in-Err : goal.returns-in-Err
 returns-in-Err g c =
     let put = rw (← c.self.view_is) at c.requires.put.1 in
-    rw (← c.self.view_is) (parts_refused c.requires.put.0 put c.requires.put.2 c.in-Err.ensures.step c.in-Err.ensures.refused)
+    rw (← c.self.view_is) (parts_refused c.requires.put.0 put c.requires.put.2 c.in-Err.ensures.step c.in-Err.ensures.refused c.in-Err.ensures.tells)
 
 pub write_rest-requires-clause-handed : goal.write_rest-requires-clause-handed
 write_rest-requires-clause-handed g c =
