@@ -78,7 +78,7 @@ marks_follow collection = of_documents (documents collection)
 
 -- ---- the mark that comes next in a collection
 
-whole_is : (met : List Mark) (m : Mark) (collection : List ℕ) (f : IsFrontOf (met ++ m ∷ []) collection) → marks collection ≡ met ++ (m ∷ f.after)
+pub whole_is : (met : List Mark) (m : Mark) (collection : List ℕ) (f : IsFrontOf (met ++ m ∷ []) collection) → marks collection ≡ met ++ (m ∷ f.after)
 whole_is met m collection f = f.whole ∙ append_assoc met (m ∷ []) f.after
 
 follows : (met : List Mark) (m : Mark) (collection : List ℕ) (f : IsFrontOf (met ++ m ∷ []) collection) → Follow false 0 (met ++ (m ∷ f.after))

@@ -19,7 +19,7 @@ use Rattle.mg_count.specs.Plans.{IsPlanOf, Plan}
 use Rattle.mg_make.specs.Changes.{OtherPiece, TellsChange, unknown_of}
 use Rattle.mg_make.specs.Second.{HasWritten, Inversion}
 use Rattle.mg_make.specs.Written.{SecondStops}
-use Rattle.mg_make.proofs.MarkFronts.{begun_documents, has_symbol, more_documents, more_pieces, no_more_pieces, open_at_piece, open_at_stop, pairs_at_stop, some_begun}
+use Rattle.mg_make.proofs.MarkFronts.{begun_documents, has_symbol, more_documents, more_pieces, no_more_pieces, open_at_piece, open_at_stop, pairs_at_stop, some_begun, whole_is}
 
 pub stops_store : {T : Type 0} (rose same : Type 0) (e : PutErr) (fault : Fault) → fault ≡ fault_of_store e → (IsErrOf {T = T} (Err e) put.Failed → rose) → SecondStops rose same fault
 stops_store rose same put.Failed fault is cause = rw is (cause refl)
@@ -117,11 +117,25 @@ pub stops_unknown : (rose same : Type 0) (kind : Stream) (fault : Fault) → fau
 stops_unknown rose same Words fault is not = rw is ((λ e. cc), not)
 stops_unknown rose same Others fault is not = rw is ((λ e. cc), not)
 
-unknown_piece : (p : Plan) (met : List Mark) (kind : Stream) (x collection : List ℕ) → IsFrontOf (met ++ piece kind x ∷ []) collection →
-    position (bytes_eq x) (code_of kind p.code).pieces ≡ None → OtherPiece kind p collection 0 1
-unknown_piece p met kind x collection front lacking = record { bytes = x; lacking = lacking; there = has_symbol met kind x collection front; none = refl; one = refl }
+unknown_piece : (s : Inversion) (files : Option Files) (met : List Mark) (kind : Stream) (x collection : List ℕ) → HasWritten s files met →
+    IsFrontOf (met ++ piece kind x ∷ []) collection → 0 < s.left → position (bytes_eq x) (code_of kind s.plan.code).pieces ≡ None → OtherPiece kind s.plan collection 0 1
+unknown_piece s files met kind x collection is front more lacking =
+    let put = is.put (is.is_open ∙ open_at_piece met kind x collection front) in
+    let at : get_or s.plan.pairs (starts met - 1) 0 ≡ get_or s.plan.pairs (s.doc - 1) 0 = ap (λ k. get_or s.plan.pairs (k - 1) 0) (sym is.doc) in
+    record {
+      bytes = x;
+      before = met;
+      after = front.after;
+      met = whole_is met (piece kind x) collection front;
+      room = omega (arith, put, at, more);
+      lacking = lacking;
+      there = has_symbol met kind x collection front;
+      none = refl;
+      one = refl;
+    }
 
-pub tells_unknown : (p : Plan) (met : List Mark) (kind : Stream) (x collection : List ℕ) (fault : Fault) → IsFrontOf (met ++ piece kind x ∷ []) collection →
-    position (bytes_eq x) (code_of kind p.code).pieces ≡ None → fault ≡ unknown_of kind → TellsChange p collection fault
-tells_unknown p met Words x collection fault front lacking is = rw is (unknown_piece p met Words x collection front lacking)
-tells_unknown p met Others x collection fault front lacking is = rw is (unknown_piece p met Others x collection front lacking)
+pub tells_unknown : (s : Inversion) (files : Option Files) (met : List Mark) (kind : Stream) (x collection : List ℕ) (fault : Fault) → HasWritten s files met →
+    IsFrontOf (met ++ piece kind x ∷ []) collection → 0 < s.left → position (bytes_eq x) (code_of kind s.plan.code).pieces ≡ None → fault ≡ unknown_of kind →
+    TellsChange s.plan collection fault
+tells_unknown s files met Words x collection fault is front more lacking told = rw told (unknown_piece s files met Words x collection is front more lacking)
+tells_unknown s files met Others x collection fault is front more lacking told = rw told (unknown_piece s files met Others x collection is front more lacking)

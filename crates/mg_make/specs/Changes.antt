@@ -1,12 +1,12 @@
 -- What a refusal of `Changed` tells: which number of the plan is another one in the collection, and both.
-use Rattle.std.specs.Prelude.{◌≡◌, ◌≢◌, ◌<◌, ◌+◌, ◌⊎◌, ℕ, List, Contains, length, get_or, None, position}
+use Rattle.std.specs.Prelude.{◌≡◌, ◌≢◌, ◌<◌, ◌+◌, ◌-◌, ◌*◌, ◌⊎◌, ◌++◌, ◌∷◌, ℕ, List, Contains, length, get_or, None, position}
 use Rattle.std.specs.Str.{bytes_eq}
 use Rattle.mg_dev.specs.declared.fault.Fault.{Fault}
 use Rattle.mg_dev.specs.declared.fault.Fault.TheVariants.{Changed}
 use Rattle.mg_dev.specs.declared.what.What.TheVariants as what
 use Rattle.mg_defs.specs.declared.Stream.{Stream}
 use Rattle.mg_defs.specs.declared.Stream.TheVariants.{Others, Words}
-use Rattle.mg_defs.specs.Marks.{code_of, pair_counts}
+use Rattle.mg_defs.specs.Marks.{Mark, code_of, marks, pair_counts, piece, piece_count_from, starts}
 use Rattle.mg_defs.specs.Terms.{dictionary}
 use Rattle.mg_defs.specs.Vocabulary.{sorted_pieces}
 use Rattle.mg_count.specs.Plans.{Plan}
@@ -23,9 +23,13 @@ pub record OtherPairs (p : Plan) (collection : List ℕ) (first second : ℕ) : 
   pub number : first ≡ get_or p.pairs doc 0
   pub other : AreOther (get_or (pair_counts collection) doc 0) first second
 
--- a stream has a piece that the plan lacks: it has none there, and one here
+-- A stream has a piece that the plan lacks: it has none there, and one here. Its document has more pieces by the plan than came before it.
 pub record OtherPiece (kind : Stream) (p : Plan) (collection : List ℕ) (first second : ℕ) : Type 0 where
   pub bytes : List ℕ
+  pub before : List Mark
+  pub after : List Mark
+  pub met : marks collection ≡ before ++ piece kind bytes ∷ after
+  pub room : piece_count_from 0 before < 2 * get_or p.pairs (starts before - 1) 0
   pub lacking : position (bytes_eq bytes) (code_of kind p.code).pieces ≡ None
   pub there : position (bytes_eq bytes) (sorted_pieces kind collection) ≢ None
   pub none : first ≡ 0

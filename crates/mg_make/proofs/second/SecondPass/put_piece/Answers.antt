@@ -16,10 +16,11 @@ use Rattle.mg_make.proofs.second.SecondPass.put_piece.Goals.{in-Ok-add, in-Err-a
 
 pub returns-in-None : goal.returns-in-None
 returns-in-None g c =
+    let more : 0 < c.self.inside.left = rw (← c.self.view_is) at c.requires.more in
     rw (← c.self.view_is, ← c.plan.view_is)
     (pass_refused (record {
       cause = λ met collection is front. stops_unknown _ _ c.args.stream _ c.unknown.ensures (other_piece _ met c.args.stream c.args.piece.now collection front (sym c.in-None.ensures));
-      tells = λ met collection is front. tells_unknown _ met c.args.stream c.args.piece.now collection _ front (sym c.in-None.ensures) c.unknown.ensures;
+      tells = λ met collection is front. tells_unknown _ _ met c.args.stream c.args.piece.now collection _ is front more (sym c.in-None.ensures) c.unknown.ensures;
     }))
 
 pub returns-in-Err : goal.returns-in-Err
