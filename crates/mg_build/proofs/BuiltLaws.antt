@@ -1,6 +1,7 @@
 -- What a build does on each way out.
 use Rattle.std.proofs.Common.{arith, ◌≡◌, ◌≢◌, ◌<◌, ◌≤◌, ◌∙◌, ℕ, List, [], length, Option, None, Some, Ok, Err, IsSome, refl, sym, ap, subst, inl, inr}
-use Rattle.std.specs.Prelude.{Result}
+use Rattle.std.specs.Prelude.{IfErr, Result}
+use Rattle.std.proofs.lemmas.Result.{IfErr-weaker}
 use Rattle.std.specs.Option.{option_map, unwrap_or}
 use Rattle.mg_dev.specs.Files.{Files, HasSize, SameReads, bytes_at, file_at}
 use Rattle.mg_dev.specs.Laws.{size_is}
@@ -19,13 +20,13 @@ use Rattle.mg_defs.specs.Marks.{PassesFirst, piece, start}
 use Rattle.mg_defs.specs.Summaries.{run_cap}
 use Rattle.mg_defs.specs.WithinLimits.{IsWithinLimits}
 use Rattle.mg_make.specs.Outcomes.{HasSummaryOf, Left, MakesSet, most_bytes}
-use Rattle.mg_make.specs.Plans.{Plan}
+use Rattle.mg_make.specs.Plans.{IsPlanOf, Plan}
 use Rattle.mg_make.specs.Putting.{IsApart, OthersSame}
 use Rattle.mg_make.specs.declared.summary.Summary.{Summary}
 use Rattle.mg_make.proofs.CallerLemmas.{others_none, rose_behind}
-use Rattle.mg_build.specs.Building.{BuildStops, HasItsSize, IsPlanAt, IsPlanFor, PassStops}
+use Rattle.mg_build.specs.Building.{BuildStops, HasItsSize, IsPlanAt, IsPlanFor, PassStops, TellsRead, TellsTwoReadings}
 use Rattle.mg_build.specs.Made.{AreMade, Made}
-use Rattle.mg_build.specs.Sources.{OpenStops, ReadsPages, Sourcing}
+use Rattle.mg_build.specs.Sources.{AreRead, OpenStops, ReadsPages, Sourcing}
 use Rattle.mg_build.specs.Steps.{BuildsSet, CountsSource, WritesSet}
 use Rattle.mg_build.proofs.BuildLaws.{cause_all, done_all, done_or_lacks, early_all, is_told, its_bytes, pass_documents, pass_only, pass_pieces, text_all, within_passes}
 use Rattle.mg_build.proofs.MadeLaws.{made_by}
@@ -33,7 +34,7 @@ use Rattle.mg_build.proofs.ReadLaws.{whole_read}
 
 -- a refusal while no file has changed
 module _ (name base : List ℕ) (budget : ℕ) (store store_now : StoreAt) (fault : Fault) (same : KeptFiles store store_now) (later : store.faults ≤ store_now.faults)
-    (stops : BuildStops (StoreRose store store_now) store.files name base fault)
+    (stops : BuildStops (StoreRose store store_now) store.files name base fault) (tells : TellsTwoReadings store.files name fault)
     (clash : (p : Part) → p ≢ Plain → name ≡ full_name base p → ◌≡◌ {A = Result Summary Fault} (Err fault) (Err (cause.NameClash p)))
     (missing : IsSome store.files → IsApart base name → file_at store.files name ≡ None → RefusedFor {T = Summary} (Err fault) cause.NoCollection)
     (large : IsSome store.files → IsApart base name → most_bytes < length (bytes_at store.files name) →
@@ -49,6 +50,7 @@ module _ (name base : List ℕ) (budget : ℕ) (store store_now : StoreAt) (faul
     made = made_by {T = Summary} name base budget store store_now (Err fault) (λ told. tt) (λ told. tt) (λ told. tt) (λ told. tt) (others_none base store.files store_now.files same)
         (λ told. inl same) (λ early. same) (λ differ. absurd (differ same)) stops clash missing large documents pieces complete;
     summary = λ told. tt;
+    tells = tells;
     later = later;
   }
 
@@ -56,7 +58,7 @@ module _ (name base : List ℕ) (budget : ℕ) (store store_now : StoreAt) (faul
 
 pub clash_refused : (name base : List ℕ) (budget : ℕ) (store : StoreAt) (part : Part) → part ≢ Plain → name ≡ full_name base part →
     ((p : Part) → p ≢ Plain → name ≡ full_name base p → part ≡ p) → BuildsSet name base budget store store (Err (cause.NameClash part))
-clash_refused name base budget store part plain is one = not_built name base budget store store (cause.NameClash part) refl (omega arith) (plain, is)
+clash_refused name base budget store part plain is one = not_built name base budget store store (cause.NameClash part) refl (omega arith) (plain, is) (inl (0, tt))
     (λ p other same. ap (λ q. Err (cause.NameClash q)) (one p other same))
     (λ told apart none. absurd (apart part plain is)) (λ told apart more. absurd (apart part plain is)) (λ bytes there apart few first. absurd (apart part plain is))
     (λ bytes stream word there apart few first. absurd (apart part plain is)) (λ bytes there apart limits never. absurd (apart part plain is))
@@ -82,19 +84,19 @@ too_large a b m n one two = cc
 module _ (name base : List ℕ) (budget : ℕ) (store store_now : StoreAt) (same : KeptFiles store store_now) (later : store.faults ≤ store_now.faults)
     (apart : IsApart base name) where
   pub not_opened : (fault : Fault) → OpenStops (StoreRose store store_now) store.files name fault → BuildsSet name base budget store store_now (Err fault)
-  not_opened cause.StoreFault stop = not_built name base budget store store_now cause.StoreFault same later stop (λ p plain is. absurd (apart p plain is))
+  not_opened cause.StoreFault stop = not_built name base budget store store_now cause.StoreFault same later stop (inl (0, tt)) (λ p plain is. absurd (apart p plain is))
       (λ told a none. inr (inl refl)) (λ told a more. inr (inl refl)) (λ bytes there a few first. inr (inl refl))
       (λ bytes stream word there a few first. inr (inl refl)) (λ bytes there a limits never. absurd (never stop))
-  not_opened cause.Memory stop = not_built name base budget store store_now cause.Memory same later tt (λ p plain is. absurd (apart p plain is))
+  not_opened cause.Memory stop = not_built name base budget store store_now cause.Memory same later tt (inl (0, tt)) (λ p plain is. absurd (apart p plain is))
       (λ told a none. inr (inr refl)) (λ told a more. inr (inr refl)) (λ bytes there a few first. inr (inr refl))
       (λ bytes stream word there a few first. inr (inr refl)) (λ bytes there a limits never. tt)
-  not_opened cause.NoCollection stop = not_built name base budget store store_now cause.NoCollection same later stop (λ p plain is. absurd (apart p plain is))
+  not_opened cause.NoCollection stop = not_built name base budget store store_now cause.NoCollection same later stop (inl (0, tt)) (λ p plain is. absurd (apart p plain is))
       (λ told a none. inl refl)
       (λ told a more. let none : length (bytes_at store.files name) ≡ 0 = no_bytes store.files name (stop told) in absurd (omega (arith, more, none)))
       (λ bytes there a few first. there_or_none store.files name bytes there (stop (is_told store.files name bytes there)))
       (λ bytes stream word there a few first. there_or_none store.files name bytes there (stop (is_told store.files name bytes there)))
       (λ bytes there a limits never. there_or_none store.files name bytes there (stop (is_told store.files name bytes there)))
-  not_opened (cause.TooLarge size most) stop = not_built name base budget store store_now (cause.TooLarge size most) same later stop (λ p plain is. absurd (apart p plain is))
+  not_opened (cause.TooLarge size most) stop = not_built name base budget store store_now (cause.TooLarge size most) same later stop (inl (0, tt)) (λ p plain is. absurd (apart p plain is))
       (λ told a none. let lacks : length (bytes_at store.files name) ≡ 0 = no_bytes store.files name none in absurd (omega (arith, stop.1, stop.2 told, lacks)))
       (λ told a more. inl (too_large size (length (bytes_at store.files name)) most most_bytes (sym (stop.2 told)) stop.0))
       (λ bytes there a few first. absurd (within bytes there few))
@@ -152,7 +154,8 @@ not_counted base budget source source_now store store_now fault has apart counts
     let name = source.feed.name in
     let size = source.size in
     let rose = StoreRose store store_now in
-    not_built name base budget store store_now fault counts.looked.files counts.looked.faults (pass_cause rose files name base size fault has counts.refused) (λ p plain is. absurd (apart p plain is))
+    not_built name base budget store store_now fault counts.looked.files counts.looked.faults (pass_cause rose files name base size fault has counts.refused) (inl (size, counts.tells))
+    (λ p plain is. absurd (apart p plain is))
     (λ told a none. has_file files name size has told none) (λ told a more. absurd (omega (arith, more, counts.small, size_is files name size (has told))))
     (λ bytes there a few first. pass_documents rose files name bytes size fault there has first counts.refused)
     (λ bytes stream word there a few first. pass_pieces rose files name bytes size stream word fault there has first counts.refused)
@@ -160,10 +163,17 @@ not_counted base budget source source_now store store_now fault has apart counts
 
 -- ---- its set is written, or not
 
+-- what a second reading tells, by the plan of the bytes of the first one
+tells_both : (plan : Plan) (files : Option Files) (name : List ℕ) (size : ℕ) (first : List ℕ) (fault : Fault) → AreRead files name size first → IsPlanOf plan first →
+    TellsRead plan files name size fault → TellsTwoReadings files name fault
+tells_both plan files name size first fault are planned (inl ended) = inl (size, ended)
+tells_both plan files name size first fault are planned (inr other) = inr (record { size = size; first = first; plan = plan; are = are; planned = planned; second = other })
+
 module _ {P : Type 0} {made : P} (plan : Plan) (limit budget : ℕ) (base : List ℕ) (source read : Sourcing) (store middle store_now : StoreAt) (r : Result Summary Fault)
     (has : HasSize store.files source.feed.name source.size) (unread : source.feed.held ≡ None) (apart : IsApart base source.feed.name)
     (counts : CountsSource {T = P} source read store middle (Ok made)) (pool : limit ≡ budget)
-    (of : IsSome store.files → HasItsSize store.files source → IsPlanAt plan store.files source) where
+    (of : IsSome store.files → HasItsSize store.files source → IsPlanAt plan store.files source)
+    (first : (fed : List ℕ) × AreRead store.files source.feed.name source.size fed × IsPlanOf plan fed) where
   -- the plan is that of the collection, where it is told, and so it is when it was counted
   planned : IsSome store.files → IsPlanAt plan middle.files read
   planned told =
@@ -196,9 +206,16 @@ module _ {P : Type 0} {made : P} (plan : Plan) (limit budget : ℕ) (base : List
         (λ bytes there a within never. done_all r (StoreRose middle store_now) (StoreRose store store_now) (IsPlanAt plan middle.files read) rises never
         (planned (is_told store.files source.feed.name bytes there)) wrote.refused);
     summary = λ told. subst (λ n. HasSummaryOf n r (bytes_at store.files source.feed.name)) pool (subst (λ bytes. HasSummaryOf limit r bytes) same (wrote.summary (planned told)));
+    tells = IfErr-weaker r (TellsRead plan middle.files read.feed.name read.size) (TellsTwoReadings store.files source.feed.name)
+        (λ fault tells. tells_both plan store.files source.feed.name source.size first.0 fault first.1 first.2 (of_source fault tells)) wrote.tells;
     later = omega (arith, counts.looked.faults, wrote.later);
   }
     where
+      of_source : (fault : Fault) → TellsRead plan middle.files read.feed.name read.size fault → TellsRead plan store.files source.feed.name source.size fault
+      of_source fault tells = subst (λ f. TellsRead plan f source.feed.name source.size fault) counts.looked.files
+          (subst (λ name. TellsRead plan middle.files name source.size fault) counts.file.name
+          (subst (λ size. TellsRead plan middle.files read.feed.name size fault) counts.size tells))
+
       stands : IsSome store.files → MakesSet budget store_now.files base r (bytes_at store.files source.feed.name)
       stands told = subst (λ n. MakesSet n store_now.files base r (bytes_at store.files source.feed.name)) pool
           (subst (λ bytes. MakesSet limit store_now.files base r bytes) same (wrote.stands (planned told)))
@@ -267,5 +284,6 @@ pub built_before : {name base : List ℕ} {budget : ℕ} {store opened store_now
 built_before {name} {budget = budget} {r = r} files reads later builds = record {
   made = made_before files reads later builds.made;
   summary = λ told. subst (λ f. HasSummaryOf budget r (bytes_at f name)) files (builds.summary (subst (λ f. IsSome f) (sym files) told));
+  tells = subst (λ f. IfErr r (TellsTwoReadings f name)) files builds.tells;
   later = omega (arith, later, builds.later);
 }

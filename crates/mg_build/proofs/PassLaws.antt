@@ -2,7 +2,7 @@
 use Rattle.std.proofs.Common.{arith, ◌+◌, ◌^◌, ◌≡◌, ◌≤◌, ◌<◌, ℕ, List, [], ◌∷◌, ◌++◌, length, take, drop, Option, Some, refl, sym, ◌∙◌, ap, subst, inl, inr, Ok, Err}
 use Rattle.std.proofs.Common.{append-nil, length-append, length-take-le, take-add}
 use Rattle.std.proofs.lemmas.List.{take-append-drop, take-take, take_all, append_assoc}
-use Rattle.std.specs.Prelude.{IfErr, Result}
+use Rattle.std.specs.Prelude.{IfErr, IfOk, Result}
 use Rattle.std.specs.Option.{IsSome, is_some, unwrap_or}
 use Rattle.mg_dev.specs.Files.{Files, Reads, bytes_at, file_at}
 use Rattle.mg_dev.specs.declared.fault.Fault.{Fault}
@@ -21,8 +21,9 @@ use Rattle.mg_make.specs.Written.{SecondStops}
 use Rattle.mg_make.specs.Plans.{IsPlanOf, Plan}
 use Rattle.mg_make.specs.Outcomes.{Left}
 pub use Rattle.mg_make.proofs.CallerLemmas.{others_more, rose_behind}
-use Rattle.mg_build.specs.Building.{IsPlanFor, PassStops, WriteStops}
-use Rattle.mg_build.specs.Sources.{AreRead, ByteStops, IsFrom, IsOfOnePage}
+use Rattle.mg_make.specs.Changes.{TellsAtEnd, TellsChange}
+use Rattle.mg_build.specs.Building.{IsPlanFor, PassStops, TellsRead, WriteStops}
+use Rattle.mg_build.specs.Sources.{AreRead, ByteStops, IsFrom, IsOfOnePage, TellsSize}
 
 -- ---- bytes
 
@@ -167,6 +168,30 @@ pass_end now files name fed size cause.InputTooLong are stop = absurd stop
 pass_end now files name fed size cause.SameName are stop = absurd stop
 pass_end now files name fed size (cause.TooManyRotations count) are stop = absurd stop
 
+-- what counts them tells no change
+pub tells_count : (fed : List ℕ) (size : ℕ) (fault : Fault) → CountStops fed fault → TellsSize size fault
+tells_count fed size cause.TooManyDocuments stop = tt
+tells_count fed size (cause.TooManyPieces stream) stop = tt
+tells_count fed size cause.Memory stop = tt
+tells_count fed size fault stop = absurd stop
+
+tells_end : (fed : List ℕ) (size : ℕ) (fault : Fault) → EndStops fed fault → TellsSize size fault
+tells_end fed size cause.TooManyDocuments stop = tt
+tells_end fed size (cause.TooManyPieces stream) stop = tt
+tells_end fed size cause.Memory stop = tt
+tells_end fed size fault stop = absurd stop
+
+pub tells_end_all : {T : Type 0} (r : Result T Fault) (P : List ℕ → Type 0) (fed : List ℕ) (size : ℕ) → P fed
+    → IfErr r (λ fault. (x : List ℕ) → P x → EndStops x fault) → IfErr r (TellsSize size)
+tells_end_all (Ok value) P fed size counted stop = tt
+tells_end_all (Err fault) P fed size counted stop = tells_end fed size fault (stop fed counted)
+
+-- the plan is that of the bytes that were read
+pub plan_with : {R : Type 0} {files : Option Files} {name : List ℕ} {size : ℕ} (r : Result (Plan × R) Fault) (fed : List ℕ) → AreRead files name size fed →
+    IfOk r (λ made. IsPlanOf made.0 fed) → IfOk r (λ made. (read : List ℕ) × AreRead files name size read × IsPlanOf made.0 read)
+plan_with (Ok made) fed are planned = (fed, are, planned)
+plan_with (Err fault) fed are planned = tt
+
 -- ---- the second pass
 
 -- a byte that is not read
@@ -225,6 +250,20 @@ write_put rose now plan files name fed run size n fault grows few below are stop
     by cause.InputTooLong stop = stop [] short
     by cause.SameName stop = stop [] short
     by (cause.TooManyRotations count) stop = stop [] short
+
+-- and what it tells
+pub tells_put : (plan : Plan) (files : Option Files) (name fed run : List ℕ) (size n : ℕ) (fault : Fault) → size < 2 ^ 32 → n ≤ size →
+    AreRead files name n (fed ++ run) → ((more : List ℕ) → length (fed ++ (run ++ more)) < 2 ^ 32 → TellsChange plan (fed ++ (run ++ more)) fault) →
+    TellsRead plan files name size fault
+tells_put plan files name fed run size n fault few below are tells = inr (record {
+  read = fed ++ run;
+  within = omega (arith, are.size, below);
+  are = subst (λ k. AreRead files name k (fed ++ run)) (sym are.size) are;
+  tells = inl (subst (λ bytes. TellsChange plan bytes fault) none (tells [] (omega (arith, ap length none, are.size, below, few))));
+})
+  where
+    none : fed ++ (run ++ []) ≡ fed ++ run
+    none = ap (λ r. fed ++ r) (append-nil run)
 
 -- the end
 pub write_end : (rose now : Type 0) (plan : Plan) (first later : Option Files) (name fed : List ℕ) (size : ℕ) (fault : Fault) → (rose → now) →
@@ -307,3 +346,25 @@ pub pass_end_all : {T : Type 0} (r : Result T Fault) (P : List ℕ → Type 0) (
     → IfErr r (λ fault. (x : List ℕ) → P x → EndStops x fault) → IfErr r (PassStops now files name size)
 pass_end_all (Ok value) P now files name fed size are counted stop = tt
 pass_end_all (Err fault) P now files name fed size are counted stop = pass_end now files name fed size fault are (stop fed counted)
+
+-- and what a change tells there
+pub tells_end_put : {T : Type 0} (r : Result T Fault) (P : List ℕ → Type 0) (plan : Plan) (files : Option Files) (name fed : List ℕ) (size : ℕ) →
+    AreRead files name size fed → P fed → IfErr r (λ fault. (x : List ℕ) → P x → TellsAtEnd plan x fault) → IfErr r (TellsRead plan files name size)
+tells_end_put (Ok value) P plan files name fed size are put tells = tt
+tells_end_put (Err fault) P plan files name fed size are put tells = inr (record {
+  read = fed;
+  within = omega (arith, are.size);
+  are = subst (λ k. AreRead files name k fed) (sym are.size) are;
+  tells = tells fed put;
+})
+
+-- what was read of a file was read of it as it was before
+pub tells_still : (plan : Plan) (before now : Option Files) (name : List ℕ) (size : ℕ) (fault : Fault) → is_some now ≡ is_some before → bytes_at now name ≡ bytes_at before name →
+    TellsRead plan now name size fault → TellsRead plan before name size fault
+tells_still plan before now name size fault told same (inl ended) = inl ended
+tells_still plan before now name size fault told same (inr other) = inr (record {
+  read = other.read;
+  within = other.within;
+  are = record { size = other.are.size; told = λ is. other.are.told (still_told before now told is) ∙ ap (take (length other.read)) same };
+  tells = other.tells;
+})

@@ -13,7 +13,7 @@ use Rattle.mg_make.specs.Putting.{OthersSame, Putting}
 use Rattle.mg_make.specs.SetSteps.{SliceStep}
 use Rattle.mg_make.proofs.CallerLemmas.{others_more, others_none}
 use Rattle.mg_build.specs.Building.{PassStops}
-use Rattle.mg_build.specs.Sources.{Sourcing}
+use Rattle.mg_build.specs.Sources.{Sourcing, TellsSize}
 use Rattle.mg_build.specs.Steps.{CountsSource, TurnsPage, WritesOn}
 use Rattle.mg_build.proofs.PassLaws.{still_told}
 
@@ -30,25 +30,26 @@ on_ok (Err fault) P is = tt
 -- a page that was read, and one that was not, for an answer of another type
 pub turn_done : {T U : Type 0} {at size : ℕ} {feed feed_now : Paging} {store store_now : StoreAt} {value : T} {other : U} →
     TurnsPage {T = T} at size feed feed_now store store_now (Ok value) → TurnsPage {T = U} at size feed feed_now store store_now (Ok other)
-turn_done turns = record { fits = turns.fits; file = turns.file; turned = turns.turned; refused = tt; looked = turns.looked }
+turn_done turns = record { fits = turns.fits; file = turns.file; turned = turns.turned; refused = tt; tells = tt; looked = turns.looked }
 
 pub turn_refused : {T U : Type 0} {at size : ℕ} {feed feed_now : Paging} {store store_now : StoreAt} {fault : Fault} →
     TurnsPage {T = T} at size feed feed_now store store_now (Err fault) → TurnsPage {T = U} at size feed feed_now store store_now (Err fault)
-turn_refused turns = record { fits = turns.fits; file = turns.file; turned = tt; refused = turns.refused; looked = turns.looked }
+turn_refused turns = record { fits = turns.fits; file = turns.file; turned = tt; refused = turns.refused; tells = turns.tells; looked = turns.looked }
 
 -- ---- the first pass
 
 -- all bytes were counted, and the counts gave this answer
 pub counts_ended : {T U : Type 0} {source source_now : Sourcing} {store store_now : StoreAt} {value : T} (r : Result U Fault) →
     CountsSource {T = T} source source_now store store_now (Ok value) → IfErr r (PassStops (StoreRose store store_now) store.files source.feed.name source.size) →
-    CountsSource {T = U} source source_now store store_now r
-counts_ended r counts stop = record {
+    IfErr r (TellsSize source.size) → CountsSource {T = U} source source_now store store_now r
+counts_ended r counts stop tells = record {
   fits = counts.fits;
   file = counts.file;
   size = counts.size;
   small = counts.small;
   whole = λ none. on_ok r _ (counts.whole none);
   refused = stop;
+  tells = tells;
   looked = counts.looked;
 }
 
@@ -62,6 +63,7 @@ counts_refused counts = record {
   small = counts.small;
   whole = λ none. tt;
   refused = counts.refused;
+  tells = counts.tells;
   looked = counts.looked;
 }
 

@@ -1,31 +1,34 @@
 -- What the second pass made, from what its writer tells.
-use Rattle.std.proofs.Common.{arith, ◌≡◌, ◌≤◌, ℕ, List, Ok, Err, IsSome, refl, sym, subst, inl, inr}
+use Rattle.std.proofs.Common.{arith, ◌≡◌, ◌≤◌, ℕ, List, Option, Err, IsSome, refl, sym, subst, inl, inr}
 use Rattle.std.specs.Prelude.{IfErr, OnOk, Result}
+use Rattle.std.proofs.lemmas.Result.{IfErr-weaker}
 use Rattle.mg_dev.specs.Causes.{HasPutCause, Rose}
 use Rattle.mg_dev.specs.Faults.{fault_of_store}
-use Rattle.mg_dev.specs.Files.{bytes_at}
+use Rattle.mg_dev.specs.Files.{Files, bytes_at}
 use Rattle.mg_dev.specs.Moments.{StoreAt, StoreRose}
 use Rattle.mg_dev.specs.declared.device.PutErr.{PutErr}
 use Rattle.mg_dev.specs.declared.device.PutErr.TheVariants as put
 use Rattle.mg_dev.specs.declared.fault.Fault.{Fault}
 use Rattle.mg_dev.specs.declared.part.Part.TheVariants as part
 use Rattle.mg_layout.specs.Stands.{StandsForNone}
+use Rattle.mg_make.specs.Changes.{TellsAtEnd}
 use Rattle.mg_make.specs.Outcomes.{HasSummaryOf, Left, MakesSet}
 use Rattle.mg_make.specs.Plans.{IsPlanOf, Plan}
 use Rattle.mg_make.specs.Putting.{ForPut, HasPut, IsApart, IsEmptied, OthersSame, PlanStops, Putting, StandsForNoOther}
 use Rattle.mg_make.specs.declared.summary.Summary.{Summary}
-use Rattle.mg_build.specs.Building.{IfPlanned, IsPlanAt, IsPlanFor, WriteStops}
+use Rattle.mg_build.specs.Building.{IfPlanned, IsPlanAt, IsPlanFor, TellsRead, WriteStops}
 use Rattle.mg_build.specs.Sources.{AreRead, Sourcing}
 use Rattle.mg_build.specs.Steps.{WritesOn, WritesSet}
-use Rattle.mg_build.proofs.PassLaws.{others_more, plan_later, plan_of_read, read_all, rose_behind, same_bytes, still_told, write_end_all, write_wider}
+use Rattle.mg_build.proofs.PassLaws.{others_more, plan_later, plan_of_read, read_all, rose_behind, same_bytes, still_told, tells_end_put, tells_still, write_end_all, write_wider}
 
 -- ---- nothing was made
 
 pub not_written : {plan : Plan} {limit : ℕ} {base : List ℕ} {source : Sourcing} {store store_now : StoreAt} {fault : Fault} →
     (IsPlanAt plan store.files source → Left base store.files store_now.files (bytes_at store.files source.feed.name)) →
     OthersSame base store.files store_now.files → store.reads part.Plain ≤ store_now.reads part.Plain → store.faults ≤ store_now.faults →
-    WriteStops (StoreRose store store_now) (IsPlanAt plan store.files source) fault → WritesSet plan limit base source store store_now (Err fault)
-not_written left others plain later refused = record {
+    WriteStops (StoreRose store store_now) (IsPlanAt plan store.files source) fault → TellsRead plan store.files source.feed.name source.size fault →
+    WritesSet plan limit base source store store_now (Err fault)
+not_written left others plain later refused tells = record {
   stands = λ is. tt;
   summary = λ is. tt;
   merge_a = λ is. tt;
@@ -35,12 +38,18 @@ not_written left others plain later refused = record {
   plain = plain;
   later = later;
   refused = refused;
+  tells = tells;
 }
 
 -- a writer that was not started
 pub start_stops : {T : Type 0} (s t : ℕ) (same : Type 0) (refusal : PutErr) (told : Fault) → told ≡ fault_of_store refusal → HasPutCause {T = T} s t (Err refusal) → WriteStops (Rose s t) same told
 start_stops s t same put.Failed told is cause = subst (WriteStops (Rose s t) same) (sym is) (cause.failed refl)
 start_stops s t same put.Memory told is cause = subst (WriteStops (Rose s t) same) (sym is) tt
+
+-- it tells no change
+pub start_tells : (plan : Plan) (files : Option Files) (name : List ℕ) (size : ℕ) (refusal : PutErr) (told : Fault) → told ≡ fault_of_store refusal → TellsRead plan files name size told
+start_tells plan files name size put.Failed told is = rw is (inl tt)
+start_tells plan files name size put.Memory told is = rw is (inl tt)
 
 -- ---- the writer was ended
 
@@ -60,8 +69,8 @@ module _ (w now : Putting) (source : Sourcing) (store middle store_now : StoreAt
       ForPut now middle.files (StandsForNoOther store_now.files now.base) → OthersSame now.base middle.files store_now.files →
       middle.reads part.Plain ≤ store_now.reads part.Plain → middle.faults ≤ store_now.faults →
       IfErr r (λ fault. (bytes : List ℕ) → HasPut now middle.files bytes → PlanStops (StoreRose middle store_now) now.plan middle.files fault bytes) →
-      WritesSet w.plan w.limit w.base source store store_now r
-  was_ended stands summary merge_a merge_b left others plain later refused =
+      IfErr r (λ fault. (bytes : List ℕ) → HasPut now middle.files bytes → TellsAtEnd now.plan bytes fault) → WritesSet w.plan w.limit w.base source store store_now r
+  was_ended stands summary merge_a merge_b left others plain later refused tells =
       subst (λ b. WritesSet w.plan w.limit b source store store_now r) goes.base (subst (λ n. WritesSet w.plan n now.base source store store_now r) goes.limit wrote)
     where
       wrote : WritesSet w.plan now.limit now.base source store store_now r
@@ -78,14 +87,11 @@ module _ (w now : Putting) (source : Sourcing) (store middle store_now : StoreAt
             (write_end_all r (λ bytes. HasPut now middle.files bytes) (StoreRose middle store_now) (StoreRose store store_now) now.plan store.files middle.files
             source.feed.name fed source.size (λ rose. rose_behind store.faults middle.faults store_now.faults goes.later rose)
             (λ told. still_told store.files middle.files goes.others.told told) are has refused);
+        tells = subst (λ p. IfErr r (TellsRead p store.files source.feed.name source.size)) goes.plan
+            (tells_end_put r (λ bytes. HasPut now middle.files bytes) now.plan store.files source.feed.name fed source.size are has tells);
       }
 
 -- ---- from before it on
-
--- what is so of a refusal is so of it where it follows from that
-on_refusal : {T : Type 0} (r : Result T Fault) (P Q : Fault → Type 0) → ((fault : Fault) → P fault → Q fault) → IfErr r P → IfErr r Q
-on_refusal (Ok value) P Q all is = tt
-on_refusal (Err fault) P Q all is = all fault is
 
 -- what was made from an emptied head on was made from before it
 module _ (plan : Plan) (limit : ℕ) (base : List ℕ) (source : Sourcing) (store middle store_now : StoreAt) (r : Result Summary Fault)
@@ -110,9 +116,11 @@ module _ (plan : Plan) (limit : ℕ) (base : List ℕ) (source : Sourcing) (stor
     others = others_more base store.files middle.files store_now.files others wrote.others;
     plain = omega (arith, plain, wrote.plain);
     later = omega (arith, later, wrote.later);
-    refused = on_refusal r (WriteStops (StoreRose middle store_now) (IsPlanAt plan middle.files source)) (WriteStops (StoreRose store store_now) (IsPlanAt plan store.files source))
+    refused = IfErr-weaker r (WriteStops (StoreRose middle store_now) (IsPlanAt plan middle.files source)) (WriteStops (StoreRose store store_now) (IsPlanAt plan store.files source))
         (λ fault stop. write_wider (StoreRose middle store_now) (StoreRose store store_now) (IsPlanAt plan middle.files source) (IsPlanAt plan store.files source) fault
         (λ rose. rose_behind store.faults middle.faults store_now.faults later rose) planned_still stop) wrote.refused;
+    tells = IfErr-weaker r (TellsRead plan middle.files source.feed.name source.size) (TellsRead plan store.files source.feed.name source.size)
+        (λ fault tells. tells_still plan store.files middle.files source.feed.name source.size fault others.told same tells) wrote.tells;
   }
 
 -- by the plan, the pool and the base of a writer

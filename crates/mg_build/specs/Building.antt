@@ -1,5 +1,5 @@
 -- Why a build stops, and what it leaves.
-use Rattle.std.specs.Prelude.{◌≡◌, ◌≢◌, ◌<◌, ◌≤◌, ◌+◌, ◌/◌, ℕ, List, length, None, Some}
+use Rattle.std.specs.Prelude.{◌≡◌, ◌≢◌, ◌⊎◌, ◌<◌, ◌≤◌, ◌+◌, ◌/◌, ℕ, List, length, None, Some}
 use Rattle.std.specs.Option.{IsSome}
 use Rattle.std.specs.declared.option.Option.{Option}
 use Rattle.std.specs.declared.result.Result.{Result}
@@ -15,10 +15,11 @@ use Rattle.mg_defs.specs.Limits.{version_2}
 use Rattle.mg_defs.specs.Marks.{PassesFirst, piece, start}
 use Rattle.mg_defs.specs.Split.{documents}
 use Rattle.mg_defs.specs.TextBits.{text_bits}
+use Rattle.mg_make.specs.Changes.{TellsAtEnd}
 use Rattle.mg_make.specs.Plans.{IsPlanOf, Plan}
 use Rattle.mg_make.specs.Putting.{IsApart}
 use Rattle.mg_make.specs.Outcomes.{most_bytes}
-use Rattle.mg_build.specs.Sources.{Sourcing}
+use Rattle.mg_build.specs.Sources.{AreRead, Sourcing, TellsSize}
 
 -- the store tells its files, this one has so many bytes, and the plan is that of these
 pub record IsPlanFor (plan : Plan) (files : Option Files) (name : List ℕ) (size : ℕ) : Type 0 where
@@ -45,6 +46,30 @@ WriteStops store_rose same (Changed what first second) = (first ≢ second) × (
 WriteStops store_rose same (Damaged bad) = same → ⊥
 WriteStops store_rose same Memory = Unit {0}
 WriteStops store_rose same _ = ⊥
+
+-- bytes that were read of a file, at most so many, have another number than by a plan, and both are told
+pub record ReadsOther (plan : Plan) (files : Option Files) (name : List ℕ) (size : ℕ) (fault : Fault) : Type 0 where
+  pub read : List ℕ
+  pub within : length read ≤ size
+  pub are : AreRead files name (length read) read
+  pub tells : TellsAtEnd plan read fault
+
+-- what a change tells of a file that is read again: that it ended before its size, or what those bytes have
+abbrev pub TellsRead : Plan → Option Files → List ℕ → ℕ → Fault → Type 0
+TellsRead plan files name size fault = TellsSize size fault ⊎ ReadsOther plan files name size fault
+
+-- the plan of the bytes of a first reading, and other bytes of the second one, both of a file of so many
+pub record TwoReadings (files : Option Files) (name : List ℕ) (fault : Fault) : Type 0 where
+  pub size : ℕ
+  pub first : List ℕ
+  pub plan : Plan
+  pub are : AreRead files name size first
+  pub planned : IsPlanOf plan first
+  pub second : ReadsOther plan files name size fault
+
+-- what a change of a file tells that is read twice: that it ended before its size, or a number of both readings
+abbrev pub TellsTwoReadings : Option Files → List ℕ → Fault → Type 0
+TellsTwoReadings files name fault = ((size : ℕ) × TellsSize size fault) ⊎ TwoReadings files name fault
 
 -- the cause of each refusal of a build, by the files as it began, the collection's name and the base
 abbrev pub BuildStops : Type 0 → Option Files → List ℕ → List ℕ → Fault → Type 0

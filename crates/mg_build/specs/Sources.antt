@@ -10,6 +10,7 @@ use Rattle.mg_dev.specs.Files.{Files, Reads, bytes_at, file_at}
 use Rattle.mg_dev.specs.declared.part.Part.TheVariants.{Plain}
 use Rattle.mg_dev.specs.declared.fault.Fault.{Fault}
 use Rattle.mg_dev.specs.declared.fault.Fault.TheVariants.{Changed, Memory, NoCollection, StoreFault, TooLarge}
+use Rattle.mg_dev.specs.declared.what.What.TheVariants as what
 use Rattle.mg_make.specs.Outcomes.{most_bytes}
 
 -- a reader of pages, the bytes that were read last, and how many the file had when it was opened
@@ -33,6 +34,12 @@ ByteStops store_rose files name size StoreFault = store_rose
 ByteStops store_rose files name size (Changed what first second) = (first ≢ second)
     × (IsSome files → length (bytes_at files name) ≢ size)
 ByteStops store_rose files name size _ = ⊥
+
+-- what a change of a file tells that had so many bytes: at fewer it ended
+abbrev pub TellsSize : ℕ → Fault → Type 0
+TellsSize size (Changed what.Size first second) = (first ≡ size) × (second < size)
+TellsSize size (Changed _ first second) = ⊥
+TellsSize size _ = Unit {0}
 
 -- ---- a block of bytes
 

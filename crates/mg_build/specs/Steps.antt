@@ -13,9 +13,9 @@ use Rattle.mg_make.specs.Outcomes.{HasSummaryOf, Left, MakesSet}
 use Rattle.mg_make.specs.Plans.{Plan}
 use Rattle.mg_make.specs.Putting.{IsEmptied, OthersSame, Putting}
 use Rattle.mg_make.specs.declared.summary.Summary.{Summary}
-use Rattle.mg_build.specs.Building.{IfPlanned, IsPlanAt, PassStops, WriteStops}
+use Rattle.mg_build.specs.Building.{IfPlanned, IsPlanAt, PassStops, TellsRead, TellsTwoReadings, WriteStops}
 use Rattle.mg_build.specs.Made.{Made}
-use Rattle.mg_build.specs.Sources.{ByteStops, ReadsPages, Sourcing, TurnsTo}
+use Rattle.mg_build.specs.Sources.{ByteStops, ReadsPages, Sourcing, TellsSize, TurnsTo}
 
 -- A call turns to the page of a place, in a collection that had so many bytes when it was opened.
 pub record TurnsPage {T : Type 0} (at size : ℕ) (feed feed_now : Paging) (store store_now : StoreAt)
@@ -28,6 +28,8 @@ pub record TurnsPage {T : Type 0} (at size : ℕ) (feed feed_now : Paging) (stor
       (TurnsTo at feed.held feed_now.held (store.reads part.Plain) (store_now.reads part.Plain))
   -- the cause of each refusal
   pub refused : IfErr result (ByteStops (StoreRose store store_now) store.files feed.name size)
+  -- a change is told exactly: the file ended before its size
+  pub tells : IfErr result (TellsSize size)
   -- no file changes, and only the collection is read
   pub looked : Looked part.Plain store.files store_now.files store.reads store_now.reads
       store.faults store_now.faults
@@ -47,6 +49,8 @@ pub record CountsSource {T : Type 0} (source source_now : Sourcing) (store store
   -- the cause of each refusal
   pub refused : IfErr result
       (PassStops (StoreRose store store_now) store.files source.feed.name source.size)
+  -- a change is told exactly: the file ended before its size
+  pub tells : IfErr result (TellsSize source.size)
   -- no file changes, and only the collection is read
   pub looked : Looked part.Plain store.files store_now.files store.reads store_now.reads
       store.faults store_now.faults
@@ -85,6 +89,8 @@ pub record WritesSet (plan : Plan) (limit : ℕ) (base : List ℕ) (source : Sou
   -- the cause of each refusal
   pub refused : IfErr result
       (WriteStops (StoreRose store store_now) (IsPlanAt plan store.files source))
+  -- a change is told exactly
+  pub tells : IfErr result (TellsRead plan store.files source.feed.name source.size)
 
 -- Both passes make the set of the collection of a name, with a pool of so many bytes.
 pub record BuildsSet (name base : List ℕ) (budget : ℕ) (store store_now : StoreAt)
@@ -93,5 +99,7 @@ pub record BuildsSet (name base : List ℕ) (budget : ℕ) (store store_now : St
   pub made : Made name base budget store store_now (status_of result)
   -- at `Ok` the summary has the numbers of the collection
   pub summary : IsSome store.files → HasSummaryOf budget result (bytes_at store.files name)
+  -- a change is told exactly
+  pub tells : IfErr result (TellsTwoReadings store.files name)
   -- the count of failures never falls
   pub later : store.faults ≤ store_now.faults

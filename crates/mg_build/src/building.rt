@@ -1,5 +1,5 @@
 //! The build of a set.
-ghost use Rattle.std.specs.Prelude.{◌≡◌, ◌≤◌, ◌^◌, None};
+ghost use Rattle.std.specs.Prelude.{◌≡◌, ◌≤◌, ◌^◌, IfErr, None};
 ghost use Rattle.std.specs.Option.{IsSome};
 ghost use Rattle.mg_bits.specs.Pages.{Fits};
 ghost use Rattle.mg_dev.specs.Files.{HasSize, bytes_at};
@@ -7,6 +7,7 @@ ghost use Rattle.mg_dev.specs.Runs.{status_of};
 ghost use Rattle.mg_make.specs.Outcomes.{BetweenMoments, HasSummaryOf};
 ghost use Rattle.mg_make.specs.Plans.{IsPlan, IsRoomFor};
 ghost use Rattle.mg_make.specs.Putting.{IsApart};
+ghost use Rattle.mg_build.specs.Building.{TellsTwoReadings};
 ghost use Rattle.mg_build.specs.Made.{Made};
 ghost use Rattle.mg_build.specs.Steps.{BuildsSet, WritesSet};
 
@@ -36,6 +37,8 @@ pub fn build<S: Store>(
     // At `Ok` the summary has the numbers of the collection.
     ensures summary { IsSome (S.files store.old) →
         HasSummaryOf budget result (bytes_at (S.files store.old) collection.now) }
+    // What a refusal of `Changed` tells.
+    ensures tells { IfErr result (TellsTwoReadings (S.files store.old) collection.now) }
     ensures later { S.faults store.old ≤ S.faults store.new }
 {
     if let Some(part) = part_named(base, collection) {

@@ -1,15 +1,12 @@
 //! The two passes over a collection.
-ghost use Rattle.std.specs.Prelude.{◌≡◌, ◌<◌, ◌≤◌, ◌^◌, ℕ, List, [], IfErr, IfOk, OnOk, Some};
+ghost use Rattle.std.specs.Prelude.{◌<◌, ◌≤◌, ◌^◌, ℕ, List, [], IfErr, IfOk, OnOk};
 ghost use Rattle.std.specs.Option.{IsSome};
-ghost use Rattle.mg_dev.specs.Files.{file_at};
-ghost use Rattle.mg_dev.specs.Names.{full_name};
-ghost use Rattle.mg_dev.specs.declared.part.Part.TheVariants as part;
 ghost use Rattle.mg_bits.specs.Pages.{Fits};
 ghost use Rattle.mg_make.specs.Counting.{HasCounted};
 ghost use Rattle.mg_make.specs.Outcomes.{BetweenMoments, Fails};
-ghost use Rattle.mg_make.specs.Plans.{IsPlan, IsRoomFor};
+ghost use Rattle.mg_make.specs.Plans.{IsPlan, IsPlanOf, IsRoomFor};
 ghost use Rattle.mg_make.specs.Putting.{HasPut, IsApart};
-ghost use Rattle.mg_build.specs.Building.{HasItsSize, IsPlanAt, WriteStops};
+ghost use Rattle.mg_build.specs.Building.{HasItsSize, IsPlanAt, TellsRead, WriteStops};
 ghost use Rattle.mg_build.specs.Sources.{AreRead};
 ghost use Rattle.mg_build.specs.Steps.{CountsSource, WritesOn, WritesSet};
 
@@ -62,6 +59,8 @@ pub(crate) fn count_all<S: Store>(
     ensures room { IfOk result (λ made. IsRoomFor made.1 made.0 budget) }
     ensures of { IsSome (S.files store.old) → HasItsSize (S.files store.old) source.old →
         IfOk result (λ made. IsPlanAt made.0 (S.files store.old) source.old) }
+    ensures read { IfOk result (λ made. (fed : List ℕ) × AreRead (S.files store.old)
+        source.old.feed.name source.old.size fed × IsPlanOf made.0 fed) }
     ensures counts { BetweenMoments S.files S.reads S.faults store.old store.new
         (λ before now. CountsSource source.old source.new before now result) }
 {
@@ -82,8 +81,6 @@ fn put_bytes<S: Store>(
     requires fits { Fits source.old.feed (S.files store.old) }
     requires apart { IsApart writer.old.base source.old.feed.name }
     requires nothing { HasPut writer.old (S.files store.old) [] }
-    requires head { IsSome (S.files store.old) →
-        file_at (S.files store.old) (full_name writer.old.base part.Head) ≡ Some [] }
     ensures put { OnOk result ((fed : List ℕ) × AreRead (S.files store.old) source.old.feed.name
         source.old.size fed ×
         HasPut writer.new (S.files store.new) fed) }
@@ -92,6 +89,8 @@ fn put_bytes<S: Store>(
         (WritesOn writer.old writer.new) }
     ensures refused { IfErr result (WriteStops (Fails S.faults store.old store.new)
         (IsPlanAt writer.old.plan (S.files store.old) source.old)) }
+    ensures tells { IfErr result
+        (TellsRead writer.old.plan (S.files store.old) source.old.feed.name source.old.size) }
 {
     let size = source.size();
     let mut at = 0;

@@ -23,5 +23,5 @@ returns-in-Ok g c =
     record {
       builds = built c.in-Ok.made.0 _ c.args.budget c.args.base.now c.args.source.now c.count_all.new.source before counted now c.write_planned.result
           c.requires.size c.requires.unread c.requires.apart c.in-Ok.ensures.counts (ap (λ pool. pool.limit) c.in-Ok.ensures.room.pool)
-          c.in-Ok.ensures.of c.write_planned.ensures.writes;
+          c.in-Ok.ensures.of c.in-Ok.ensures.read c.write_planned.ensures.writes;
     }

@@ -1,8 +1,8 @@
 use Rattle.std.proofs.Common.{arith, ◌<◌, ◌^◌, ◌∙◌, ◌+◌, ◌++◌, [], ◌≡◌, IsSome, length, refl, subst, take}
 use Rattle.mg_dev.specs.Files.{bytes_at}
 use Rattle.mg_dev.specs.declared.part.Part.TheVariants.{Plain}
-use Rattle.mg_build.specs.Sources.{AreRead, IsFrom, IsOfOnePage, ReadsPages}
-use Rattle.mg_build.proofs.PassLaws.{block_here, looked_nowhere, page_of_block, pass_byte, pass_count, read_block, read_front_of, read_none, rose_behind, same_file_more, same_file_none}
+use Rattle.mg_build.specs.Sources.{AreRead, IsFrom, IsOfOnePage, ReadsPages, TellsSize}
+use Rattle.mg_build.proofs.PassLaws.{block_here, looked_nowhere, page_of_block, pass_byte, pass_count, read_block, read_front_of, read_none, rose_behind, same_file_more, same_file_none, tells_count}
 use Rattle.mg_build.proofs.ReadLaws.{read_nothing, read_page}
 use Rattle.mg_build.proofs.StepLaws.{looked_again}
 use Rattle.mg_build.proofs.passes.count_bytes.Goals as goal
@@ -54,6 +54,7 @@ returns-in-Err-clause-counts g c =
       small = omega (arith, c.size-size.ensures.size, c.size-size.ensures.small);
       whole = λ none. tt;
       refused = pass_byte c.in-Err.refusal (λ rose. rose_behind _ _ _ so_far.looked.faults rose) so_far.looked.files so_far.file.name so_far.size turns.refused;
+      tells = subst (λ n. TellsSize n c.in-Err.refusal) so_far.size turns.tells;
       looked = looked_again so_far.looked turns.looked;
     }
 
@@ -77,6 +78,7 @@ returns-in-Err-take_all-clause-counts g c =
       refused = pass_count _ before name (so_far.counted.0 ++ take (stop.taken + 1) block) c.args.source.now.size (c.loop-at.at + (stop.taken + 1)) c.in-Err-take_all.refusal few
           (read_front_of before name c.loop-at.at (stop.taken + 1) so_far.counted.0 block (omega (arith, stop.within)) read so_far.counted.1)
           (stop.stops so_far.counted.0 so_far.counted.2);
+      tells = tells_count _ _ c.in-Err-take_all.refusal (stop.stops so_far.counted.0 so_far.counted.2);
       looked = looked_again so_far.looked turns.looked;
     }
 
@@ -91,6 +93,7 @@ returns-clause-counts g c =
       small = omega (arith, c.size-size.ensures.size, c.size-size.ensures.small);
       whole = λ none. subst (λ n. ReadsPages n (g.S.Store.reads c.args.store.now Plain) (g.S.Store.reads c.loop-at.store Plain)) all (so_far.read none).reads;
       refused = tt;
+      tells = tt;
       looked = so_far.looked;
     }
 

@@ -1,15 +1,16 @@
-use Rattle.std.proofs.Common.{arith, ◌≡◌, ◌∙◌, ◌+◌, ◌++◌, [], length, refl, subst, sym, take, IsSome}
+use Rattle.std.proofs.Common.{arith, inl, ◌≡◌, ◌∙◌, ◌+◌, ◌++◌, [], length, refl, subst, sym, take, IsSome}
 use Rattle.mg_dev.specs.Files.{bytes_at}
 use Rattle.mg_dev.specs.Causes.{Rose}
 use Rattle.mg_dev.specs.Moments.{store_at}
 use Rattle.mg_bits.proofs.CallerLemmas.{held_page_stays}
 use Rattle.mg_make.specs.Putting.{IsApart, OthersSame}
+use Rattle.mg_make.specs.Changes.{TellsChange}
 use Rattle.mg_make.specs.Written.{SecondStops}
 use Rattle.mg_make.specs.Plans.{IsPlanOf}
-use Rattle.mg_build.specs.Sources.{AreRead, IsFrom, IsOfOnePage}
+use Rattle.mg_build.specs.Sources.{AreRead, IsFrom, IsOfOnePage, TellsSize}
 use Rattle.mg_build.specs.Steps.{WritesOn}
 use Rattle.mg_build.proofs.PutLaws.{still_put}
-use Rattle.mg_build.proofs.PassLaws.{block_so_far, page_of_block, read_block, read_front_of, read_none, rose_behind, same_bytes, same_file_more, same_file_none, still_told, write_byte, write_put}
+use Rattle.mg_build.proofs.PassLaws.{block_so_far, page_of_block, read_block, read_front_of, read_none, rose_behind, same_bytes, same_file_more, same_file_none, still_told, tells_put, write_byte, write_put}
 use Rattle.mg_build.proofs.StepLaws.{writes_look, writes_more, writes_none}
 use Rattle.mg_build.proofs.passes.put_bytes.Goals as goal
 
@@ -19,7 +20,7 @@ loop-at-init g c = record {
   fits = c.requires.fits;
   file = same_file_none c.args.source.now.feed;
   size = refl;
-  goes = writes_none c.requires.head;
+  goes = writes_none c.requires.nothing.head;
   put = ([], read_none _ _, c.requires.nothing);
 }
 
@@ -92,6 +93,29 @@ returns-in-Err-take_all-clause-refused g c =
     (λ more few. subst (λ plan. SecondStops (Rose (g.S.Store.faults c.turn.new.store) (g.S.Store.faults c.take_all.new.store))
     (IsPlanOf plan (so_far.put.0 ++ (run ++ more))) c.in-Err-take_all.refusal) so_far.goes.plan
     (stop.stops so_far.put.0 more (still_put c.loop-at.writer _ _ so_far.put.0 c.in-Ok.ensures.turns.looked.files so_far.put.2) few))
+
+pub returns-in-Err-clause-tells : goal.returns-in-Err-clause-tells
+returns-in-Err-clause-tells g c = inl (subst (λ n. TellsSize n c.in-Err.refusal) c.loop-at.invariant.size c.in-Err.ensures.turns.tells)
+
+pub returns-in-Err-take_all-clause-tells : goal.returns-in-Err-take_all-clause-tells
+returns-in-Err-take_all-clause-tells g c =
+    let before = g.S.Store.files c.args.store.now in
+    let name = c.args.source.now.feed.name in
+    let so_far = c.loop-at.invariant in
+    let block = c.block-bytes.result.now in
+    let stop = c.in-Err-take_all.ensures.refused in
+    let run = take (stop.taken + 1) block in
+    let page : IsOfOnePage c.loop-at.at (length block) c.loop-at.source.size = page_of_block c.block-bytes.ensures c.in-Ok.ensures.block in
+    let same : bytes_at (g.S.Store.files c.loop-at.store) c.loop-at.source.feed.name ≡ bytes_at before name
+    = same_bytes before (g.S.Store.files c.loop-at.store) c.loop-at.source.feed.name name so_far.file.name (so_far.goes.others.others name c.requires.apart) in
+    let read : (IsSome before → IsFrom c.loop-at.at (bytes_at before name) block)
+    = block_so_far before (g.S.Store.files c.loop-at.store) name c.loop-at.source.feed.name c.loop-at.at c.block-bytes.ensures
+    (still_told before (g.S.Store.files c.loop-at.store) so_far.goes.others.told) same c.in-Ok.ensures.told in
+    tells_put c.args.writer.now.plan before name so_far.put.0 run c.args.source.now.size (c.loop-at.at + (stop.taken + 1)) c.in-Err-take_all.refusal
+    (omega (arith, c.size-size.ensures.size, c.size-size.ensures.small)) (omega (arith, stop.within, page.within, so_far.size))
+    (read_front_of before name c.loop-at.at (stop.taken + 1) so_far.put.0 block (omega (arith, stop.within)) read so_far.put.1)
+    (λ more few. subst (λ plan. TellsChange plan (so_far.put.0 ++ (run ++ more)) c.in-Err-take_all.refusal) so_far.goes.plan
+    (stop.tells so_far.put.0 more (still_put c.loop-at.writer _ _ so_far.put.0 c.in-Ok.ensures.turns.looked.files so_far.put.2) few))
 
 -- ---- the next page
 

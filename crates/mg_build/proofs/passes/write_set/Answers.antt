@@ -6,7 +6,7 @@ use Rattle.mg_dev.specs.Names.{full_name}
 use Rattle.mg_dev.specs.declared.part.Part.TheVariants.{Head}
 use Rattle.mg_make.specs.Putting.{IsApart}
 use Rattle.mg_build.proofs.PassLaws.{left_by_start}
-use Rattle.mg_build.proofs.WrittenLaws.{by_writer, not_written, start_stops, written_before}
+use Rattle.mg_build.proofs.WrittenLaws.{by_writer, not_written, start_stops, start_tells, written_before}
 use Rattle.mg_build.proofs.passes.write_set.Goals as goal
 
 -- ---- the writer was not started
@@ -15,7 +15,7 @@ pub returns-in-Err : goal.returns-in-Err
 returns-in-Err g c = record {
   writes = not_written (λ is. left_by_start c.args.base.now _ _ _ is.told (c.empty_heads_stand_for_none.ensures c.args.base.now _) c.in-Err.ensures.unbuilt)
       c.in-Err.ensures.others c.in-Err.ensures.plain c.in-Err.ensures.cause.later
-      (start_stops _ _ _ c.in-Err.refusal _ c.of_store.ensures c.in-Err.ensures.cause);
+      (start_stops _ _ _ c.in-Err.refusal _ c.of_store.ensures c.in-Err.ensures.cause) (start_tells _ _ _ _ c.in-Err.refusal _ c.of_store.ensures);
 }
 
 -- ---- it was started

@@ -8,7 +8,7 @@ use Rattle.mg_build.proofs.passes.write_started.Goals as goal
 pub returns-in-Err : goal.returns-in-Err
 returns-in-Err g c = record {
   writes = not_written (λ is. inr (inl (c.empty_heads_stand_for_none.ensures c.args.writer.base _ (c.in-Err.ensures.goes.head is.told))))
-      c.in-Err.ensures.goes.others c.in-Err.ensures.goes.plain c.in-Err.ensures.goes.later c.in-Err.ensures.refused;
+      c.in-Err.ensures.goes.others c.in-Err.ensures.goes.plain c.in-Err.ensures.goes.later c.in-Err.ensures.refused c.in-Err.ensures.tells;
 }
 
 -- ---- all were put
@@ -27,5 +27,5 @@ returns-in-Ok g c =
     record {
       writes = was_ended c.args.writer c.put_bytes.new.writer c.args.source.now before middle now c.finish.result put.0 c.in-Ok.ensures.goes put.1 put.2
           c.finish.ensures.stands c.finish.ensures.summary c.finish.ensures.merge_a c.finish.ensures.merge_b c.finish.ensures.left
-          c.finish.ensures.others c.finish.ensures.plain c.finish.ensures.later c.finish.ensures.refused;
+          c.finish.ensures.others c.finish.ensures.plain c.finish.ensures.later c.finish.ensures.refused c.finish.ensures.tells;
     }

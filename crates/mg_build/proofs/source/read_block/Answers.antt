@@ -1,4 +1,4 @@
-use Rattle.std.proofs.Common.{arith, ◌<◌, ◌+◌, ◌∙◌, length, true, false}
+use Rattle.std.proofs.Common.{arith, ◌<◌, ◌+◌, ◌∙◌, length, refl, true, false}
 use Rattle.mg_dev.specs.Files.{bytes_at}
 use Rattle.mg_dev.specs.declared.part.Part.TheVariants.{Plain}
 use Rattle.mg_build.proofs.BlockLaws.{front_here, front_is}
@@ -29,6 +29,7 @@ returns-in-Ok-true-clause-turns g c =
       turned = turned_held turns.turned (c.fill_front.ensures.looked.later Plain)
           (c.in-Ok-true.ensures.held c.in-Ok-true.field-0-test ∙ page_held _ _ _ _ c.rest_of_page-count.ensures.page);
       refused = tt;
+      tells = tt;
       looked = looked_again turns.looked (rw part at c.fill_front.ensures.looked);
     }
 
@@ -49,6 +50,7 @@ returns-in-Ok-false-clause-turns g c =
             turns.looked.files turns.file.name c.in-Ok-false.field-0-test c.in-Ok-false.ensures.told told in
             omega (arith, page.within, ends),
       );
+      tells = (refl, omega (arith, page.within, c.missing.ensures));
       looked = looked_again turns.looked (rw part at c.fill_front.ensures.looked);
     }
 
@@ -61,5 +63,6 @@ returns-in-Err-fill_front-clause-turns g c =
       file = same_file_more _ _ _ turns.file c.fill_front.ensures.file;
       turned = tt;
       refused = rose_behind _ _ _ turns.looked.faults c.in-Err-fill_front.ensures.cause.failed;
+      tells = tt;
       looked = looked_again turns.looked (rw part at c.fill_front.ensures.looked);
     }

@@ -1,4 +1,4 @@
-use Rattle.std.proofs.Common.{arith}
+use Rattle.std.proofs.Common.{arith, refl}
 use Rattle.mg_dev.specs.Files.{bytes_at}
 use Rattle.mg_build.proofs.BlockLaws.{ends_before}
 use Rattle.mg_build.proofs.source.read_page.Goals as goal
@@ -10,6 +10,7 @@ returns-in-Ok-Some g c = record {
     file = c.byte.ensures.file;
     turned = record { held = rw c.in-Ok-Some.field-0-is at c.in-Ok-Some.ensures.held; turned = λ other. rw c.requires.part at (c.byte.ensures.turned other) };
     refused = tt;
+    tells = tt;
     looked = rw c.requires.part at c.byte.ensures.looked;
   };
 }
@@ -25,6 +26,7 @@ returns-in-Ok-None g c = record {
       λ told. ends_before (bytes_at (g.S.Store.files c.args.store.now) c.args.feed.now.name) c.args.at c.args.size c.requires.within
           (rw c.in-Ok-None.field-0-is at (c.in-Ok-None.ensures.told told)),
     );
+    tells = (refl, c.requires.within);
     looked = rw c.requires.part at c.byte.ensures.looked;
   };
 }
@@ -36,6 +38,7 @@ returns-in-Err g c = record {
     file = c.byte.ensures.file;
     turned = tt;
     refused = c.in-Err.ensures.cause.failed;
+    tells = tt;
     looked = rw c.requires.part at c.byte.ensures.looked;
   };
 }
