@@ -13,9 +13,10 @@ use Rattle.mg_defs.specs.Codes.{ceil_log2, gamma, golomb, ones, short, shorter, 
 use Rattle.mg_defs.specs.Lists.{posting_bits, Follows}
 use Rattle.mg_defs.specs.declared.Posting.{Posting}
 use Rattle.mg_defs.proofs.BitLaws.{digits_append, length_digits}
-use Rattle.mg_defs.proofs.CodeLaws.{IsCeil, is_ceil, one_ceil, gamma_is, golomb_is, length_unary_after, short_high, short_low, unary_after}
+use Rattle.mg_defs.proofs.CodeLaws.{IsCeil, is_ceil, one_ceil, gamma_is, golomb_is, length_golomb, length_unary_after, short_high, short_low, unary_after}
 use Rattle.mg_defs.proofs.FixedLaws.{IsLog}
 use Rattle.mg_defs.proofs.FrontLaws.{begins_first, begins_second}
+use Rattle.mg_defs.proofs.StandLists.{length_posting}
 use Rattle.mg_bits.specs.CodeAnswers.{AnswersCode}
 use Rattle.mg_bits.specs.Feed.{Device as Seen, Feeding, HoldsBits, Read}
 use Rattle.mg_bits.proofs.CallerLemmas.{holds_inside, read_held, told_nothing}
@@ -234,11 +235,13 @@ next_ahead feed fits place next bits count rest left code page at takes ahead = 
   small = λ some. omega (arith, at, takes.fewer, ahead.small (omega (arith, takes.fewer, some)));
 }
 
-pub code_held : (feed : Feeding) (fits : Option Files → Type 0) (place bits count rest left : ℕ) (code : Bits) → 0 < feed.page → Takes code bits count rest left → left < count →
+pub some_bits : (b before : ℕ) (p : Posting) → 0 < length (posting_bits b before p)
+some_bits b before p = omega (arith, length_posting b before p, length_golomb b (p.doc - before))
+
+pub code_held : (feed : Feeding) (fits : Option Files → Type 0) (place bits count rest left : ℕ) (code : Bits) → 0 < feed.page → Takes code bits count rest left → 0 < length code →
     IsAhead feed fits place bits count → (d : Seen) → Read feed feed d d place (place + length code)
-code_held feed fits place bits count rest left code page takes fewer ahead d =
-    let some : 0 < length code = omega (arith, takes.fewer, fewer) in
-    read_held feed d place (length code) some (holds_inside feed place place count (length code) page (omega arith) some (omega (arith, takes.fewer)) (ahead.held (omega (arith, fewer))))
+code_held feed fits place bits count rest left code page takes some ahead d =
+    read_held feed d place (length code) some (holds_inside feed place place count (length code) page (omega arith) some (omega (arith, takes.fewer)) (ahead.held (omega (arith, takes.fewer, some))))
 
 -- ---- the posting that stands at a place is one
 

@@ -11,14 +11,14 @@ use Rattle.mg_defs.specs.Lists.{posting_bits, bits_after, last_doc, Rises, Follo
 use Rattle.mg_defs.proofs.CodeLaws.{gamma_free, golomb_free}
 use Rattle.mg_defs.proofs.FrontLaws.{begins_both, shows_left, shows_right}
 use Rattle.mg_defs.proofs.ListLaws.{bits_append, rises_right, last_append}
-use Rattle.mg_bits.specs.CodeAnswers.{AnswersCode, IsGot, OnlyPagesOf}
+use Rattle.mg_bits.specs.CodeAnswers.{AnswersCode, CodeCause, IsGot, OnlyPagesOf}
 use Rattle.mg_bits.specs.Feed.{Feeding, Device as Seen, Read, ReadsWithin}
 use Rattle.mg_bits.proofs.CallerLemmas.{told_got, within_more, within_wider}
 use Rattle.mg_bits.specs.declared.code_err.CodeErr.{CodeErr}
 use Rattle.mg_bits.specs.declared.code_err.CodeErr.TheVariants as code
 use Rattle.mg_post.specs.declared.refusal.Refusal.{Refusal}
 use Rattle.mg_post.specs.declared.refusal.Refusal.TheVariants.{Device, Damaged}
-use Rattle.mg_post.specs.Answers.{OnDamage, OrDevice, of_code}
+use Rattle.mg_post.specs.Answers.{OnDamage, OrDevice, RefusalCause, of_code}
 use Rattle.mg_post.specs.Missing.{IsBitOfPosting, LacksPosting}
 use Rattle.mg_defs.proofs.StandLists.{length_posting}
 
@@ -52,6 +52,11 @@ pub code_told : (refusal : CodeErr) (place : ℕ) (fact : ℕ → Type 0) → ((
 code_told code.Device place fact h = tt
 code_told (code.End at) place fact h = h (λ y got. got)
 code_told (code.Over at most) place fact h = h (λ y got. got)
+
+pub code_cause : (T V : Type 0) (refusal : CodeErr) (place a b c : ℕ) → a ≤ b → CodeCause {T = T} (Err refusal) b c → RefusalCause {T = V} (Err (of_code refusal place)) a c
+code_cause T V code.Device place a b c le rose = omega (arith, le, rose)
+code_cause T V (code.End at) place a b c le rose = tt
+code_cause T V (code.Over at most) place a b c le rose = tt
 
 -- where no gap is read, none stands
 pub gap_refused : (told : Option (List ℕ)) (refusal : CodeErr) (limit place b before all : ℕ) → 1 ≤ b → b < 2 ^ 48 → limit ≡ all - before →

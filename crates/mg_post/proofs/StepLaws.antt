@@ -239,8 +239,13 @@ within_blocks {c} k = subst (λ n. c.reached ≤ n) k.count k.reached
 abbrev pub search_of : Cursoring → ℕ → ℕ → SkipSearch
 search_of c doc blocks = record { skip_at = c.skip_at; blocks = blocks; reached = c.reached; last = c.last; all = c.all; doc = doc }
 
-abbrev pub list_of : Cursoring → ListPlace
-list_of c = record { post_at = c.post_at; docs = c.docs; parameter = c.parameter; all = c.all }
+abbrev pub list_of : (c : Cursoring) → 1 ≤ c.parameter → c.parameter < 2 ^ 48 → ListPlace
+list_of c some small = record {
+  post_at = c.post_at;
+  docs = c.docs;
+  parameter = record { value = c.parameter; some = some; small = small };
+  all = c.all;
+}
 
 -- a reader at a place
 abbrev reader : Paging → ℕ → Reading Paging
@@ -351,8 +356,8 @@ module _ {Dev : Type 0} {device : Dev → Seen} {c : Cursoring} {d0 d1 : Dev} {d
   module _ {d2 : Dev} {found : Found} {at : ℕ} {post : Reading Paging}
       (s : ReadsFeed (SearchesBlock (search_of c doc blocks)) Fits (feeding_of 4096) device (reader c.skip place) skip d0 d1 (Ok (Some found))) where
     -- its postings were refused
-    pub step_missing : {refusal : Refusal} {held : List Posting} (e : PartErr) (read entered : ℕ) →
-        ReadsFeed (EntersFound (list_of c) found doc held) Fits (feeding_of 4096) device (reader c.post at) post d1 d2 (Err refusal) →
+    pub step_missing : {refusal : Refusal} {held : List Posting} {some : 1 ≤ c.parameter} {low : c.parameter < 2 ^ 48} (e : PartErr) (read entered : ℕ) →
+        ReadsFeed (EntersFound (list_of c some low) found doc held) Fits (feeding_of 4096) device (reader c.post at) post d1 d2 (Err refusal) →
         IsRefused refusal Post e → read ≡ post.feed.count - c.post.count → entered ≡ min (c.entered + read) (2 ^ 64 - 1) →
         CursorStep c (record c { skip = skip.feed; post = post.feed; entered = entered }) doc doc (from_doc doc) (Err e) (device d0).files (device d2).files
         (device d0).reads (device d2).reads (device d0).faults (device d2).faults
@@ -437,12 +442,12 @@ module _ {Dev : Type 0} {device : Dev → Seen} {c : Cursoring} {d0 d1 : Dev} {d
           };
         }
 
-    pub step_entered : {inside : Inside} {block : List Posting} (held : List Posting) (entered : ℕ) →
-        ReadsFeed (EntersFound (list_of c) found doc block) Fits (feeding_of 4096) device (reader c.post at) post d1 d2 (Ok inside) →
+    pub step_entered : {inside : Inside} {block : List Posting} {some : 1 ≤ c.parameter} {low : c.parameter < 2 ^ 48} (held : List Posting) (entered : ℕ) →
+        ReadsFeed (EntersFound (list_of c some low) found doc block) Fits (feeding_of 4096) device (reader c.post at) post d1 d2 (Ok inside) →
         held ≡ block → entered ≡ min (c.entered + inside.pages) (2 ^ 64 - 1) →
         CursorStep c (record c { skip = skip.feed; post = post.feed; reached = found.block + 1; last = found.last; held = held; entered = entered }) doc doc (from_doc doc) (Ok (Some inside.posting))
         (device d0).files (device d2).files (device d0).reads (device d2).reads (device d0).faults (device d2).faults
-    step_entered {inside = inside} {block = block} held entered w swapped raised =
+    step_entered {inside = inside} {block = block} {some = some} {low = low} held entered w swapped raised =
         let up = raised_by c.post.count post.feed.count c.entered inside.pages k.small k.first w.does.count in
         let first : min post.feed.count (2 ^ 64 - 1) ≤ entered = omega (arith, raised, up.1) in
         record {
@@ -510,11 +515,11 @@ module _ {Dev : Type 0} {device : Dev → Seen} {c : Cursoring} {d0 d1 : Dev} {d
                 all = refl;
                 parameter = refl;
               } in
-              let holds : HoldsFound (told_at (device d0).files c.post.name) (list_of c) doc found block =
-              subst (λ f. HoldsFound (told_at f c.post.name) (list_of c) doc found block) s.calm.files w.does.shows in
+              let holds : HoldsFound (told_at (device d0).files c.post.name) (list_of c some low) doc found block =
+              subst (λ f. HoldsFound (told_at f c.post.name) (list_of c some low) doc found block) s.calm.files w.does.shows in
               subst (λ f. AnswersShown c v (device d0).files f doc (Some inside.posting)) (sym (w.calm.files ∙ s.calm.files))
               (shown_entered same k.on refl refl k.count (walks_shown k.on stands) s.does.tells s.does.found
-              (subst (HoldsFound (told_at (device d0).files c.post.name) (list_of c) doc found) (sym swapped) holds) (ap head_of swapped ∙ w.does.current));
+              (subst (HoldsFound (told_at (device d0).files c.post.name) (list_of c some low) doc found) (sym swapped) holds) (ap head_of swapped ∙ w.does.current));
           forward = omega (arith, s.does.found.from);
           part = tt;
           post = λ ps left stands on. tt;

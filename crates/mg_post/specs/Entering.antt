@@ -18,28 +18,28 @@ use Rattle.mg_post.specs.declared.refusal.Refusal.{Refusal}
 -- a fact on a list that stands from a byte of Post on, and of which this block was found for a document
 abbrev pub WhereFound : Option (List ℕ) → ListPlace → ℕ → Found → (List Posting → Type 0) → Type 0
 WhereFound post list doc found fact = (ps : List Posting) (blocks : ℕ) → Rises list.all 0 ps → list.docs ≡ length ps →
-    Shows post (8 * list.post_at) (bits_after list.parameter 0 ps) →
-    8 * list.post_at + length (bits_after list.parameter 0 ps) ≤ 2 ^ 63 →
-    IsFoundAt list.parameter ps blocks doc found.block found.before found.last found.at → fact ps
+    Shows post (8 * list.post_at) (bits_after list.parameter.value 0 ps) →
+    8 * list.post_at + length (bits_after list.parameter.value 0 ps) ≤ 2 ^ 63 →
+    IsFoundAt list.parameter.value ps blocks doc found.block found.before found.last found.at → fact ps
 
 -- a fact where the block that was found for a document stands, whatever the rest of the list is
 abbrev pub WhereBlockStands : Option (List ℕ) → ListPlace → ℕ → Found → Type 0 → Type 0
 WhereBlockStands post list doc found fact = (ps : List Posting) → found.before < doc → doc ≤ found.last →
-    BlockStands list.all list.parameter post (8 * list.post_at + found.at) (min (list.docs - 64 * found.block) 64)
+    BlockStands list.all list.parameter.value post (8 * list.post_at + found.at) (min (list.docs - 64 * found.block) 64)
     found.before found.last ps → fact
 
 -- the block that was found stands, and these are its postings from a document on
 pub record HoldsFound (post : Option (List ℕ)) (list : ListPlace) (doc : ℕ) (found : Found) (held : List Posting) :
     Type 0 where
   pub ps : List Posting
-  pub stands : IsBlockAt list.all list.parameter post (8 * list.post_at + found.at) (min (list.docs - 64 * found.block) 64)
+  pub stands : IsBlockAt list.all list.parameter.value post (8 * list.post_at + found.at) (min (list.docs - 64 * found.block) 64)
       found.before found.last ps
   pub held_is : held ≡ forward_to doc ps
 
 -- the block that was found for a document in its range does not stand; this bit is the first of what is missing
 abbrev pub LacksFound : Option (List ℕ) → ListPlace → ℕ → Found → ℕ → Type 0
 LacksFound post list doc found at = found.before < doc → doc ≤ found.last →
-    LacksBlock list.all list.parameter post (8 * list.post_at + found.at) (min (list.docs - 64 * found.block) 64)
+    LacksBlock list.all list.parameter.value post (8 * list.post_at + found.at) (min (list.docs - 64 * found.block) 64)
     found.before found.last at
 
 -- the block that was found for a document is entered, by the bytes of Post that are told and the feed before and after
@@ -57,14 +57,14 @@ pub record EntersFound (list : ListPlace) (found : Found) (doc : ℕ) (held : Li
   pub count : IfOk result (λ i. new.count ≤ old.count + i.pages)
   -- where the list stands, the block is entered at its first posting from the document on, or the device failed
   pub told : WhereFound post list doc found
-      (λ ps. OrDevice result (λ i. Entered list.parameter ps (8 * list.post_at) found.block doc i.posting held i.pages))
+      (λ ps. OrDevice result (λ i. Entered list.parameter.value ps (8 * list.post_at) found.block doc i.posting held i.pages))
   -- and no more pages are read than the block has
   pub most : WhereFound post list doc found (λ ps. new.count ≤ old.count
-      + block_pages list.parameter (8 * list.post_at) found.block ps)
+      + block_pages list.parameter.value (8 * list.post_at) found.block ps)
   -- and none of them again that is held
   pub once : WhereFound post list doc found (λ ps. ReadsOn
-      (8 * list.post_at + bits_before list.parameter (64 * found.block) ps)
-      (8 * list.post_at + bits_before list.parameter (64 * (found.block + 1)) ps) result old new)
+      (8 * list.post_at + bits_before list.parameter.value (64 * found.block) ps)
+      (8 * list.post_at + bits_before list.parameter.value (64 * (found.block + 1)) ps) result old new)
   -- where the block alone stands, only the device may fail
   pub block : WhereBlockStands post list doc found (OrDevice result (λ _. Unit {0}))
   -- a damage is told at the first bit of what is missing

@@ -1,13 +1,17 @@
 -- A writer of lists: what contracts see of it, and which lists it was handed.
 use Rattle.std.specs.Prelude.{◌≡◌, ◌≢◌, ◌≤◌, ◌<◌, ◌+◌, ◌*◌, ◌^◌, ◌/◌, ◌++◌, ◌∷◌, ℕ, List, [], length, flat_map}
 use Rattle.std.specs.Option.{IsSome}
+use Rattle.std.specs.Option.{is_some}
 use Rattle.std.specs.declared.option.Option.{Option}
-use Rattle.mg_dev.specs.Files.{Files, bytes_at, written}
+use Rattle.std.specs.declared.result.Result.{Result}
+use Rattle.mg_dev.specs.Causes.{HasPutCause}
+use Rattle.mg_dev.specs.Files.{Files, Reads, SameReads, bytes_at, written}
 use Rattle.mg_dev.specs.Names.{full_name}
+use Rattle.mg_dev.specs.declared.device.PutErr.{PutErr}
 use Rattle.mg_dev.specs.declared.part.Part.TheVariants as part
 use Rattle.mg_bits.specs.BitWriting.{BitWriting, Holds, bits_put}
 use Rattle.mg_bits.specs.Alike.{WhereSame}
-use Rattle.mg_bits.specs.Writer.{Writing, Wrote, put_to}
+use Rattle.mg_bits.specs.Writer.{KeepsOthers, Writing, Wrote, WroteTo, put_to}
 use Rattle.mg_defs.specs.declared.Posting.{Posting}
 use Rattle.mg_defs.specs.Bits.{bits_of, as_bytes}
 use Rattle.mg_defs.specs.Codes.{golomb_parameter}
@@ -107,6 +111,30 @@ pub record SameFiles (old new : Listing) : Type 0 where
   pub post : new.post.name ≡ old.post.name
   pub skip : new.skip.name ≡ old.skip.name
   pub all : new.all ≡ old.all
+
+-- a call that writes to the file of one writer
+pub record WritesTo {T : Type 0} (own own_now : List ℕ) (result : Result T PutErr) (files_before files_now : Option Files)
+    (reads_before reads_now : Reads) (faults_before faults_now : ℕ) : Type 0 where
+  -- the writer writes to the same file
+  pub name : own_now ≡ own
+  -- no other file changed, and no part was read
+  pub wrote : WroteTo own files_before files_now reads_before reads_now
+  -- a device's failure has a cause
+  pub cause : HasPutCause faults_before faults_now result
+
+-- a call of a writer of lists that may write to its two parts
+pub record ListStep {T : Type 0} (old new : Listing) (result : Result T PutErr) (files_before files_now : Option Files)
+    (reads_before reads_now : Reads) (faults_before faults_now : ℕ) : Type 0 where
+  -- it writes the same parts
+  pub same : SameFiles old new
+  -- each other file is as before
+  pub others : KeepsOthers old.post.name old.skip.name files_before files_now
+  -- files are told where they were
+  pub told : is_some files_now ≡ is_some files_before
+  -- nothing was read
+  pub reads : SameReads reads_before reads_now
+  -- a device's failure has a cause
+  pub cause : HasPutCause faults_before faults_now result
 
 -- one posting more was pushed
 pub record Pushed (old new : Listing) (doc : ℕ) : Type 0 where

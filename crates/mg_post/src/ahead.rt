@@ -2,11 +2,13 @@
 //!
 //! Most codes are short, so that 57 bits, looked at once, have many postings. Each code is read from
 //! the bits as a number, and none is read twice.
-ghost use Rattle.std.specs.Prelude.{◌≡◌, ◌+◌, ◌-◌, ◌*◌, ◌%◌, ◌<◌, ◌≤◌, ◌^◌, IfSome};
+ghost use Rattle.std.specs.Prelude.{◌≡◌, ◌+◌, ◌<◌, ◌≤◌, ◌^◌, IfSome};
 ghost use Rattle.mg_defs.specs.Codes.{ceil_log2, gamma, golomb, short, unary};
 ghost use Rattle.mg_defs.specs.Lists.{posting_bits, Follows};
 ghost use Rattle.mg_post.specs.Ahead.{IsGapCode, Takes};
 
+use crate::bounds::DocBounds;
+use crate::parameter::Parameter;
 use mg_defs::Posting;
 
 /// Bits that were looked at and not read yet, as a number, and how many they are.
@@ -14,6 +16,8 @@ use mg_defs::Posting;
 pub struct Ahead {
     pub bits: u64,
     pub count: u32,
+    ghost below: { bits < 2 ^ count },
+    ghost few: { count ≤ 57 },
 }
 
 impl Ahead {
@@ -40,12 +44,14 @@ pub struct Passed {
     pub left: Ahead,
 }
 
-/// The short codes with a list's parameter: the length of the longer ones, and how many remainders
-/// have one bit less.
+/// The codes of a list's gaps: their parameter, the length of the longer short codes, and how many
+/// remainders have one bit less.
 #[derive(Clone, Copy)]
 pub struct GapCode {
+    pub parameter: Parameter,
     pub size: u32,
     pub few: u64,
+    ghost code: { IsGapCode parameter.value size few },
 }
 
 /// A power of two.
@@ -58,41 +64,35 @@ fn power(exponent: u32) -> u64
 }
 
 /// The length of the longer short codes with a parameter.
-fn longer_size(parameter: u64) -> u32
-    requires some { 1 ≤ parameter }
-    requires small { parameter < 2 ^ 48 }
-    ensures size { result ≡ ceil_log2 parameter }
+fn longer_size(parameter: Parameter) -> u32
+    ensures size { result ≡ ceil_log2 parameter.value }
     ensures small { result ≤ 48 }
 {
-    if parameter <= 1 {
+    if parameter.value <= 1 {
         0
     } else {
-        1 + (parameter - 1).ilog2()
+        1 + (parameter.value - 1).ilog2()
     }
 }
 
-/// The short codes with a parameter.
-pub fn gap_code(parameter: u64) -> GapCode
-    requires some { 1 ≤ parameter }
-    requires small { parameter < 2 ^ 48 }
-    ensures { IsGapCode parameter result.size result.few }
+/// The codes of gaps with a parameter.
+pub fn gap_code(parameter: Parameter) -> GapCode
+    ensures { result.parameter.value ≡ parameter.value }
 {
     let size = longer_size(parameter);
     GapCode {
+        parameter,
         size,
-        few: power(size) - parameter,
+        few: power(size) - parameter.value,
     }
 }
 
 /// The number less 1 whose unary code stands first.
 #[inline]
 fn unary_ahead(ahead: Ahead) -> Option<Coded>
-    requires below { ahead.bits < 2 ^ ahead.count }
-    requires few { ahead.count ≤ 57 }
     ensures takes { IfSome result (λ c.
         Takes (unary (1 + c.value)) ahead.bits ahead.count c.left.bits c.left.count) }
     ensures small { IfSome result (λ c. c.value < 57) }
-    ensures fewer { IfSome result (λ c. c.left.count < ahead.count) }
 {
     let rest = power(ahead.count) - 1 - ahead.bits;
     if rest == 0 {
@@ -110,13 +110,11 @@ fn unary_ahead(ahead: Ahead) -> Option<Coded>
 
 /// The remainder whose short code stands first.
 #[inline]
-fn short_ahead(ahead: Ahead, parameter: u64, code: GapCode) -> Option<Coded>
-    requires below { ahead.bits < 2 ^ ahead.count }
-    requires few { ahead.count ≤ 57 }
-    requires code { IsGapCode parameter code.size code.few }
+fn short_ahead(ahead: Ahead, code: GapCode) -> Option<Coded>
     ensures takes { IfSome result (λ c.
-        Takes (short parameter c.value) ahead.bits ahead.count c.left.bits c.left.count) }
-    ensures low { IfSome result (λ c. c.value < parameter) }
+        Takes (short code.parameter.value c.value) ahead.bits ahead.count c.left.bits
+        c.left.count) }
+    ensures low { IfSome result (λ c. c.value < code.parameter.value) }
 {
     if code.size == 0 {
         return Some(Coded {
@@ -149,23 +147,20 @@ fn short_ahead(ahead: Ahead, parameter: u64, code: GapCode) -> Option<Coded>
 
 /// The gap whose Golomb code stands first.
 #[inline]
-fn gap_ahead(ahead: Ahead, parameter: u64, code: GapCode) -> Option<Coded>
-    requires below { ahead.bits < 2 ^ ahead.count }
-    requires few { ahead.count ≤ 57 }
-    requires code { IsGapCode parameter code.size code.few }
+fn gap_ahead(ahead: Ahead, code: GapCode) -> Option<Coded>
     ensures takes { IfSome result (λ c.
-        Takes (golomb parameter c.value) ahead.bits ahead.count c.left.bits c.left.count) }
+        Takes (golomb code.parameter.value c.value) ahead.bits ahead.count c.left.bits
+        c.left.count) }
     ensures some { IfSome result (λ c. 1 ≤ c.value) }
-    ensures fewer { IfSome result (λ c. c.left.count < ahead.count) }
 {
     let Some(lead) = unary_ahead(ahead) else {
         return None;
     };
-    let Some(low) = short_ahead(lead.left, parameter, code) else {
+    let Some(low) = short_ahead(lead.left, code) else {
         return None;
     };
     Some(Coded {
-        value: lead.value * parameter + low.value + 1,
+        value: lead.value * code.parameter.value + low.value + 1,
         left: low.left,
     })
 }
@@ -173,12 +168,9 @@ fn gap_ahead(ahead: Ahead, parameter: u64, code: GapCode) -> Option<Coded>
 /// The count whose gamma code stands first.
 #[inline]
 fn count_ahead(ahead: Ahead) -> Option<Coded>
-    requires below { ahead.bits < 2 ^ ahead.count }
-    requires few { ahead.count ≤ 57 }
     ensures takes { IfSome result (λ c.
         Takes (gamma c.value) ahead.bits ahead.count c.left.bits c.left.count) }
-    ensures some { IfSome result (λ c. 1 ≤ c.value) }
-    ensures small { IfSome result (λ c. c.value < 2 ^ 29) }
+    ensures range { IfSome result (λ c. (1 ≤ c.value) × (c.value < 2 ^ 29)) }
 {
     // Most documents have a term once, and the code of 1 is a zero-bit.
     if ahead.count > 0 && ahead.bits >> (ahead.count - 1) == 0 {
@@ -207,29 +199,18 @@ fn count_ahead(ahead: Ahead) -> Option<Coded>
     })
 }
 
-/// The posting after a document, among so many, that stands first.
+/// The posting of a document within bounds that stands first.
 #[inline]
-pub fn posting_ahead(
-    ahead: Ahead,
-    parameter: u64,
-    code: GapCode,
-    before: u32,
-    all: u32,
-) -> Option<Passed>
-    requires below { ahead.bits < 2 ^ ahead.count }
-    requires few { ahead.count ≤ 57 }
-    requires code { IsGapCode parameter code.size code.few }
-    requires before { before ≤ all }
+pub fn posting_ahead(ahead: Ahead, code: GapCode, bounds: DocBounds) -> Option<Passed>
     ensures takes { IfSome result (λ p.
-        Takes (posting_bits parameter before p.posting) ahead.bits ahead.count p.left.bits
-        p.left.count) }
-    ensures follows { IfSome result (λ p. Follows all before p.posting) }
-    ensures fewer { IfSome result (λ p. p.left.count < ahead.count) }
+        Takes (posting_bits code.parameter.value bounds.after p.posting) ahead.bits ahead.count
+        p.left.bits p.left.count) }
+    ensures follows { IfSome result (λ p. Follows bounds.most bounds.after p.posting) }
 {
-    let Some(gap) = gap_ahead(ahead, parameter, code) else {
+    let Some(gap) = gap_ahead(ahead, code) else {
         return None;
     };
-    if gap.value > u64::from(all - before) {
+    if gap.value > u64::from(bounds.most - bounds.after) {
         return None;
     }
     let Some(freq) = count_ahead(gap.left) else {
@@ -237,7 +218,7 @@ pub fn posting_ahead(
     };
     Some(Passed {
         posting: Posting {
-            doc: before + gap.value as u32,
+            doc: bounds.after + gap.value as u32,
             freq: freq.value as u32,
         },
         left: freq.left,

@@ -4,6 +4,8 @@ ghost use Rattle.mg_defs.specs.declared.Posting.{Posting};
 ghost use Rattle.mg_post.specs.Cursor.{head_of, forward_to, GoesOn};
 ghost use Rattle.mg_post.specs.Reading.{FillsBlock};
 
+use crate::bounds::DocBounds;
+use crate::parameter::Parameter;
 use crate::read::read_block;
 use crate::refusal::Refusal;
 use mg_bits::{BitReader, Feed};
@@ -95,25 +97,21 @@ impl Block {
         self.index = first_from(&self.postings, self.len, self.index, doc);
     }
 
-    /// Reads so many postings that stand after a document. Answers the last document.
+    /// Reads so many postings of documents within bounds. Answers the last document.
     pub fn fill<F: Feed>(
         &mut self,
         r: &mut BitReader<F>,
         dev: &mut F::Dev,
-        parameter: u64,
+        parameter: Parameter,
+        bounds: DocBounds,
         count: usize,
-        before: u32,
-        all: u32,
     ) -> Result<u32, Refusal>
         requires fits { F.fits r.old.feed (F.device dev.old).files }
-        requires before { before ≤ all }
-        requires parameter { 1 ≤ parameter }
-        requires limit { parameter < 2 ^ 48 }
         requires room { count ≤ 64 }
-        ensures { FillsBlock all parameter before count self.new F.fits F.feeding F.device
-            r.old r.new dev.old dev.new result }
+        ensures { FillsBlock bounds.most parameter.value bounds.after count self.new F.fits
+            F.feeding F.device r.old r.new dev.old dev.new result }
     {
-        match read_block(r, dev, parameter, count, before, all, &mut self.postings) {
+        match read_block(r, dev, parameter, bounds, count, &mut self.postings) {
             Ok(last) => {
                 self.len = count;
                 self.index = 0;

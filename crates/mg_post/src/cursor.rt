@@ -19,8 +19,8 @@ ghost use Rattle.mg_post.specs.WholeLists.{WalkStep};
 use crate::block::Block;
 use crate::enter::{ListPlace, enter};
 use crate::find::{SkipSearch, find_block};
+use crate::parameter::{Parameter, parameter_for};
 use crate::refusal::refused_part;
-use crate::writer::parameter_of;
 use mg_bits::{BitReader, PageFeed};
 use mg_defs::Posting;
 use mg_dev::{FileRef, Part, PartErr, Store};
@@ -62,7 +62,7 @@ pub struct Cursor<'a, S: Store> {
     skip_at: u32,
     docs: u32,
     all: u32,
-    parameter: u64,
+    parameter: Parameter,
     reached: u32,
     last: u32,
     block: Block,
@@ -86,7 +86,7 @@ impl<'a, S: Store> Model for Cursor<'a, S> {
       skip_at = c.skip_at;
       docs = c.docs;
       all = c.all;
-      parameter = c.parameter;
+      parameter = c.parameter.value;
       reached = c.reached;
       last = c.last;
       held = c.block;
@@ -94,7 +94,7 @@ impl<'a, S: Store> Model for Cursor<'a, S> {
       entered = c.entered;
     } };
 
-    ghost invariant = { λ c. (1 ≤ c.parameter) × (c.parameter < 2 ^ 48) × (c.last ≤ c.all) × (c.reached ≤ block_count c.docs) × (c.post.feed.part ≡ part.Post) ×
+    ghost invariant = { λ c. (c.last ≤ c.all) × (c.reached ≤ block_count c.docs) × (c.post.feed.part ≡ part.Post) ×
         (c.skip.feed.part ≡ part.Skip) × (c.entered < 2 ^ 64) × (c.ended ≡ true → c.block ≡ []) × HeldRises c.all c.last c.block ×
         (min c.post.feed.count (2 ^ 64 - 1) ≤ c.entered) × HeldNone c.docs c.reached c.last c.block c.ended × (c.docs < 2 ^ 32) };
 }
@@ -104,18 +104,6 @@ fn count_blocks(docs: u32) -> u32
     ensures { result ≡ block_count docs }
 {
     ((u64::from(docs) + 63) / 64) as u32
-}
-
-/// The parameter of a list of so many postings; any for a list of none.
-pub fn parameter_for(all: u32, docs: u32) -> u64
-    ensures value { 1 ≤ docs → result ≡ golomb_parameter all docs }
-    ensures some { 1 ≤ result }
-    ensures small { result < 2 ^ 48 }
-{
-    if docs == 0 {
-        return 1;
-    }
-    parameter_of(all, docs)
 }
 
 /// The number behind a document's, which may be more than a document can have.

@@ -6,7 +6,9 @@ ghost use Rattle.mg_post.specs.Reading.{FeedsPages, ReadsFeed};
 ghost use Rattle.mg_post.specs.Entering.{EntersFound};
 
 use crate::block::Block;
+use crate::bounds::DocBounds;
 use crate::find::Found;
+use crate::parameter::Parameter;
 use crate::refusal::Refusal;
 use mg_bits::{BitReader, Feed};
 use mg_defs::Posting;
@@ -24,7 +26,7 @@ pub struct Inside {
 pub struct ListPlace {
     pub post_at: u64,
     pub docs: u32,
-    pub parameter: u64,
+    pub parameter: Parameter,
     pub all: u32,
 }
 
@@ -70,8 +72,6 @@ pub fn enter<F: Feed>(
     requires feed { FeedsPages F.fits F.feeding F.device r.old dev.old }
     requires before { found.before ≤ list.now.all }
     requires there { 64 * found.block < list.now.docs }
-    requires parameter { 1 ≤ list.now.parameter }
-    requires limit { list.now.parameter < 2 ^ 48 }
     ensures { ReadsFeed (EntersFound list.now found doc block.new) F.fits F.feeding F.device
         r.old r.new dev.old dev.new result }
 {
@@ -82,7 +82,11 @@ pub fn enter<F: Feed>(
     };
     r.seek(place);
     let left = (list.docs - 64 * found.block) as usize;
-    match block.fill(r, dev, list.parameter, left.min(64), found.before, list.all) {
+    let bounds = DocBounds {
+        after: found.before,
+        most: list.all,
+    };
+    match block.fill(r, dev, list.parameter, bounds, left.min(64)) {
         Ok(last) => {
             if last != found.last {
                 return Err(Refusal::Damaged { at: place });

@@ -11,6 +11,7 @@ ghost use Rattle.mg_post.specs.Finding.{SkipReads, entry_page};
 ghost use Rattle.mg_post.specs.Reading.{FeedsPages, ReadsFeed};
 ghost use Rattle.mg_post.specs.Searching.{ReadsBits, ReadsLast, ReadsNumber, SearchesBlock, SearchesPage};
 
+use crate::bounds::DocBounds;
 use crate::refusal::{Refusal, refused_bits};
 use mg_bits::{BitReader, Feed};
 
@@ -35,14 +36,6 @@ pub struct SkipSearch {
     pub last: u32,
     pub all: u32,
     pub doc: u64,
-}
-
-/// What bounds the last document that an entry is to tell: it is behind one document, and at most
-/// another.
-#[derive(Clone, Copy)]
-pub struct LastBounds {
-    pub after: u32,
-    pub most: u32,
 }
 
 /// The blocks from `low` to `high`, whose entries lie on one page, with the last document before
@@ -83,7 +76,7 @@ fn last_of<F: Feed>(
     dev: &mut F::Dev,
     skip_at: u32,
     block: u32,
-    bounds: LastBounds,
+    bounds: DocBounds,
 ) -> Result<u32, Refusal>
     requires { FeedsPages F.fits F.feeding F.device r.old dev.old }
     ensures { ReadsFeed (ReadsLast skip_at block bounds.after bounds.most) F.fits F.feeding F.device
@@ -160,7 +153,7 @@ fn search_page<F: Feed>(
     let mut end = page.last;
     let mut middle = page.low;
     while from < to {
-        let bounds = LastBounds {
+        let bounds = DocBounds {
             after: passed,
             most: end - 1,
         };
@@ -208,7 +201,7 @@ pub fn find_block<F: Feed>(
     let mut before = search.last;
     while low < search.blocks {
         let high = page_end(search.skip_at, low, search.blocks);
-        let bounds = LastBounds {
+        let bounds = DocBounds {
             after: before,
             most: search.all,
         };

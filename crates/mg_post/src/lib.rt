@@ -11,11 +11,13 @@
 
 mod ahead;
 mod block;
+mod bounds;
 mod cursor;
 mod enter;
 mod find;
 mod laws;
 mod list_reader;
+mod parameter;
 mod put;
 mod read;
 mod refusal;

@@ -8,8 +8,9 @@ ghost use Rattle.mg_bits.specs.Pages.{Fits};
 ghost use Rattle.mg_post.specs.ListReading.{OpensList, ReadStep};
 
 use crate::block::Block;
-use crate::cursor::parameter_for;
+use crate::bounds::DocBounds;
 use crate::enter::place_or_most;
+use crate::parameter::{Parameter, parameter_for};
 use crate::refusal::refused_part;
 use mg_bits::{BitReader, PageFeed};
 use mg_defs::Posting;
@@ -30,7 +31,7 @@ use std::marker::Model;
 pub struct ListReader<'a, S: Store> {
     post: BitReader<PageFeed<'a, S>>,
     docs: u32,
-    parameter: u64,
+    parameter: Parameter,
     all: u32,
     reached: u32,
     last: u32,
@@ -50,14 +51,14 @@ impl<'a, S: Store> Model for ListReader<'a, S> {
       post = r.post.feed;
       place = r.post.place;
       docs = r.docs;
-      parameter = r.parameter;
+      parameter = r.parameter.value;
       all = r.all;
       reached = r.reached;
       last = r.last;
       held = r.block;
     } };
 
-    ghost invariant = { λ r. (1 ≤ r.parameter) × (r.parameter < 2 ^ 48) × (r.last ≤ r.all) × (r.reached ≤ block_count r.docs) ×
+    ghost invariant = { λ r. (r.last ≤ r.all) × (r.reached ≤ block_count r.docs) ×
         (r.post.feed.part ≡ part.Post) × HeldRises r.all r.last r.block };
 }
 
@@ -77,7 +78,7 @@ impl<'a, S: Store> ListReader<'a, S> {
         Ok(ListReader {
             post: BitReader::new(post, 0),
             docs: 0,
-            parameter: 1,
+            parameter: parameter_for(all, 0),
             all,
             reached: 0,
             last: 0,
@@ -125,14 +126,14 @@ impl<'a, S: Store> ListReader<'a, S> {
             return Ok(None);
         }
         let count = (docs - passed).min(64) as usize;
-        match self.block.fill(
-            &mut self.post,
-            store,
-            self.parameter,
-            count,
-            self.last,
-            self.all,
-        ) {
+        let bounds = DocBounds {
+            after: self.last,
+            most: self.all,
+        };
+        match self
+            .block
+            .fill(&mut self.post, store, self.parameter, bounds, count)
+        {
             Ok(last) => {
                 self.reached += 1;
                 self.last = last;

@@ -5,13 +5,15 @@ ghost use Rattle.mg_dev.specs.Files.{SameReads};
 ghost use Rattle.mg_dev.specs.Names.{full_name};
 ghost use Rattle.mg_dev.specs.Causes.{HasPutCause};
 ghost use Rattle.mg_dev.specs.declared.part.Part.TheVariants as part;
-ghost use Rattle.mg_bits.specs.Writer.{Wrote, WroteTo, KeepsOthers};
+ghost use Rattle.mg_dev.specs.Moments.{Between};
+ghost use Rattle.mg_bits.specs.Writer.{Wrote, KeepsOthers};
 ghost use Rattle.mg_defs.specs.declared.Posting.{Posting};
-ghost use Rattle.mg_defs.specs.Codes.{golomb_parameter};
-ghost use Rattle.mg_post.specs.Writing.{posting_of, Took, SameFiles, Pushed, IsBetween, Finished, InBytes, AreSizesOf, TookPosting, ForTook, with_empty_lists, TookList, WhereTaken, WroteEntry};
+ghost use Rattle.mg_post.specs.Writing.{ListStep, WritesTo, posting_of, Took, SameFiles, Pushed, IsBetween, Finished, InBytes, AreSizesOf, TookPosting, ForTook, with_empty_lists, TookList, WhereTaken, WroteEntry};
 
+use crate::parameter::{Parameter, parameter_of};
 use crate::put::{put_entry, put_posting};
 use mg_bits::{BitWriter, PageWriter};
+use mg_defs::Posting;
 use mg_dev::{FileRef, Part, PutErr, Store};
 use std::alloc::Global;
 use std::marker::Model;
@@ -27,7 +29,7 @@ pub struct ListWriter<'a> {
     skip: PageWriter<'a>,
     all: u32,
     docs: u32,
-    parameter: u64,
+    parameter: Parameter,
     pushed: u64,
     last: u32,
     total: u64,
@@ -48,7 +50,7 @@ impl<'a> Model for ListWriter<'a> {
       skip = w.skip;
       all = w.all;
       docs = w.docs;
-      parameter = w.parameter;
+      parameter = w.parameter.value;
       pushed = w.pushed;
       last = w.last;
       total = w.total;
@@ -57,18 +59,6 @@ impl<'a> Model for ListWriter<'a> {
       full = w.full;
       block_at = w.block_at;
     } };
-
-    ghost invariant = { λ w. (1 ≤ w.parameter) × (w.parameter < 2 ^ 48) };
-}
-
-/// The parameter of the gaps of a list of so many documents among all.
-pub(crate) fn parameter_of(all: u32, docs: u32) -> u64
-    requires { 1 ≤ docs }
-    ensures value { result ≡ golomb_parameter all docs }
-    ensures some { 1 ≤ result }
-    ensures small { result < 2 ^ 48 }
-{
-    (69 * u64::from(all) / (100 * u64::from(docs))).max(1)
 }
 
 /// Writes the entry of the last block, where it isn't full; answers how many blocks there are.
@@ -87,10 +77,8 @@ fn put_last<S: Store>(
     ensures none { pushed ≤ 64 * full →
         IfOk result (λ blocks. (blocks ≡ full) × Wrote w.old w.new (S.files store.old)
         (S.files store.new) []) }
-    ensures name { w.new.name ≡ w.old.name }
-    ensures wrote { WroteTo w.old.name (S.files store.old) (S.files store.new) (S.reads store.old)
-        (S.reads store.new) }
-    ensures cause { HasPutCause (S.faults store.old) (S.faults store.new) result }
+    ensures step { Between S.files S.reads S.faults store.old store.new
+        (WritesTo w.old.name w.new.name result) }
 {
     if pushed > 64 * full {
         put_entry(w, store, last, block_at)?;
@@ -188,14 +176,11 @@ impl<'a> ListWriter<'a> {
         ensures took { OnOk result (TookPosting self.old self.new (S.files store.old)
             (S.files store.new) (posting_of doc freq)) }
         ensures pushed { OnOk result (Pushed self.old self.new doc) }
-        ensures same { SameFiles self.old self.new }
-        ensures others { KeepsOthers self.old.post.name self.old.skip.name (S.files store.old)
-            (S.files store.new) }
-        ensures told { is_some (S.files store.new) ≡ is_some (S.files store.old) }
-        ensures reads { SameReads (S.reads store.old) (S.reads store.new) }
-        ensures cause { HasPutCause (S.faults store.old) (S.faults store.new) result }
+        ensures step { Between S.files S.reads S.faults store.old store.new
+            (ListStep self.old self.new result) }
     {
-        put_posting(&mut self.post, store, self.parameter, self.last, doc, freq)?;
+        let posting = Posting { doc, freq };
+        put_posting(&mut self.post, store, self.parameter, self.last, posting)?;
         self.last = doc;
         self.pushed += 1;
         self.total += 1;
@@ -219,12 +204,8 @@ impl<'a> ListWriter<'a> {
             (λ at. ForTook self.old (S.files store.old) (λ lists ps.
             AreSizesOf self.old.all lists at)) }
         ensures between { OnOk result (IsBetween self.old self.new self.old.docs) }
-        ensures same { SameFiles self.old self.new }
-        ensures others { KeepsOthers self.old.post.name self.old.skip.name (S.files store.old)
-            (S.files store.new) }
-        ensures told { is_some (S.files store.new) ≡ is_some (S.files store.old) }
-        ensures reads { SameReads (S.reads store.old) (S.reads store.new) }
-        ensures cause { HasPutCause (S.faults store.old) (S.faults store.new) result }
+        ensures step { Between S.files S.reads S.faults store.old store.new
+            (ListStep self.old self.new result) }
     {
         let blocks = put_last(
             &mut self.skip,
@@ -256,12 +237,8 @@ impl<'a> ListWriter<'a> {
         ensures answer { IfOk result (λ sizes. (lists : List (List Posting)) →
             Took self.old (S.files store.old) lists [] →
             AreSizesOf self.old.all lists sizes) }
-        ensures same { SameFiles self.old self.new }
-        ensures others { KeepsOthers self.old.post.name self.old.skip.name (S.files store.old)
-            (S.files store.new) }
-        ensures told { is_some (S.files store.new) ≡ is_some (S.files store.old) }
-        ensures reads { SameReads (S.reads store.old) (S.reads store.new) }
-        ensures cause { HasPutCause (S.faults store.old) (S.faults store.new) result }
+        ensures step { Between S.files S.reads S.faults store.old store.new
+            (ListStep self.old self.new result) }
     {
         let sizes = (self.start / 8, self.first);
         self.post.finish(store)?;

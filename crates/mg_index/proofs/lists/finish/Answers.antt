@@ -26,13 +26,13 @@ pub returns-in_err-post_bytes-clause-step : goal.returns-in_err-post_bytes-claus
 returns-in_err-post_bytes-clause-step g c =
     let p = err_from_is_err_and c.from_residual-in_err-post_bytes.result c.from_residual-in_err-post_bytes.ensures.1 in
     let e = c.in_ok-finish.ensures in
-    let l = c.in_err-post_bytes.ensures in
+    let l = c.in_err-post_bytes.ensures.step in
     rw (p.1, p.2) (put_more (put_lex e.told e.others e.reads e.cause) (put_err (put_lists c.requires.post c.requires.skip l.told l.others l.reads l.cause)))
 
 pub returns-clause-step : goal.returns-clause-step
 returns-clause-step g c =
     let e = c.in_ok-finish.ensures in
-    let l = c.in_ok-post_bytes.ensures in
+    let l = c.in_ok-post_bytes.ensures.step in
     put_more (put_lex e.told e.others e.reads e.cause) (put_ok (put_lists c.requires.post c.requires.skip l.told l.others l.reads l.cause))
 
 pub returns-clause-stand : goal.returns-clause-stand
@@ -41,7 +41,7 @@ returns-clause-stand g c = λ collection told all took terms.
     let still = took_beside c.lists_stay.ensures base c.args.writer.now.lists _ _ (inverted collection) [] c.requires.post c.requires.skip c.finish.ensures.told c.finish.ensures.others took in
     lists_are_there c.lexicon_has_its_terms.ensures.entries base collection c.args.writer.now.lists _ _ c.requires.post c.requires.skip all
     (c.in_ok-finish.ensures.finished (terms_of collection) terms told)
-    (wrote_lists base _ _ _ _ c.requires.post c.requires.skip c.finish-2.ensures.told c.finish-2.ensures.others)
+    (wrote_lists base _ _ _ _ c.requires.post c.requires.skip c.finish-2.ensures.step.told c.finish-2.ensures.step.others)
     (c.in_ok-post_bytes.ensures.bytes (inverted collection) still (c.finish.ensures.told ∙ told))
 
 pub returns-clause-post_bytes : goal.returns-clause-post_bytes

@@ -55,7 +55,7 @@ pub returns-in-Ok-end_list : goal.returns-in-Ok-end_list
 returns-in-Ok-end_list g c =
     let can = c.in-Ok-take_postings.ensures.can in
     let files = ap (λ s. g.S.Store.files s) c.begin.ensures.store in
-    let e = c.end_list.ensures in
+    let e = c.end_list.ensures.step in
     let wrote = wrote_lists c.take_postings.new.merge.base _ _ _ _ can.post can.skip e.told e.others in
     let names = names_more _ _ _ c.begin.ensures.same c.take_postings.ensures.files in
     record {
@@ -96,7 +96,7 @@ returns-in-Ok-end_list g c =
 pub returns-in-Err-end_list : goal.returns-in-Err-end_list
 returns-in-Err-end_list g c =
     let can = c.in-Ok-take_postings.ensures.can in
-    let e = c.end_list.ensures in
+    let e = c.end_list.ensures.step in
     let begun = step_begun g.S.Store.files g.S.Store.reads g.S.Store.faults c.begin.ensures.store c.take_postings.ensures.step in
     record {
       can = tt;
@@ -106,6 +106,6 @@ returns-in-Err-end_list g c =
       listed = tt;
       files = names_more _ _ _ (names_more _ _ _ c.begin.ensures.same c.take_postings.ensures.files) e.same;
       step = step_then begun (step_lists can.post can.skip e.told e.others e.reads e.cause.later);
-      refused = store_stops _ c.in-Err-end_list.refusal _ begun.later c.in-Err-end_list.ensures.cause c.of_store-in-Err-end_list.ensures;
+      refused = store_stops _ c.in-Err-end_list.refusal _ begun.later c.in-Err-end_list.ensures.step.cause c.of_store-in-Err-end_list.ensures;
       tells = store_tells _ c.in-Err-end_list.refusal _ c.of_store-in-Err-end_list.ensures;
     }

@@ -23,9 +23,9 @@ returns-in_default g c =
         whole = λ is. tt;
         shows = tt;
         count = tt;
-        told = λ ps blocks rises whole shows small found. absurd (omega (arith, bits_fit list.parameter (64 * c.args.found.block) ps, found.bits, far, small));
-        most = λ ps blocks rises whole shows small found. absurd (omega (arith, bits_fit list.parameter (64 * c.args.found.block) ps, found.bits, far, small));
-        once = λ ps blocks rises whole shows small found. absurd (omega (arith, bits_fit list.parameter (64 * c.args.found.block) ps, found.bits, far, small));
+        told = λ ps blocks rises whole shows small found. absurd (omega (arith, bits_fit list.parameter.value (64 * c.args.found.block) ps, found.bits, far, small));
+        most = λ ps blocks rises whole shows small found. absurd (omega (arith, bits_fit list.parameter.value (64 * c.args.found.block) ps, found.bits, far, small));
+        once = λ ps blocks rises whole shows small found. absurd (omega (arith, bits_fit list.parameter.value (64 * c.args.found.block) ps, found.bits, far, small));
         block = λ ps after within stands. absurd (omega (arith, stands.small, far));
         lacks = λ after within. inr (inr record { far = far; at_is = c.place_or_most.ensures });
       };
@@ -50,25 +50,25 @@ returns-then-last-found g c =
         shows = tt;
         count = tt;
         told = λ ps blocks rises whole shows small found.
-            let at : c.seek.new.self.place ≡ 8 * list.post_at + bits_before list.parameter (64 * f.block) ps = place ∙ ap (λ n. 8 * list.post_at + n) found.bits in
+            let at : c.seek.new.self.place ≡ 8 * list.post_at + bits_before list.parameter.value (64 * f.block) ps = place ∙ ap (λ n. 8 * list.post_at + n) found.bits in
             let got : c.fill.new.self ≡ block_of f.block ps =
-            block_answer _ (8 * list.post_at) list.all list.parameter c.seek.new.self.place f.before _ list.docs f.block ps c.fill.new.self (Ok c.in-Ok.last)
+            block_answer _ (8 * list.post_at) list.all list.parameter.value c.seek.new.self.place f.before _ list.docs f.block ps c.fill.new.self (Ok c.in-Ok.last)
             c.min.ensures whole found.from at rises (rw (← c.seek.ensures.feed) at shows) small e.told in
-            absurd (c.if-last-found.true (block_ends list.parameter blocks c.args.doc f.block f.before f.last f.at c.in-Ok.last ps c.fill.new.self found got e.last));
+            absurd (c.if-last-found.true (block_ends list.parameter.value blocks c.args.doc f.block f.before f.last f.at c.in-Ok.last ps c.fill.new.self found got e.last));
         most = λ ps blocks rises whole shows small found.
-            let at : c.seek.new.self.place ≡ 8 * list.post_at + bits_before list.parameter (64 * f.block) ps = place ∙ ap (λ n. 8 * list.post_at + n) found.bits in
+            let at : c.seek.new.self.place ≡ 8 * list.post_at + bits_before list.parameter.value (64 * f.block) ps = place ∙ ap (λ n. 8 * list.post_at + n) found.bits in
             let got : c.fill.new.self ≡ block_of f.block ps =
-            block_answer _ (8 * list.post_at) list.all list.parameter c.seek.new.self.place f.before _ list.docs f.block ps c.fill.new.self (Ok c.in-Ok.last)
+            block_answer _ (8 * list.post_at) list.all list.parameter.value c.seek.new.self.place f.before _ list.docs f.block ps c.fill.new.self (Ok c.in-Ok.last)
             c.min.ensures whole found.from at rises (rw (← c.seek.ensures.feed) at shows) small e.told in
-            absurd (c.if-last-found.true (block_ends list.parameter blocks c.args.doc f.block f.before f.last f.at c.in-Ok.last ps c.fill.new.self found got e.last));
+            absurd (c.if-last-found.true (block_ends list.parameter.value blocks c.args.doc f.block f.before f.last f.at c.in-Ok.last ps c.fill.new.self found got e.last));
         once = λ ps blocks rises whole shows small found.
-            let at : c.seek.new.self.place ≡ 8 * list.post_at + bits_before list.parameter (64 * f.block) ps = place ∙ ap (λ n. 8 * list.post_at + n) found.bits in
+            let at : c.seek.new.self.place ≡ 8 * list.post_at + bits_before list.parameter.value (64 * f.block) ps = place ∙ ap (λ n. 8 * list.post_at + n) found.bits in
             let got : c.fill.new.self ≡ block_of f.block ps =
-            block_answer _ (8 * list.post_at) list.all list.parameter c.seek.new.self.place f.before _ list.docs f.block ps c.fill.new.self (Ok c.in-Ok.last)
+            block_answer _ (8 * list.post_at) list.all list.parameter.value c.seek.new.self.place f.before _ list.docs f.block ps c.fill.new.self (Ok c.in-Ok.last)
             c.min.ensures whole found.from at rises (rw (← c.seek.ensures.feed) at shows) small e.told in
-            absurd (c.if-last-found.true (block_ends list.parameter blocks c.args.doc f.block f.before f.last f.at c.in-Ok.last ps c.fill.new.self found got e.last));
+            absurd (c.if-last-found.true (block_ends list.parameter.value blocks c.args.doc f.block f.before f.last f.at c.in-Ok.last ps c.fill.new.self found got e.last));
         block = λ ps after within stands.
-            let got : c.fill.new.self ≡ ps = block_filled _ list.all list.parameter (8 * list.post_at + f.at) c.min.result f.before f.last c.seek.new.self.place
+            let got : c.fill.new.self ≡ ps = block_filled _ list.all list.parameter.value (8 * list.post_at + f.at) c.min.result f.before f.last c.seek.new.self.place
             ps c.fill.new.self (Ok c.in-Ok.last) (rw (c.min.ensures, c.seek.ensures.feed) stands) place e.told in
             absurd (c.if-last-found.true (e.last ∙ ap (last_doc f.before) got ∙ stands.last_is));
         lacks = λ after within. inr
@@ -119,28 +119,28 @@ returns-in-Some-current g c =
         };
         count = rw (c.pages_of-pages.ensures, c.place.ensures, ← c.seek.ensures.place, ← c.seek.ensures.feed) most;
         told = λ ps blocks rises whole shows small found.
-            let at : c.seek.new.self.place ≡ 8 * list.post_at + bits_before list.parameter (64 * f.block) ps = place ∙ ap (λ n. 8 * list.post_at + n) found.bits in
+            let at : c.seek.new.self.place ≡ 8 * list.post_at + bits_before list.parameter.value (64 * f.block) ps = place ∙ ap (λ n. 8 * list.post_at + n) found.bits in
             let got : c.fill.new.self ≡ block_of f.block ps =
-            block_answer _ (8 * list.post_at) list.all list.parameter c.seek.new.self.place f.before _ list.docs f.block ps c.fill.new.self (Ok c.in-Ok.last)
+            block_answer _ (8 * list.post_at) list.all list.parameter.value c.seek.new.self.place f.before _ list.docs f.block ps c.fill.new.self (Ok c.in-Ok.last)
             c.min.ensures whole found.from at rises (rw (← c.seek.ensures.feed) at shows) small e.told in
-            entered list.parameter (8 * list.post_at) c.seek.new.self.place c.fill.new.r.place f.block c.args.doc f.before _ ps c.fill.new.self
+            entered list.parameter.value (8 * list.post_at) c.seek.new.self.place c.fill.new.r.place f.block c.args.doc f.before _ ps c.fill.new.self
             c.forward.new.self c.in-Some-current.posting got c.forward.ensures (sym c.in-Some-current.ensures) found.from at e.place
             (rw (c.place.ensures, ← c.seek.ensures.place) at c.pages_of-pages.ensures);
         most = λ ps blocks rises whole shows small found.
-            let at : c.seek.new.self.place ≡ 8 * list.post_at + bits_before list.parameter (64 * f.block) ps = place ∙ ap (λ n. 8 * list.post_at + n) found.bits in
+            let at : c.seek.new.self.place ≡ 8 * list.post_at + bits_before list.parameter.value (64 * f.block) ps = place ∙ ap (λ n. 8 * list.post_at + n) found.bits in
             let got : c.fill.new.self ≡ block_of f.block ps =
-            block_answer _ (8 * list.post_at) list.all list.parameter c.seek.new.self.place f.before _ list.docs f.block ps c.fill.new.self (Ok c.in-Ok.last)
+            block_answer _ (8 * list.post_at) list.all list.parameter.value c.seek.new.self.place f.before _ list.docs f.block ps c.fill.new.self (Ok c.in-Ok.last)
             c.min.ensures whole found.from at rises (rw (← c.seek.ensures.feed) at shows) small e.told in
-            let told = entered list.parameter (8 * list.post_at) c.seek.new.self.place c.fill.new.r.place f.block c.args.doc f.before c.pages_of-pages.result ps
+            let told = entered list.parameter.value (8 * list.post_at) c.seek.new.self.place c.fill.new.r.place f.block c.args.doc f.before c.pages_of-pages.result ps
             c.fill.new.self c.forward.new.self c.in-Some-current.posting got c.forward.ensures (sym c.in-Some-current.ensures) found.from at e.place
             (rw (c.place.ensures, ← c.seek.ensures.place) at c.pages_of-pages.ensures) in
             rw (← told.pages, c.pages_of-pages.ensures, c.place.ensures, ← c.seek.ensures.place, ← c.seek.ensures.feed) most;
         once = λ ps blocks rises whole shows small found.
-            let at : c.seek.new.self.place ≡ 8 * list.post_at + bits_before list.parameter (64 * f.block) ps = place ∙ ap (λ n. 8 * list.post_at + n) found.bits in
+            let at : c.seek.new.self.place ≡ 8 * list.post_at + bits_before list.parameter.value (64 * f.block) ps = place ∙ ap (λ n. 8 * list.post_at + n) found.bits in
             let got : c.fill.new.self ≡ block_of f.block ps =
-            block_answer _ (8 * list.post_at) list.all list.parameter c.seek.new.self.place f.before _ list.docs f.block ps c.fill.new.self (Ok c.in-Ok.last)
+            block_answer _ (8 * list.post_at) list.all list.parameter.value c.seek.new.self.place f.before _ list.docs f.block ps c.fill.new.self (Ok c.in-Ok.last)
             c.min.ensures whole found.from at rises (rw (← c.seek.ensures.feed) at shows) small e.told in
-            let on = read_on {T = Inside} _ list.parameter (8 * list.post_at) c.seek.new.self.place c.fill.new.r.place f.block f.before ps c.fill.new.self _ _ _ _
+            let on = read_on {T = Inside} _ list.parameter.value (8 * list.post_at) c.seek.new.self.place c.fill.new.r.place f.block f.before ps c.fill.new.self _ _ _ _
             (rw c.seek.ensures.feed c.requires.feed.page) got found.from at e.place read in
             rw (← c.seek.ensures.feed) on;
         block = λ ps after within stands. tt;
@@ -168,31 +168,31 @@ returns-in-None g c =
         shows = tt;
         count = tt;
         told = λ ps blocks rises whole shows small found.
-            let at : c.seek.new.self.place ≡ 8 * list.post_at + bits_before list.parameter (64 * f.block) ps = place ∙ ap (λ n. 8 * list.post_at + n) found.bits in
+            let at : c.seek.new.self.place ≡ 8 * list.post_at + bits_before list.parameter.value (64 * f.block) ps = place ∙ ap (λ n. 8 * list.post_at + n) found.bits in
             let got : c.fill.new.self ≡ block_of f.block ps =
-            block_answer _ (8 * list.post_at) list.all list.parameter c.seek.new.self.place f.before _ list.docs f.block ps c.fill.new.self (Ok c.in-Ok.last)
+            block_answer _ (8 * list.post_at) list.all list.parameter.value c.seek.new.self.place f.before _ list.docs f.block ps c.fill.new.self (Ok c.in-Ok.last)
             c.min.ensures whole found.from at rises (rw (← c.seek.ensures.feed) at shows) small e.told in
             let same : length c.forward.new.self ≡ length (forward_to c.args.doc (block_of f.block ps)) = ap length (c.forward.ensures ∙ ap (forward_to c.args.doc) got) in
-            absurd (omega (arith, none, same, found_some list.all list.parameter blocks c.args.doc f.block f.before f.last f.at ps rises found));
+            absurd (omega (arith, none, same, found_some list.all list.parameter.value blocks c.args.doc f.block f.before f.last f.at ps rises found));
         most = λ ps blocks rises whole shows small found.
-            let at : c.seek.new.self.place ≡ 8 * list.post_at + bits_before list.parameter (64 * f.block) ps = place ∙ ap (λ n. 8 * list.post_at + n) found.bits in
+            let at : c.seek.new.self.place ≡ 8 * list.post_at + bits_before list.parameter.value (64 * f.block) ps = place ∙ ap (λ n. 8 * list.post_at + n) found.bits in
             let got : c.fill.new.self ≡ block_of f.block ps =
-            block_answer _ (8 * list.post_at) list.all list.parameter c.seek.new.self.place f.before _ list.docs f.block ps c.fill.new.self (Ok c.in-Ok.last)
+            block_answer _ (8 * list.post_at) list.all list.parameter.value c.seek.new.self.place f.before _ list.docs f.block ps c.fill.new.self (Ok c.in-Ok.last)
             c.min.ensures whole found.from at rises (rw (← c.seek.ensures.feed) at shows) small e.told in
             let same : length c.forward.new.self ≡ length (forward_to c.args.doc (block_of f.block ps)) = ap length (c.forward.ensures ∙ ap (forward_to c.args.doc) got) in
-            absurd (omega (arith, none, same, found_some list.all list.parameter blocks c.args.doc f.block f.before f.last f.at ps rises found));
+            absurd (omega (arith, none, same, found_some list.all list.parameter.value blocks c.args.doc f.block f.before f.last f.at ps rises found));
         once = λ ps blocks rises whole shows small found.
-            let at : c.seek.new.self.place ≡ 8 * list.post_at + bits_before list.parameter (64 * f.block) ps = place ∙ ap (λ n. 8 * list.post_at + n) found.bits in
+            let at : c.seek.new.self.place ≡ 8 * list.post_at + bits_before list.parameter.value (64 * f.block) ps = place ∙ ap (λ n. 8 * list.post_at + n) found.bits in
             let got : c.fill.new.self ≡ block_of f.block ps =
-            block_answer _ (8 * list.post_at) list.all list.parameter c.seek.new.self.place f.before _ list.docs f.block ps c.fill.new.self (Ok c.in-Ok.last)
+            block_answer _ (8 * list.post_at) list.all list.parameter.value c.seek.new.self.place f.before _ list.docs f.block ps c.fill.new.self (Ok c.in-Ok.last)
             c.min.ensures whole found.from at rises (rw (← c.seek.ensures.feed) at shows) small e.told in
             let same : length c.forward.new.self ≡ length (forward_to c.args.doc (block_of f.block ps)) = ap length (c.forward.ensures ∙ ap (forward_to c.args.doc) got) in
-            absurd (omega (arith, none, same, found_some list.all list.parameter blocks c.args.doc f.block f.before f.last f.at ps rises found));
+            absurd (omega (arith, none, same, found_some list.all list.parameter.value blocks c.args.doc f.block f.before f.last f.at ps rises found));
         block = λ ps after within stands.
-            let got : c.fill.new.self ≡ ps = block_filled _ list.all list.parameter (8 * list.post_at + f.at) c.min.result f.before f.last c.seek.new.self.place
+            let got : c.fill.new.self ≡ ps = block_filled _ list.all list.parameter.value (8 * list.post_at + f.at) c.min.result f.before f.last c.seek.new.self.place
             ps c.fill.new.self (Ok c.in-Ok.last) (rw (c.min.ensures, c.seek.ensures.feed) stands) place e.told in
             let same : length c.forward.new.self ≡ length (forward_to c.args.doc ps) = ap length (c.forward.ensures ∙ ap (forward_to c.args.doc) got) in
-            absurd (omega (arith, none, same, filled_some _ list.all list.parameter _ _ f.before f.last c.args.doc ps after within stands));
+            absurd (omega (arith, none, same, filled_some _ list.all list.parameter.value _ _ f.before f.last c.args.doc ps after within stands));
         lacks = λ after within.
             let same : length c.forward.new.self ≡ length (forward_to c.args.doc c.fill.new.self) = ap length c.forward.ensures in
             let low : c.args.doc ≤ last_doc f.before c.fill.new.self = omega (arith, within, e.last, c.if-last-found.false) in
@@ -219,22 +219,22 @@ returns-in-Err g c =
         shows = tt;
         count = tt;
         told = λ ps blocks rises whole shows small found.
-            let at : c.seek.new.self.place ≡ 8 * list.post_at + bits_before list.parameter (64 * f.block) ps = place ∙ ap (λ n. 8 * list.post_at + n) found.bits in
+            let at : c.seek.new.self.place ≡ 8 * list.post_at + bits_before list.parameter.value (64 * f.block) ps = place ∙ ap (λ n. 8 * list.post_at + n) found.bits in
             any_refused c.in-Err.refusal _ _
-            (block_answer _ (8 * list.post_at) list.all list.parameter c.seek.new.self.place f.before _ list.docs f.block ps c.fill.new.self
+            (block_answer _ (8 * list.post_at) list.all list.parameter.value c.seek.new.self.place f.before _ list.docs f.block ps c.fill.new.self
             (Err c.in-Err.refusal) c.min.ensures whole found.from at rises (rw (← c.seek.ensures.feed) at shows) small e.told);
         most = λ ps blocks rises whole shows small found.
-            let at : c.seek.new.self.place ≡ 8 * list.post_at + bits_before list.parameter (64 * f.block) ps = place ∙ ap (λ n. 8 * list.post_at + n) found.bits in
-            let most = refused_pages _ _ _ _ _ (8 * list.post_at) list.all list.parameter c.seek.new.self.place f.before _ list.docs f.block ps
+            let at : c.seek.new.self.place ≡ 8 * list.post_at + bits_before list.parameter.value (64 * f.block) ps = place ∙ ap (λ n. 8 * list.post_at + n) found.bits in
+            let most = refused_pages _ _ _ _ _ (8 * list.post_at) list.all list.parameter.value c.seek.new.self.place f.before _ list.docs f.block ps
             (rw c.seek.ensures.feed c.requires.feed.page) c.min.ensures whole found.from at rises (rw (← c.seek.ensures.feed) at shows) small e.pages in
             rw (← c.seek.ensures.feed) most;
         once = λ ps blocks rises whole shows small found.
-            let at : c.seek.new.self.place ≡ 8 * list.post_at + bits_before list.parameter (64 * f.block) ps = place ∙ ap (λ n. 8 * list.post_at + n) found.bits in
-            let on = refused_on {T = Inside} c.in-Err.refusal _ _ _ _ _ (8 * list.post_at) list.all list.parameter c.seek.new.self.place f.before _ list.docs f.block ps
+            let at : c.seek.new.self.place ≡ 8 * list.post_at + bits_before list.parameter.value (64 * f.block) ps = place ∙ ap (λ n. 8 * list.post_at + n) found.bits in
+            let on = refused_on {T = Inside} c.in-Err.refusal _ _ _ _ _ (8 * list.post_at) list.all list.parameter.value c.seek.new.self.place f.before _ list.docs f.block ps
             (rw c.seek.ensures.feed c.requires.feed.page) c.min.ensures whole found.from at rises (rw (← c.seek.ensures.feed) at shows) small e.pages in
             rw (← c.seek.ensures.feed) on;
         block = λ ps after within stands.
-            any_refused c.in-Err.refusal _ _ (block_filled _ list.all list.parameter (8 * list.post_at + f.at) c.min.result f.before f.last
+            any_refused c.in-Err.refusal _ _ (block_filled _ list.all list.parameter.value (8 * list.post_at + f.at) c.min.result f.before f.last
             c.seek.new.self.place ps c.fill.new.self (Err c.in-Err.refusal) (rw (c.min.ensures, c.seek.ensures.feed) stands) place e.told);
         lacks = damaged_weaker c.in-Err.refusal _ _ (λ bad lacks after within. inl lacks) (rw (c.seek.ensures.feed, place, c.min.ensures) at e.lacks);
       };

@@ -28,7 +28,7 @@ pub returns-in-Err-push_all-clause-step : goal.returns-in-Err-push_all-clause-st
 returns-in-Err-push_all-clause-step c = let step = c.in-Err-push_all.ensures.step in record { same = names_more _ _ _ c.begin.ensures.same step.same; own = step.own }
 
 pub returns-in-Ok-end_list-clause-step : goal.returns-in-Ok-end_list-clause-step
-returns-in-Ok-end_list-clause-step c = record { same = names_more _ _ _ (names_more _ _ _ c.begin.ensures.same c.in-Ok-push_all.ensures.step.same) c.end_list.ensures.same; own = tt }
+returns-in-Ok-end_list-clause-step c = record { same = names_more _ _ _ (names_more _ _ _ c.begin.ensures.same c.in-Ok-push_all.ensures.step.same) c.end_list.ensures.step.same; own = tt }
 
 pub returns-in-Err-end_list-clause-step : goal.returns-in-Err-end_list-clause-step
-returns-in-Err-end_list-clause-step c = record { same = names_more _ _ _ (names_more _ _ _ c.begin.ensures.same c.in-Ok-push_all.ensures.step.same) c.end_list.ensures.same; own = tt }
+returns-in-Err-end_list-clause-step c = record { same = names_more _ _ _ (names_more _ _ _ c.begin.ensures.same c.in-Ok-push_all.ensures.step.same) c.end_list.ensures.step.same; own = tt }

@@ -1,30 +1,16 @@
 use Rattle.std.proofs.Common.{arith}
-use Rattle.std.proofs.lemmas.List.{length-take-le}
 use Rattle.mg_post.proofs.ReadLaws.{any_refused}
 use Rattle.mg_post.proofs.block.Block.fill.Goals as goal
 
+pub read_block-requires-clause-room : goal.read_block-requires-clause-room
+read_block-requires-clause-room g c = omega (arith, c.self.invariant.0, c.requires.room)
+
 pub returns-in-Ok : goal.returns-in-Ok
-returns-in-Ok g c =
-    let e = c.in-Ok.ensures in
-    let i = c.self.invariant in
-    record {
-      fits = e.fits;
-      calm = e.calm;
-      read = e.read;
-      pages = tt;
-      place = e.place;
-      whole = length-take-le c.args.count c.read_block.new.out.items (omega (arith, e.kept, i.0, c.requires.room));
-      rises = e.rises;
-      last = e.last;
-      shows = e.shows;
-      lacks = tt;
-      told = e.told;
-      cause = tt;
-    }
+returns-in-Ok g c = c.in-Ok.ensures.read
 
 pub returns-in-Err : goal.returns-in-Err
 returns-in-Err g c =
-    let e = c.in-Err.ensures in
+    let e = c.in-Err.ensures.read in
     record {
       fits = e.fits;
       calm = e.calm;

@@ -10,14 +10,14 @@ pub returns-then-self-clause-step : goal.returns-then-self-clause-step
 returns-then-self-clause-step g c =
     let i = c.self.invariant in
     let fits = rw (← c.self.view_is) at c.requires.fits in
-    rw (← c.self.view_is) (step_ended _ c.args.doc c.args.doc (from_doc c.args.doc) _ _ _ fits i.9 i.3 c.if-self.true (i.7 c.if-self.true) i.10 (from_nothing c.args.doc))
+    rw (← c.self.view_is) (step_ended _ c.args.doc c.args.doc (from_doc c.args.doc) _ _ _ fits i.7 i.1 c.if-self.true (i.5 c.if-self.true) i.8 (from_nothing c.args.doc))
 
 pub returns-then-doc-self-clause-step : goal.returns-then-doc-self-clause-step
 returns-then-doc-self-clause-step g c =
     let i = c.self.invariant in
     let fits = rw (← c.self.view_is) at c.requires.fits in
     rw (← c.self.view_is)
-    (step_within _ c.forward.new.self c.args.doc c.current.result _ _ _ fits i.9 i.3 i.8 i.10 c.if-self.false c.requires.some c.if-doc-self.true c.forward.ensures c.current.ensures)
+    (step_within _ c.forward.new.self c.args.doc c.current.result _ _ _ fits i.7 i.1 i.6 i.8 c.if-self.false c.requires.some c.if-doc-self.true c.forward.ensures c.current.ensures)
 
 pub invariant_of-self : goal.invariant_of-self
 invariant_of-self g c =
@@ -27,14 +27,12 @@ invariant_of-self g c =
       i.2,
       i.3,
       i.4,
-      i.5,
-      i.6,
       λ e. absurd (false≢true (sym c.if-self.false ∙ e)),
-      forward_held c.self.inside.all c.self.inside.last c.args.doc c.self.inside.block c.forward.new.self i.8 c.forward.ensures,
-      i.9,
-      forward_none c.self.inside.all c.self.inside.last c.args.doc c.self.inside.docs c.self.inside.reached c.self.inside.block c.forward.new.self c.self.inside.ended i.8 i.10 c.if-self.false
+      forward_held c.self.inside.all c.self.inside.last c.args.doc c.self.inside.block c.forward.new.self i.6 c.forward.ensures,
+      i.7,
+      forward_none c.self.inside.all c.self.inside.last c.args.doc c.self.inside.docs c.self.inside.reached c.self.inside.block c.forward.new.self c.self.inside.ended i.6 i.8 c.if-self.false
           c.requires.some c.if-doc-self.true c.forward.ensures,
-      i.11,
+      i.9,
     )
 
 pub returns-then-doc-self-clause-stays : goal.returns-then-doc-self-clause-stays
@@ -46,4 +44,4 @@ returns-then-doc-self-clause-stays g c =
 
 pub returns-clause-stays : goal.returns-clause-stays
 returns-clause-stays g c =
-    rw (← c.self.view_is) (λ p is le. absurd (omega (arith, current_low c.self.inside.all c.self.inside.last c.self.inside.block p c.self.invariant.8 is, le, c.if-doc-self.false)))
+    rw (← c.self.view_is) (λ p is le. absurd (omega (arith, current_low c.self.inside.all c.self.inside.last c.self.inside.block p c.self.invariant.6 is, le, c.if-doc-self.false)))

@@ -21,7 +21,7 @@ returns-in-Err g c =
     let fits = rw (← c.self.view_is) at c.requires.fits in
     let on = rw (← c.self.view_is) at c.requires.on in
     let beyond = rw (← c.self.view_is) at c.requires.beyond in
-    let k = may_go _ _ c.args.doc c.count_blocks-blocks.result fits i.9 i.6 i.4 i.5 on i.8 i.10 beyond c.count_blocks-blocks.ensures i.3 i.11 in
+    let k = may_go _ _ c.args.doc c.count_blocks-blocks.result fits i.7 i.4 i.2 i.3 on i.6 i.8 beyond c.count_blocks-blocks.ensures i.1 i.9 in
     rw (← c.self.view_is) (step_unfound k _ c.in-Err.ensures c.refused_part.ensures)
 
 pub returns-in-Ok-None : goal.returns-in-Ok-None
@@ -30,7 +30,7 @@ returns-in-Ok-None g c =
     let fits = rw (← c.self.view_is) at c.requires.fits in
     let on = rw (← c.self.view_is) at c.requires.on in
     let beyond = rw (← c.self.view_is) at c.requires.beyond in
-    let k = may_go _ _ c.args.doc c.count_blocks-blocks.result fits i.9 i.6 i.4 i.5 on i.8 i.10 beyond c.count_blocks-blocks.ensures i.3 i.11 in
+    let k = may_go _ _ c.args.doc c.count_blocks-blocks.result fits i.7 i.4 i.2 i.3 on i.6 i.8 beyond c.count_blocks-blocks.ensures i.1 i.9 in
     let s = rw c.in-Ok-None.field-0-is at c.in-Ok-None.ensures in
     rw (← c.self.view_is) (step_past k c.clear.new.self s c.clear.ensures)
 
@@ -40,7 +40,7 @@ returns-in-Err-enter g c =
     let fits = rw (← c.self.view_is) at c.requires.fits in
     let on = rw (← c.self.view_is) at c.requires.on in
     let beyond = rw (← c.self.view_is) at c.requires.beyond in
-    let k = may_go _ _ c.args.doc c.count_blocks-blocks.result fits i.9 i.6 i.4 i.5 on i.8 i.10 beyond c.count_blocks-blocks.ensures i.3 i.11 in
+    let k = may_go _ _ c.args.doc c.count_blocks-blocks.result fits i.7 i.4 i.2 i.3 on i.6 i.8 beyond c.count_blocks-blocks.ensures i.1 i.9 in
     let s = rw c.in-Ok-Some.field-0-is at c.in-Ok-Some.ensures in
     let was : c.reads-before.result ≡ c.self.inside.post.feed.count = c.reads-before.ensures ∙ ap (λ (p : Paging). p.count) c.feed.ensures in
     let is : c.reads.result ≡ c.enter.new.r.feed.count = c.reads.ensures ∙ ap (λ (p : Paging). p.count) c.feed-in-Err-enter.ensures in
@@ -52,7 +52,7 @@ returns-in-Ok g c =
     let fits = rw (← c.self.view_is) at c.requires.fits in
     let on = rw (← c.self.view_is) at c.requires.on in
     let beyond = rw (← c.self.view_is) at c.requires.beyond in
-    let k = may_go _ _ c.args.doc c.count_blocks-blocks.result fits i.9 i.6 i.4 i.5 on i.8 i.10 beyond c.count_blocks-blocks.ensures i.3 i.11 in
+    let k = may_go _ _ c.args.doc c.count_blocks-blocks.result fits i.7 i.4 i.2 i.3 on i.6 i.8 beyond c.count_blocks-blocks.ensures i.1 i.9 in
     let s = rw c.in-Ok-Some.field-0-is at c.in-Ok-Some.ensures in
     rw (← c.self.view_is) (step_entered k s c.swap.new.x _ c.in-Ok.ensures c.swap.ensures.x_after c.saturating_add-self-inside-in-Ok.ensures)
 
@@ -63,15 +63,13 @@ invariant_of-self-in-Ok-None g c =
     let i = c.self.invariant in
     let skip = same_file c.self.inside.skip.feed c.find_block.new.r.feed _ _ c.in-Ok-None.ensures.calm in (
       i.0,
-      i.1,
-      i.2,
       omega (arith, c.count_blocks-blocks.ensures),
+      i.2,
+      skip.part ∙ i.3,
       i.4,
-      skip.part ∙ i.5,
-      i.6,
       λ e. c.clear.ensures,
       nothing_held c.self.inside.all c.self.inside.last c.clear.new.self c.clear.ensures,
-      i.9,
+      i.7,
       all_held c.self.inside.docs c.count_blocks-blocks.result c.self.inside.last c.clear.new.self true refl c.count_blocks-blocks.ensures,
-      i.11,
+      i.9,
     )

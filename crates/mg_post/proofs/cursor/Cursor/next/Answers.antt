@@ -9,20 +9,20 @@ pub returns-then-self-clause-step : goal.returns-then-self-clause-step
 returns-then-self-clause-step g c =
     let i = c.self.invariant in
     let fits = rw (← c.self.view_is) at c.requires.fits in
-    rw (← c.self.view_is) (step_ended _ _ _ (after c.self.inside.block) _ _ _ fits i.9 i.3 c.if-self.true (i.7 c.if-self.true) i.10 (after_nothing c.self.inside.block))
+    rw (← c.self.view_is) (step_ended _ _ _ (after c.self.inside.block) _ _ _ fits i.7 i.1 c.if-self.true (i.5 c.if-self.true) i.8 (after_nothing c.self.inside.block))
 
 pub returns-in-Some-clause-step : goal.returns-in-Some-clause-step
 returns-in-Some-clause-step g c =
     let i = c.self.invariant in
     let fits = rw (← c.self.view_is) at c.requires.fits in
     let step = c.in-Some.ensures in
-    rw (← c.self.view_is) (step_next _ c.step.new.self c.in-Some.posting _ _ _ fits i.9 i.3 i.8 c.if-self.false step.0 step.1 step.2)
+    rw (← c.self.view_is) (step_next _ c.step.new.self c.in-Some.posting _ _ _ fits i.7 i.1 i.6 c.if-self.false step.0 step.1 step.2)
 
 pub returns-in-None-clause-step : goal.returns-in-None-clause-step
 returns-in-None-clause-step g c =
     let step = c.in-None.ensures in
     let ahead = rw (step.1, c.number_behind.ensures) at c.enter_next.ensures in
-    rw (← c.self.view_is) (step_beyond _ _ c.enter_next.result _ _ _ _ _ _ c.if-self.false c.self.invariant.8 c.self.invariant.10 step.0 ahead)
+    rw (← c.self.view_is) (step_beyond _ _ c.enter_next.result _ _ _ _ _ _ c.if-self.false c.self.invariant.6 c.self.invariant.8 step.0 ahead)
 
 pub invariant_of-self : goal.invariant_of-self
 invariant_of-self g c =
@@ -32,11 +32,9 @@ invariant_of-self g c =
       i.2,
       i.3,
       i.4,
-      i.5,
-      i.6,
       λ e. absurd (false≢true (sym c.if-self.false ∙ e)),
-      step_rises c.self.inside.all c.self.inside.last c.step.result c.self.inside.block c.step.new.self c.step.ensures i.8,
+      step_rises c.self.inside.all c.self.inside.last c.step.result c.self.inside.block c.step.new.self c.step.ensures i.6,
+      i.7,
+      step_none c.self.inside.docs c.self.inside.reached c.self.inside.last c.step.result c.self.inside.block c.step.new.self c.self.inside.ended c.step.ensures i.8,
       i.9,
-      step_none c.self.inside.docs c.self.inside.reached c.self.inside.last c.step.result c.self.inside.block c.step.new.self c.self.inside.ended c.step.ensures i.10,
-      i.11,
     )

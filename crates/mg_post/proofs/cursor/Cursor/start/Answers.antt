@@ -26,7 +26,7 @@ returns-clause-term g c = λ collection asked t n told all.
       skip_at = c.args.info.now.skip_at;
       docs = c.args.info.now.docs;
       all = c.args.all;
-      parameter = c.parameter_for.result;
+      parameter = c.parameter_for.result.value;
       reached = 0;
       last = 0;
       held = c.in_ok-block.block;
@@ -42,7 +42,7 @@ returns-clause-term g c = λ collection asked t n told all.
       docs_is = refl;
       all_is = refl;
     })
-    c.parameter_for.ensures.value
+    c.parameter_for.ensures
     (λ ps. record { on = rw c.in_ok-block.ensures (starts ps) })
     refl
     (omega (arith, ap (λ (p : Paging). p.count) c.new-5.ensures.feed, c.in_ok-post.ensures.count))
@@ -57,8 +57,6 @@ returns-clause-whole g c = omega (arith, ap length c.in_ok-block.ensures)
 
 pub invariant_of-result : goal.invariant_of-result
 invariant_of-result g c = (
-  c.parameter_for.ensures.some,
-  c.parameter_for.ensures.small,
   omega arith,
   omega arith,
   ap (λ (p : Paging). p.part) c.new-5.ensures.feed ∙ c.in_ok-post.ensures.part,

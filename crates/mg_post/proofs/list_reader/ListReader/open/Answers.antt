@@ -6,16 +6,14 @@ use Rattle.mg_post.proofs.list_reader.ListReader.open.Goals as goal
 
 pub invariant_of-self : goal.invariant_of-self
 invariant_of-self g c = (
-  c.parameter_for-self-inside.ensures.some,
-  c.parameter_for-self-inside.ensures.small,
   omega arith,
   omega arith,
-  ap (λ (p : Paging). p.part) c.seek.ensures.feed ∙ c.self.invariant.4,
+  ap (λ (p : Paging). p.part) c.seek.ensures.feed ∙ c.self.invariant.2,
   nothing_held c.self.inside.all 0 c.clear.new.self c.clear.ensures,
 )
 
 pub returns : goal.returns
 returns g c =
     rw (← c.self.view_is)
-    (opens c.args.info.now _ _ c.seek.ensures.feed refl (omega (arith, c.seek.ensures.place, c.place_or_most.ensures)) c.parameter_for-self-inside.ensures.value
+    (opens c.args.info.now _ _ c.seek.ensures.feed refl (omega (arith, c.seek.ensures.place, c.place_or_most.ensures)) c.parameter_for-self-inside.ensures
     refl refl refl c.clear.ensures)

@@ -16,7 +16,7 @@ returns-in-Ok g c =
     let i = c.self.invariant in
     let fits = rw (← c.self.view_is) at c.requires.fits in
     let few = rw (← c.self.view_is) at c.requires.few in
-    let k = may_read _ _ c.min-count.result fits i.4 i.5 few (omega (arith, c.if-docs-passed.false, c.from-docs.ensures, c.from-passed.ensures))
+    let k = may_read _ _ c.min-count.result fits i.2 i.3 few (omega (arith, c.if-docs-passed.false, c.from-docs.ensures, c.from-passed.ensures))
     (omega (arith, c.min-count.ensures, c.from-docs.ensures, c.from-passed.ensures)) in
     rw (← c.self.view_is) (read_filled k c.current.result c.in-Ok.ensures c.current.ensures)
 
@@ -25,7 +25,7 @@ returns-in-Err g c =
     let i = c.self.invariant in
     let fits = rw (← c.self.view_is) at c.requires.fits in
     let few = rw (← c.self.view_is) at c.requires.few in
-    let k = may_read _ _ c.min-count.result fits i.4 i.5 few (omega (arith, c.if-docs-passed.false, c.from-docs.ensures, c.from-passed.ensures))
+    let k = may_read _ _ c.min-count.result fits i.2 i.3 few (omega (arith, c.if-docs-passed.false, c.from-docs.ensures, c.from-passed.ensures))
     (omega (arith, c.min-count.ensures, c.from-docs.ensures, c.from-passed.ensures)) in
     rw (← c.self.view_is) (read_refused k c.clear.new.self _ c.in-Err.ensures c.clear.ensures c.refused_part.ensures)
 
@@ -33,11 +33,9 @@ pub invariant_of-self : goal.invariant_of-self
 invariant_of-self g c =
     let i = c.self.invariant in
     let e = c.in-Ok.ensures in (
-      i.0,
-      i.1,
-      omega (arith, e.last, last_within c.self.inside.all c.self.inside.last c.fill.new.self i.2 e.rises),
+      omega (arith, e.last, last_within c.self.inside.all c.self.inside.last c.fill.new.self i.0 e.rises),
       omega (arith, c.if-docs-passed.false, c.from-docs.ensures, c.from-passed.ensures),
-      (same_file c.self.inside.post.feed c.fill.new.r.feed _ _ e.calm).part ∙ i.4,
+      (same_file c.self.inside.post.feed c.fill.new.r.feed _ _ e.calm).part ∙ i.2,
       block_whole c.self.inside.all c.self.inside.last c.in-Ok.last c.fill.new.self e.rises e.last,
     )
 
@@ -46,8 +44,6 @@ invariant_of-self-in-Err g c =
     let i = c.self.invariant in (
       i.0,
       i.1,
-      i.2,
-      i.3,
-      (same_file c.self.inside.post.feed c.fill.new.r.feed _ _ c.in-Err.ensures.calm).part ∙ i.4,
+      (same_file c.self.inside.post.feed c.fill.new.r.feed _ _ c.in-Err.ensures.calm).part ∙ i.2,
       nothing_held c.self.inside.all c.self.inside.last c.clear.new.self c.clear.ensures,
     )

@@ -7,8 +7,6 @@ pub invariant_of-result : goal.invariant_of-result
 invariant_of-result g c = (
   omega arith,
   omega arith,
-  omega arith,
-  omega arith,
   ap (λ (p : Paging). p.part) c.new-3.ensures.feed ∙ c.in_ok-post.ensures.part,
   nothing_held c.args.all 0 c.in_ok-block.block c.in_ok-block.ensures,
 )

@@ -11,6 +11,6 @@ pub returns-clause-took : goal.returns-clause-took
 returns-clause-took g c =
     took_none _ (g.S.Store.files c.args.store.now) (g.S.Store.files c.start.new.store) (g.S.Store.files c.start-2.new.store) (g.S.Store.reads c.args.store.now)
     (g.S.Store.reads c.start.new.store) (g.S.Store.reads c.start-2.new.store) refl refl refl refl refl refl refl c.in-Ok.ensures.place c.requires.all
-    (omega arith) c.parameter_of.ensures.value
+    (omega arith) c.parameter_of.ensures
     (λ same. two_parts (same_part_of_name c.args.base.now Post Skip (sym c.in-Ok.ensures.name ∙ same ∙ c.in-Ok-start.ensures.name))) c.in-Ok.ensures.empty
     c.in-Ok.ensures.wrote.told c.in-Ok.ensures.holds c.in-Ok-start.ensures.empty (rw (← c.in-Ok-start.ensures.name) at c.in-Ok-start.ensures.wrote)
