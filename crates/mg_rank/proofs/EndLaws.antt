@@ -1,11 +1,12 @@
 -- From the lists of all terms to the answer.
-use Rattle.std.proofs.Common.{arith, ◌≡◌, ◌+◌, ◌≤◌, ◌<◌, ℕ, zero, suc, Bool, List, [], ◌∷◌, ◌++◌, length, map, filter, take, get_or, sum_by, refl, sym, ap, subst, ◌∙◌, slice_index_or, Err, inl, inr}
+use Rattle.std.proofs.Common.{arith, ◌≡◌, ◌≢◌, ◌+◌, ◌≤◌, ◌<◌, ℕ, zero, suc, Bool, List, [], ◌∷◌, ◌++◌, length, map, filter, take, get_or, sum_by, refl, sym, ap, subst, ◌∙◌, slice_index_or, Err, inl, inr}
 use Rattle.std.specs.List.{All, enumerate_from, list_any}
 use Rattle.std.proofs.lemmas.List.{take_more, take_all}
 use Rattle.std.proofs.lemmas.List.Sums.{sum_by-append, sum_by-cons, sum_by-take-le}
 use Rattle.std.proofs.lemmas.Bool.{cases_Bool}
 use Rattle.std.proofs.lemmas.List.Elements.{All-nil, All-cons, All-head, All-tail}
 use Rattle.mg_dev.specs.Files.{Reads}
+use Rattle.mg_dev.specs.PartCauses.{HasPartCause}
 use Rattle.mg_dev.specs.declared.part_err.PartErr.{PartErr}
 use Rattle.mg_dev.specs.declared.part_err.PartErr.TheVariants as part
 use Rattle.mg_defs.specs.Split.{documents}
@@ -134,6 +135,12 @@ pub top_err : {A : Type 0} (e : PartErr) (f : A → Type 0) (collection : List �
 top_err part.Device f collection ts most got = tt
 top_err part.Memory f collection ts most got = tt
 top_err (part.Bad bad) f collection ts most got = absurd got
+
+-- a refusal that no device made
+pub calm_cause : {T : Type 0} (e : PartErr) {m n : ℕ} → e ≢ part.Device → m ≤ n → HasPartCause {T = T} m n (Err e)
+calm_cause part.Device calm later = absurd (calm refl)
+calm_cause part.Memory calm later = record { later = later; device = tt }
+calm_cause (part.Bad bad) calm later = record { later = later; device = tt }
 
 pub ranked_lists : {a b : Reads} → ReadsLists a b → ReadsRanked a b
 ranked_lists r = record { later = r.later; others = λ p x y z. r.others p x y }

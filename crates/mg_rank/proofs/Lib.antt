@@ -9,6 +9,8 @@ mod KeptLaws
 mod RowLaws
 mod EndLaws
 mod AddedLaws
+mod ListWalk
+mod RowWalk
 mod SizeLaws
 mod AscentLaws
 mod WeightLaws

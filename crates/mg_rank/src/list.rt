@@ -1,14 +1,9 @@
 //! What the list of a term adds to the sums.
-ghost use Rattle.std.specs.Prelude.{◌≡◌, ◌≢◌, ℕ, ◌+◌, ◌-◌, ◌*◌, ◌≤◌, ◌<◌, ◌^◌, Ok, Err, IfOk, IfSome, OnOk, OnErr};
-ghost use Rattle.mg_dev.specs.PartCauses.{HasPartCause};
+ghost use Rattle.std.specs.Prelude.{◌≡◌, ◌≢◌, ℕ, ◌*◌, ◌≤◌, ◌<◌, ◌^◌, Ok, Err, IfOk, OnOk, OnErr};
+ghost use Rattle.mg_dev.specs.Moments.{Between};
 ghost use Rattle.mg_defs.specs.Weights.{weight_of_term, weight_in_doc};
-ghost use Rattle.mg_defs.specs.PageBounds.{list_pages};
-ghost use Rattle.mg_post.specs.PagesOnce.{span_pages};
-ghost use Rattle.mg_post.specs.TermLists.{ReadsLists};
-ghost use Rattle.mg_rank.specs.Sums.{AreApart, AreWithin, sum_of, with_more};
-ghost use Rattle.mg_rank.specs.Ranked.{PostWithin, SkipWithin, ForTerm, AddsTerm, list_entries};
-ghost use Rattle.mg_rank.specs.Added.{AddsWhole};
-ghost use Rattle.mg_rank.specs.WeightReads.{ascents_in};
+ghost use Rattle.mg_rank.specs.Calls.{AddsList};
+ghost use Rattle.mg_rank.specs.Sums.{sum_of, with_more};
 
 use crate::sums::Sums;
 use mg_defs::Posting;
@@ -80,24 +75,8 @@ pub(crate) fn add_list<S: Store>(
     sums: &mut Sums,
 ) -> Result<(), PartErr>
     requires small { (d : ℕ) → sum_of d sums.old ≤ 2 ^ 40 }
-    ensures small { (n : ℕ) → ((d : ℕ) → sum_of d sums.old ≤ n) → (d : ℕ) →
-        sum_of d sums.new ≤ n + 2 ^ 29 }
-    ensures within { AreWithin all sums.old → AreWithin all sums.new }
-    ensures apart { AreApart sums.old → AreApart sums.new }
-    ensures whole { OnOk result (AddsWhole all info.now sums.old sums.new) }
-    ensures answer { AddsTerm base.now (S.files store.old) info.now all sums.old sums.new result }
-    ensures pages { ForTerm base.now (S.files store.old) info.now all
-        (λ collection t. PostWithin S.reads store.old store.new (list_pages collection t)) }
-    // Where the lists stand, no page of Post is read twice.
-    ensures once { ForTerm base.now (S.files store.old) info.now all
-        (λ collection t. PostWithin S.reads store.old store.new (span_pages collection t)) }
-    // Whatever the parts have, no more pages of Skip are read than the list's entries lie on.
-    ensures skips { SkipWithin S.reads store.old store.new (list_entries info.now) }
-    // The documents that had no sum yet make at most one ascent more.
-    ensures ascents { ascents_in sums.new ≤ ascents_in sums.old + 1 }
-    ensures reads { ReadsLists (S.reads store.old) (S.reads store.new) }
-    ensures files { S.files store.new ≡ S.files store.old }
-    ensures cause { HasPartCause (S.faults store.old) (S.faults store.new) result }
+    ensures { Between S.files S.reads S.faults store.old store.new
+        (AddsList base.now info.now all sums.old sums.new result) }
 {
     let weight = match weight_of_list(info.docs, all) {
         Ok(weight) => weight,

@@ -1,18 +1,18 @@
 //! A ranked answer.
-ghost use Rattle.std.specs.Prelude.{◌≡◌, ◌≢◌, ℕ, ◌*◌, ◌<◌, ◌≤◌, ◌^◌, List, IfOk, OnOk, IsSome, length, slice_index_or, sum_by};
+ghost use Rattle.std.specs.Prelude.{◌≡◌, ◌≢◌, ◌*◌, ◌<◌, ◌≤◌, ◌^◌, IfOk, OnOk, IsSome, length, slice_index_or, sum_by};
 ghost use Rattle.std.specs.List.{All};
 ghost use Rattle.mg_dev.specs.Files.{bytes_at};
+ghost use Rattle.mg_dev.specs.Moments.{Between};
 ghost use Rattle.mg_dev.specs.Names.{full_name};
 ghost use Rattle.mg_dev.specs.PartCauses.{HasPartCause};
 ghost use Rattle.mg_dev.specs.declared.part.Part.TheVariants as part;
 ghost use Rattle.mg_defs.specs.Weights.{Hit};
 ghost use Rattle.mg_defs.specs.PageBounds.{ranked_bound};
 ghost use Rattle.mg_post.specs.PagesOnce.{span_pages};
-ghost use Rattle.mg_post.specs.TermLists.{ReadsLists};
-ghost use Rattle.mg_rank.specs.Ranked.{AnswersOr, AnswersTop, IsNumbered, ReadsRanked, SumsFor, PostWithin, SkipWithin, ForTerms, ForRanked, list_entries};
-ghost use Rattle.mg_rank.specs.Added.{AddedTo, CountsWhole};
-ghost use Rattle.mg_rank.specs.WeightReads.{WeightsWithin, ascents_in, weight_pages};
-ghost use Rattle.mg_rank.specs.Sums.{AreApart, AreWithin, sum_of};
+ghost use Rattle.mg_rank.specs.Calls.{RanksTerms, SumsTerms};
+ghost use Rattle.mg_rank.specs.Ranked.{AnswersTop, IsNumbered, ReadsRanked, PostWithin, SkipWithin, ForTerms, ForRanked, list_entries};
+ghost use Rattle.mg_rank.specs.Added.{CountsWhole};
+ghost use Rattle.mg_rank.specs.WeightReads.{WeightsWithin, weight_pages};
 
 use crate::best::Kept;
 use crate::list::add_list;
@@ -108,21 +108,8 @@ fn sum_lists<S: Store>(
     all: u32,
 ) -> Result<Sums, PartErr>
     requires few { length terms.now ≤ 64 }
-    ensures answer { ForTerms base.now (S.files store.old) terms.now all
-        (λ collection ts. AnswersOr result (λ sums. SumsFor collection ts sums)) }
-    ensures small { IfOk result (λ sums. (d : ℕ) → sum_of d sums < 2 ^ 56) }
-    ensures within { IfOk result (λ sums. AreWithin all sums) }
-    ensures apart { IfOk result (λ sums. AreApart sums) }
-    ensures whole { IfOk result (AddedTo all terms.now (length terms.now)) }
-    ensures pages { ForTerms base.now (S.files store.old) terms.now all
-        (λ collection ts. PostWithin S.reads store.old store.new (ranked_bound collection ts)) }
-    ensures once { ForTerms base.now (S.files store.old) terms.now all (λ collection ts.
-        PostWithin S.reads store.old store.new (sum_by (span_pages collection) ts)) }
-    ensures skips { SkipWithin S.reads store.old store.new (sum_by list_entries terms.now) }
-    ensures ascents { IfOk result (λ sums. ascents_in sums ≤ length terms.now) }
-    ensures reads { ReadsLists (S.reads store.old) (S.reads store.new) }
-    ensures files { S.files store.new ≡ S.files store.old }
-    ensures cause { HasPartCause (S.faults store.old) (S.faults store.new) result }
+    ensures { Between S.files S.reads S.faults store.old store.new
+        (SumsTerms base.now terms.now all result) }
 {
     let mut sums = Sums::new(alloc);
     for info in terms {
@@ -163,21 +150,8 @@ fn rank_sized<S: Store>(
     most: u32,
 ) -> Result<Ranked, PartErr>
     requires few { length terms.now ≤ 64 }
-    ensures answer { ForRanked base.now (S.files store.old) terms.now all
-        (λ collection ts. AnswersTop result collection ts most) }
-    ensures range { IfOk result (λ r. All (IsNumbered all) r.rows) }
-    ensures whole { IfOk result (CountsWhole all terms.now) }
-    ensures pages { ForTerms base.now (S.files store.old) terms.now all
-        (λ collection ts. PostWithin S.reads store.old store.new (ranked_bound collection ts)) }
-    ensures once { ForTerms base.now (S.files store.old) terms.now all (λ collection ts.
-        PostWithin S.reads store.old store.new (sum_by (span_pages collection) ts)) }
-    ensures skips { SkipWithin S.reads store.old store.new (sum_by list_entries terms.now) }
-    ensures weights { WeightsWithin S.reads store.old store.new
-        (length terms.now * weight_pages all) }
-    ensures reads { ReadsRanked (S.reads store.old) (S.reads store.new) }
-    ensures none { most ≡ 0 → S.reads store.new part.Weights ≡ S.reads store.old part.Weights }
-    ensures files { S.files store.new ≡ S.files store.old }
-    ensures cause { HasPartCause (S.faults store.old) (S.faults store.new) result }
+    ensures { Between S.files S.reads S.faults store.old store.new
+        (RanksTerms base.now terms.now all most result) }
 {
     let sums = match sum_lists(alloc, store, base, terms, all) {
         Ok(sums) => sums,

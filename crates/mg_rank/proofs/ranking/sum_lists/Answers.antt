@@ -1,25 +1,42 @@
-use Rattle.std.proofs.Common.{arith, ◌+◌, ◌*◌, ◌^◌, [], take, get_or, refl, sym, ◌∙◌, subst}
+use Rattle.std.proofs.Common.{arith, ◌≡◌, ◌+◌, ◌*◌, ◌^◌, [], length, take, get_or, refl, sym, ◌∙◌, subst}
+use Rattle.mg_dev.proofs.CallerLemmas.{cause_err, cause_ok}
 use Rattle.mg_post.specs.PagesOnce.{span_pages}
 use Rattle.mg_post.specs.TermLists.{ListsStand}
+use Rattle.mg_rank.specs.Added.{AddedTo}
 use Rattle.mg_rank.proofs.AddedLaws.{added_next}
-use Rattle.mg_rank.proofs.EndLaws.{info_at, lists_on, once_end, once_next, post_end, post_next, skips_end, skips_next, sums_next}
+use Rattle.mg_rank.proofs.EndLaws.{info_at, lists_on, once_end, once_next, post_end, post_next, skips_end, skips_next, sums_end, sums_next}
 use Rattle.mg_rank.proofs.WalkLaws.{or_or}
 use Rattle.mg_rank.proofs.ranking.sum_lists.Goals as goal
 
-pub returns-in-Err-clause-answer : goal.returns-in-Err-clause-answer
-returns-in-Err-clause-answer g c = λ collection ts stand told all_is.
-    let stand2 = subst (λ fs. ListsStand c.args.base.now fs collection) (sym c.loop-info.invariant.files) stand in
-    let i = info_at collection ts c.args.terms.now c.loop-info.info-index _ told (omega arith) in
-    or_or c.in-Err.refusal _ _ (c.in-Err.ensures.answer collection (get_or ts c.loop-info.info-index []) (take c.loop-info.info-index ts) stand2 i.1 all_is
-    (c.loop-info.invariant.sums collection ts stand told all_is))
-
-pub returns-in-Err-clause-pages : goal.returns-in-Err-clause-pages
-returns-in-Err-clause-pages g c = λ collection ts stand told all_is.
-    let stand2 = subst (λ fs. ListsStand c.args.base.now fs collection) (sym c.loop-info.invariant.files) stand in
-    let i = info_at collection ts c.args.terms.now c.loop-info.info-index _ told (omega arith) in
-    post_end collection ts (c.loop-info.info-index + 1) _ _
-    (post_next collection ts c.loop-info.info-index _ _ _ i.0 (c.loop-info.invariant.post collection ts stand told all_is)
-    (c.add_list.ensures.pages collection (get_or ts c.loop-info.info-index []) stand2 i.1 all_is))
+-- a list was refused
+pub returns-in-Err : goal.returns-in-Err
+returns-in-Err g c =
+    let inv = c.loop-info.invariant in
+    let e = c.in-Err.ensures in
+    let k = c.loop-info.info-index in
+    record {
+      answer = λ collection ts stand told all_is.
+          let stand2 = subst (λ fs. ListsStand c.args.base.now fs collection) (sym inv.files) stand in
+          let i = info_at collection ts c.args.terms.now k _ told (omega arith) in
+          or_or c.in-Err.refusal _ _ (e.answer collection (get_or ts k []) (take k ts) stand2 i.1 all_is (inv.sums collection ts stand told all_is));
+      sums = tt;
+      whole = tt;
+      ascents = tt;
+      pages = λ collection ts stand told all_is.
+          let stand2 = subst (λ fs. ListsStand c.args.base.now fs collection) (sym inv.files) stand in
+          let i = info_at collection ts c.args.terms.now k _ told (omega arith) in
+          post_end collection ts (k + 1) _ _
+          (post_next collection ts k _ _ _ i.0 (inv.post collection ts stand told all_is) (e.pages collection (get_or ts k []) stand2 i.1 all_is));
+      once = λ collection ts stand told all_is.
+          let stand2 = subst (λ fs. ListsStand c.args.base.now fs collection) (sym inv.files) stand in
+          let i = info_at collection ts c.args.terms.now k _ told (omega arith) in
+          once_end (span_pages collection) ts (k + 1) _ _
+          (once_next (span_pages collection) ts k _ _ _ i.0 (inv.once collection ts stand told all_is) (e.once collection (get_or ts k []) stand2 i.1 all_is));
+      skips = skips_end c.args.terms.now (k + 1) _ _ (skips_next c.args.terms.now k _ _ _ _ _ (omega arith) refl inv.skips e.skips);
+      reads = lists_on inv.reads e.reads;
+      files = e.files ∙ inv.files;
+      cause = cause_err inv.faults e.cause;
+    }
 
 pub loop-info-preserved : goal.loop-info-preserved
 loop-info-preserved g c = record {
@@ -50,25 +67,21 @@ loop-info-preserved g c = record {
       (c.add_list.ensures.pages collection (get_or ts c.loop-info.info-index []) stand2 i.1 all_is);
 }
 
-pub returns-clause-pages : goal.returns-clause-pages
-returns-clause-pages g c = λ collection ts stand told all_is. post_end collection ts c.loop-info.info-index _ _ (c.loop-info.invariant.post collection ts stand told all_is)
-
-pub returns-clause-skips : goal.returns-clause-skips
-returns-clause-skips g c = skips_end c.args.terms.now c.loop-info.info-index _ _ c.loop-info.invariant.skips
-
-pub returns-in-Err-clause-skips : goal.returns-in-Err-clause-skips
-returns-in-Err-clause-skips g c =
-    skips_end c.args.terms.now (c.loop-info.info-index + 1) _ _
-    (skips_next c.args.terms.now c.loop-info.info-index _ _ _ _ _ (omega arith) refl c.loop-info.invariant.skips c.add_list.ensures.skips)
-
-pub returns-in-Err-clause-once : goal.returns-in-Err-clause-once
-returns-in-Err-clause-once g c = λ collection ts stand told all_is.
-    let stand2 = subst (λ fs. ListsStand c.args.base.now fs collection) (sym c.loop-info.invariant.files) stand in
-    let i = info_at collection ts c.args.terms.now c.loop-info.info-index _ told (omega arith) in
-    once_end (span_pages collection) ts (c.loop-info.info-index + 1) _ _
-    (once_next (span_pages collection) ts c.loop-info.info-index _ _ _ i.0 (c.loop-info.invariant.once collection ts stand told all_is)
-    (c.add_list.ensures.once collection (get_or ts c.loop-info.info-index []) stand2 i.1 all_is))
-
-pub returns-clause-once : goal.returns-clause-once
-returns-clause-once g c = λ collection ts stand told all_is.
-    once_end (span_pages collection) ts c.loop-info.info-index _ _ (c.loop-info.invariant.once collection ts stand told all_is)
+-- all lists were added
+pub returns : goal.returns
+returns g c =
+    let inv = c.loop-info.invariant in
+    let k = c.loop-info.info-index in
+    let all : k ≡ length c.args.terms.now = omega arith in
+    record {
+      answer = λ collection ts stand told all_is. sums_end collection ts k c.loop-info.sums (inv.sums collection ts stand told all_is) (omega (arith, told.size, all));
+      sums = record { within = inv.within; apart = inv.apart; small = λ d. omega (arith, inv.small d, c.requires) };
+      whole = subst (λ n. AddedTo c.args.all c.args.terms.now n c.loop-info.sums) all inv.added;
+      ascents = omega (arith, inv.ascents, all);
+      pages = λ collection ts stand told all_is. post_end collection ts k _ _ (inv.post collection ts stand told all_is);
+      once = λ collection ts stand told all_is. once_end (span_pages collection) ts k _ _ (inv.once collection ts stand told all_is);
+      skips = skips_end c.args.terms.now k _ _ inv.skips;
+      reads = inv.reads;
+      files = inv.files;
+      cause = cause_ok inv.faults;
+    }

@@ -1,0 +1,184 @@
+-- A list that is added, as far as it has come: what the loop keeps, and what each way out of it promises.
+use Rattle.std.proofs.Common.{arith, ◌≡◌, ◌+◌, ◌*◌, ◌^◌, ◌≤◌, ◌<◌, ℕ, List, length, refl, sym, subst, ◌∙◌, Option, Some, None, Ok, Err}
+use Rattle.std.specs.Prelude.{Result, OnOk}
+use Rattle.mg_dev.specs.Files.{Files, Reads}
+use Rattle.mg_dev.specs.PartCauses.{HasPartCause}
+use Rattle.mg_dev.specs.declared.part.Part.TheVariants as part
+use Rattle.mg_dev.specs.declared.part_err.PartErr.{PartErr}
+use Rattle.mg_dev.specs.declared.part_err.PartErr.TheVariants as err
+use Rattle.mg_dev.proofs.CallerLemmas.{cause_err, cause_ok}
+use Rattle.mg_defs.specs.declared.Posting.{Posting}
+use Rattle.mg_defs.specs.Split.{documents}
+use Rattle.mg_defs.specs.Lists.{postings}
+use Rattle.mg_defs.specs.Weights.{weight_in_doc, weight_of_term, wt}
+use Rattle.mg_defs.proofs.ListLaws.{list_rises}
+use Rattle.mg_defs.specs.PageBounds.{list_pages, numbers_in}
+use Rattle.mg_layout.specs.Infos.{IsInfoOf}
+use Rattle.mg_layout.specs.declared.term_info.TermInfo.{TermInfo}
+use Rattle.mg_post.specs.Cursor.{CursorFits, Cursoring, IsFrom, post_pages, skip_pages}
+use Rattle.mg_post.specs.PagesOnce.{span_pages}
+use Rattle.mg_post.specs.TermLists.{ListsStand, ReadsLists}
+use Rattle.mg_post.specs.WholeLists.{WalkStep}
+use Rattle.mg_post.proofs.CallerLemmas.{cursor_later, none_at}
+use Rattle.mg_rank.specs.Added.{AddsWhole}
+use Rattle.mg_rank.specs.Calls.{AddsList}
+use Rattle.mg_rank.specs.Ranked.{AddsTerm, ListFor, SumsFor, list_entries}
+use Rattle.mg_rank.specs.Sums.{AreApart, AreWithin, sum_of, with_more}
+use Rattle.mg_rank.specs.WeightReads.{ascents_in}
+use Rattle.mg_rank.proofs.AddedLaws.{Adding, adding_end, adding_next}
+use Rattle.mg_rank.proofs.Adding.{apart_more, within_more}
+use Rattle.mg_rank.proofs.AscentLaws.{AddsAscent, ascent_next}
+use Rattle.mg_rank.proofs.EndLaws.{list_third, lists_on}
+use Rattle.mg_rank.proofs.SumLaws.{Bounded, Walking, bounded_next, head_sound, walk_end, walk_next}
+use Rattle.mg_rank.proofs.WalkLaws.{or_list, told}
+
+-- nothing was read yet, and the sums are as they were
+pub adds_nothing : {base : List ℕ} {info : TermInfo} {all : ℕ} {old new : List (ℕ × ℕ)} {f : Option Files} {r : Reads} {n : ℕ} (e : PartErr) → new ≡ old →
+    AddsTerm {T = Unit {0}} base f info all old new (Err e) → HasPartCause {T = Unit {0}} n n (Err e) → AddsList base info all old new (Err e) f f r r n n
+adds_nothing {old = old} e same answer cause = record {
+  answer = answer;
+  whole = tt;
+  small = λ k small d. subst (λ s. sum_of d s ≤ k + 2 ^ 29) (sym same) (omega (arith, small d));
+  within = λ h. subst (AreWithin _) (sym same) h;
+  apart = λ h. subst AreApart (sym same) h;
+  ascents = subst (λ s. ascents_in s ≤ ascents_in old + 1) (sym same) (omega arith);
+  pages = λ collection t stand i all_is. omega arith;
+  once = λ collection t stand i all_is. omega arith;
+  skips = omega arith;
+  reads = record { later = λ p. omega arith; others = λ p a b. refl };
+  files = refl;
+  cause = cause;
+}
+
+-- the postings up to a document were added, and the cursor stands on that of it
+pub record Under (base : List ℕ) (info : TermInfo) (all last : ℕ) (old now : List (ℕ × ℕ)) (c : Cursoring) (files_before files_now : Option Files)
+    (reads_before reads_now : Reads) (faults_before faults_now : ℕ) : Type 0 where
+  pub most : last ≤ all
+  pub fits : CursorFits c files_now
+  pub all_is : c.all ≡ all
+  pub files : files_now ≡ files_before
+  pub reads : ReadsLists reads_before reads_now
+  pub skip_at : c.skip_at ≡ info.skip_at
+  pub docs : c.docs ≡ info.docs
+  pub third : skip_pages c ≤ list_entries info
+  pub skips : reads_now part.Skip ≤ reads_before part.Skip + skip_pages c
+  pub ascents : AddsAscent last old now
+  pub faults : faults_before ≤ faults_now
+  pub bounded : (n : ℕ) → ((d : ℕ) → sum_of d old ≤ n) → Bounded n last now
+  pub whole : Adding all info last old now c
+  pub within : AreWithin all old → AreWithin all now
+  pub apart : AreApart old → AreApart now
+  pub walk : (collection t : List ℕ) (done : List (List ℕ)) → ListsStand base files_before collection → IsInfoOf collection t info →
+      all ≡ length (documents collection) → SumsFor collection done old → Walking collection done t last now
+  pub list : (collection t : List ℕ) → ListsStand base files_before collection → IsInfoOf collection t info → all ≡ length (documents collection) →
+      ListFor base collection t last c
+  pub post : (collection t : List ℕ) → ListsStand base files_before collection → IsInfoOf collection t info → all ≡ length (documents collection) →
+      reads_now part.Post ≤ reads_before part.Post + post_pages c
+
+module _ {base : List ℕ} {info : TermInfo} {all last : ℕ} {old now : List (ℕ × ℕ)} {c v : Cursoring} {f g h : Option Files} {r s t : Reads} {l m n : ℕ} {result : Result (Option Posting) PartErr}
+    (u : Under base info all last old now c f g r s l m) (w : WalkStep c v last result g h s t m n) where
+  stand_now : (collection : List ℕ) → ListsStand base f collection → ListsStand base g collection
+  stand_now collection stand = subst (λ fs. ListsStand base fs collection) (sym u.files) stand
+
+  -- the cursor was asked for the next posting, and none was added to the sums
+  adds_now : (answer : Result (Unit {0}) PartErr) (new : List (ℕ × ℕ)) → new ≡ now → AddsTerm base f info all old new answer → OnOk answer (AddsWhole all info old new) →
+      HasPartCause l n answer → AddsList base info all old new answer f h r t l n
+  adds_now answer new same is whole cause = record {
+    answer = is;
+    whole = whole;
+    small = λ k small d. subst (λ s. sum_of d s ≤ k + 2 ^ 29) (sym same) ((u.bounded k small).each d);
+    within = λ h. subst (AreWithin all) (sym same) (u.within h);
+    apart = λ h. subst AreApart (sym same) (u.apart h);
+    ascents = subst (λ s. ascents_in s ≤ ascents_in old + 1) (sym same) u.ascents.few;
+    pages = λ collection t stand i all_is.
+        let list = u.list collection t stand i all_is in
+        omega (arith, u.post collection t stand i all_is, w.post base collection t (stand_now collection stand) list, w.within base collection t (stand_now collection stand) list);
+    once = λ collection t stand i all_is.
+        let list = u.list collection t stand i all_is in
+        omega (arith, u.post collection t stand i all_is, w.post base collection t (stand_now collection stand) list, w.span base collection t (stand_now collection stand) list);
+    skips = omega (arith, u.skips, w.skips, list_third info c v u.skip_at u.docs w.same w.third);
+    reads = lists_on u.reads w.reads;
+    files = w.files ∙ u.files;
+    cause = cause;
+  }
+
+-- the list has no posting more
+pub walk_none : {base : List ℕ} {info : TermInfo} {all last : ℕ} {old now : List (ℕ × ℕ)} {c v : Cursoring} {f g h : Option Files} {r s t : Reads} {l m n : ℕ} →
+    Under base info all last old now c f g r s l m → WalkStep c v last (Ok None) g h s t m n → AddsList base info all old now (Ok tt) f h r t l n
+walk_none {base} {info} {all} {last} {old} {now} {c} u w =
+    adds_now u w (Ok tt) now refl
+    (λ collection t done stand i all_is s.
+    let a = w.answer base collection t (stand_now u w collection stand) (u.list collection t stand i all_is) in
+    walk_end collection done t last now (u.walk collection t done stand i all_is s) (λ d low le. none_at collection t last d (sym a.found_is) low le))
+    (adding_end all info last old now c u.whole (w.next u.whole.next).0)
+    (cause_ok (omega (arith, u.faults, w.cause.later)))
+
+-- the cursor refused
+pub walk_err : {base : List ℕ} {info : TermInfo} {all last : ℕ} {old now : List (ℕ × ℕ)} {c v : Cursoring} {f g h : Option Files} {r s t : Reads} {l m n : ℕ} (e : PartErr) →
+    Under base info all last old now c f g r s l m → WalkStep c v last (Err e) g h s t m n → AddsList base info all old now (Err e) f h r t l n
+walk_err {base} {now = now} e u w =
+    adds_now u w (Err e) now refl
+    (λ collection t done stand i all_is s. or_list e _ _ (w.answer base collection t (stand_now u w collection stand) (u.list collection t stand i all_is)))
+    tt (cause_err u.faults w.cause)
+
+-- memory was wanting for a sum more
+pub walk_lack : {base : List ℕ} {info : TermInfo} {all last : ℕ} {old now new : List (ℕ × ℕ)} {c v : Cursoring} {p : Posting} {f g h : Option Files} {r s t : Reads} {l m n : ℕ} → new ≡ now →
+    Under base info all last old now c f g r s l m → WalkStep c v last (Ok (Some p)) g h s t m n → AddsList base info all old new (Err err.Memory) f h r t l n
+walk_lack {new = new} same u w =
+    adds_now u w (Err err.Memory) new same (λ collection t done stand i all_is s. tt) tt (record { later = omega (arith, u.faults, w.cause.later); device = tt })
+
+-- no set has so many documents
+pub walk_over : {base : List ℕ} {info : TermInfo} {all last : ℕ} {old now : List (ℕ × ℕ)} {c : Cursoring} {f g : Option Files} {r s : Reads} {l m : ℕ} (e : PartErr) →
+    Under base info all last old now c f g r s l m →
+    ((collection t : List ℕ) → ListFor base collection t last c → (post_pages c ≤ list_pages collection t) × (post_pages c ≤ span_pages collection t)) →
+    AddsTerm {T = Unit {0}} base f info all old now (Err e) → HasPartCause {T = Unit {0}} l m (Err e) → AddsList base info all old now (Err e) f g r s l m
+walk_over e u few answer cause = record {
+  answer = answer;
+  whole = tt;
+  small = λ k small d. (u.bounded k small).each d;
+  within = u.within;
+  apart = u.apart;
+  ascents = u.ascents.few;
+  pages = λ collection t stand i all_is. omega (arith, u.post collection t stand i all_is, (few collection t (u.list collection t stand i all_is)).0);
+  once = λ collection t stand i all_is. omega (arith, u.post collection t stand i all_is, (few collection t (u.list collection t stand i all_is)).1);
+  skips = omega (arith, u.skips, u.third);
+  reads = u.reads;
+  files = u.files;
+  cause = cause;
+}
+
+-- a posting was added
+pub walk_more : {base : List ℕ} {info : TermInfo} {all last weight : ℕ} {old now new : List (ℕ × ℕ)} {c v : Cursoring} {p : Posting} {f g h : Option Files} {r s t : Reads} {l m n : ℕ} →
+    Under base info all last old now c f g r s l m → WalkStep c v last (Ok (Some p)) g h s t m n → new ≡ with_more p.doc (weight_in_doc p.freq * weight) now →
+    weight_in_doc p.freq * weight ≤ 2 ^ 29 → weight ≡ weight_of_term info.docs all → Under base info all p.doc old new v f h r t l n
+walk_more {base} {info} {all} {last} {weight} {old} {now} {new} {c} {v} {p} u w is few weight_is =
+    let later : last < p.doc = omega (arith, w.sound.from) in
+    let within : p.doc ≤ all = omega (arith, w.sound.within, u.all_is) in
+    record {
+      most = within;
+      fits = w.fits;
+      all_is = w.same.all ∙ u.all_is;
+      files = w.files ∙ u.files;
+      reads = lists_on u.reads w.reads;
+      skip_at = w.same.skip_at ∙ u.skip_at;
+      docs = w.same.docs ∙ u.docs;
+      third = list_third info c v u.skip_at u.docs w.same w.third;
+      skips = omega (arith, u.skips, w.skips);
+      ascents = ascent_next last p.doc _ old now new later is u.ascents;
+      faults = omega (arith, u.faults, w.cause.later);
+      bounded = λ k small. rw is (bounded_next k last p.doc _ now (u.bounded k small) later few);
+      whole = adding_next all info last weight old now new c v p u.whole (w.next u.whole.next) (subst (λ k. IsFrom (last + 1) k p) u.all_is w.sound) weight_is is;
+      within = λ h. rw is (within_more all p.doc _ now (omega (arith, later)) within (u.within h));
+      apart = λ h. rw is (apart_more p.doc _ now (u.apart h));
+      walk = λ collection t done stand i all_is s.
+          let a = w.answer base collection t (stand_now u w collection stand) (u.list collection t stand i all_is) in
+          let front = head_sound (length (documents collection)) 0 (last + 1) (postings collection t) p (list_rises collection t stand.short) (sym a.found_is) in
+          let is_weight : weight ≡ wt collection t = weight_is ∙ (told collection t info all i all_is).weight in
+          rw is (walk_next collection done t last now p weight (u.walk collection t done stand i all_is s) (sym a.found_is) (omega (arith, front.0)) front.1 is_weight);
+      list = λ collection t stand i all_is.
+          let a = w.answer base collection t (stand_now u w collection stand) (u.list collection t stand i all_is) in
+          let front = head_sound (length (documents collection)) 0 (last + 1) (postings collection t) p (list_rises collection t stand.short) (sym a.found_is) in
+          cursor_later base collection (numbers_in (postings collection t)) t (last + 1) p.doc _ front.0 a.cursor;
+      post = λ collection t stand i all_is.
+          omega (arith, u.post collection t stand i all_is, w.post base collection t (stand_now u w collection stand) (u.list collection t stand i all_is));
+    }
