@@ -33,10 +33,20 @@ pub record HasSlots (pool : Pooled) (count : ℕ) : Type 0 where
   pub limit : pool.limit ≤ 2 ^ 30
   pub entries : pool.entries ≡ []
 
+-- more runs begin at these places than this width, and the pool has so many slots
+pub record HasMore (pool : Pooled) (width : ℕ) (places : List ℕ) : Type 0 where
+  pub slots : HasSlots pool width
+  pub more : width < length places
+
 -- the writer stands for its file, which is another than the one that is read
 pub record MayWrite (file : FileRef) (writer : BitWriting) (files : Option Files) : Type 0 where
   pub holds : Holds writer files
   pub apart : full_name file.base.now file.part ≢ writer.name
+
+-- the same of a writer that has put nothing yet
+pub record MayBegin (file : FileRef) (writer : BitWriting) (files : Option Files) : Type 0 where
+  pub apart : MayWrite file writer files
+  pub place : writer.place ≡ 0
 
 -- the pool has a slot for each run that begins at these places of a file, and the writer stands at a byte of another file
 pub record MayJoin (pool : Pooled) (file : FileRef) (places : List ℕ) (w : BitWriting) (files : Option Files) : Type 0

@@ -98,7 +98,7 @@ impl<'a> Group<'a> {
         places: &[u64],
     ) -> Result<Self, PartErr>
         requires slots { HasSlots pool (length places.now) }
-        ensures { Between S.files S.reads S.faults store.old store.new
+        ensures group { Between S.files S.reads S.faults store.old store.new
             (GroupLoaded pool file.entry places.now result) }
     {
         pool.use_slots(places.len());

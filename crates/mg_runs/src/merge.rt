@@ -50,7 +50,7 @@ impl<'a> Merge<'a> {
         requires limit { round.pool.limit ≤ 2 ^ 30 }
         requires entries { round.pool.entries ≡ [] }
         requires part { IsRunPart round.file.part }
-        ensures { Between S.files S.reads S.faults store.old store.new
+        ensures opened { Between S.files S.reads S.faults store.old store.new
             (MergeOpened round.entry runs result) }
     {
         let Round { pool, places, file } = round;

@@ -4,7 +4,7 @@ ghost use Rattle.mg_dev.specs.Moments.{Between};
 ghost use Rattle.mg_runs.specs.Cursors.{Tells};
 ghost use Rattle.mg_runs.specs.Joins.{IsRunPart, WritesRun, other, GroupsJoined};
 ghost use Rattle.mg_runs.specs.Reading.{ForGroup, ForStored};
-ghost use Rattle.mg_runs.specs.Steps.{HasSlots, IsMade, MayJoin, MayWrite, PoolBack, RoundJoined, RoundWritten, RoundsDone, RunStep};
+ghost use Rattle.mg_runs.specs.Steps.{HasMore, HasSlots, IsMade, MayBegin, MayJoin, PoolBack, RoundJoined, RoundWritten, RoundsDone, RunStep};
 
 use crate::Pool;
 use crate::join::{join, refused};
@@ -86,10 +86,8 @@ fn join_groups<S: Store>(
     width: usize,
     w: &mut BitWriter<'_>,
 ) -> Result<Joined, PartErr>
-    requires slots { HasSlots pool width }
-    requires more { width < length stored.places.now }
-    requires writer { MayWrite stored.file w.old (S.files store.old) }
-    requires place { w.old.place ≡ 0 }
+    requires more { HasMore pool width stored.places.now }
+    requires begun { MayBegin stored.file w.old (S.files store.old) }
     ensures told { ForStored stored.entry.file (S.files store.old) stored.entry.places.now
         (λ runs. Tells result (GroupsJoined width runs S.files store.old store.new w.old w.new)) }
     ensures made { IfOk result (λ made. IsMade width (length stored.entry.places.now) pool made) }
@@ -127,11 +125,9 @@ impl<'a> Round<'a> {
         width: usize,
         w: &mut BitWriter<'_>,
     ) -> Result<Joined, PartErr>
-        requires slots { HasSlots self.pool width }
-        requires more { width < length self.places.items }
-        requires writer { MayWrite self.file w.old (S.files store.old) }
-        requires place { w.old.place ≡ 0 }
-        ensures { Between S.files S.reads S.faults store.old store.new
+        requires more { HasMore self.pool width self.places.items }
+        requires begun { MayBegin self.file w.old (S.files store.old) }
+        ensures written { Between S.files S.reads S.faults store.old store.new
             (RoundWritten width self.entry w.old.name result) }
     {
         let Round { pool, places, file } = self;
@@ -156,10 +152,9 @@ impl<'a> Round<'a> {
         store: &mut S,
         width: usize,
     ) -> Result<Round<'a>, PartErr>
-        requires slots { HasSlots self.pool width }
-        requires more { width < length self.places.items }
+        requires more { HasMore self.pool width self.places.items }
         requires part { IsRunPart self.file.part }
-        ensures { Between S.files S.reads S.faults store.old store.new
+        ensures joined { Between S.files S.reads S.faults store.old store.new
             (RoundJoined width self.entry result) }
     {
         let to = FileRef {
@@ -190,7 +185,7 @@ impl<'a> Round<'a> {
         requires some { 2 ≤ width }
         requires slots { HasSlots self.pool width }
         requires part { IsRunPart self.file.part }
-        ensures { Between S.files S.reads S.faults store.old store.new
+        ensures done { Between S.files S.reads S.faults store.old store.new
             (RoundsDone width self.entry result) }
     {
         let mut round = self;

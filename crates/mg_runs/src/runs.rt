@@ -196,7 +196,7 @@ impl<'a> Runs<'a> {
     /// gives no run.
     fn close<S: Store>(&mut self, store: &mut S) -> Result<(), PutErr>
         requires fed { (fed : List (ℕ × ℕ)) × IsFed self.old (S.files store.old) fed }
-        ensures { Between S.files S.reads S.faults store.old store.new
+        ensures closed { Between S.files S.reads S.faults store.old store.new
             (RunsClosed self.old self.new result) }
     {
         if self.pool.used() > 0 {
@@ -215,7 +215,7 @@ impl<'a> Runs<'a> {
     /// The runs of all occurrences, in a part that is ended.
     fn finish<S: Store>(self, store: &mut S) -> Result<Round<'a>, PartErr>
         requires fed { (fed : List (ℕ × ℕ)) × IsFed self (S.files store.old) fed }
-        ensures { Between S.files S.reads S.faults store.old store.new
+        ensures finished { Between S.files S.reads S.faults store.old store.new
             (RunsFinished self.entry result) }
     {
         let mut runs = self;
@@ -241,7 +241,7 @@ impl<'a> Runs<'a> {
         requires fed { (fed : List (ℕ × ℕ)) × IsFed self (S.files store.old) fed }
         requires some { 2 ≤ width }
         requires room { width ≤ self.pool.limit / 64 }
-        ensures { Between S.files S.reads S.faults store.old store.new
+        ensures merged { Between S.files S.reads S.faults store.old store.new
             (RunsMerged width self.entry result) }
     {
         let alloc = self.alloc;

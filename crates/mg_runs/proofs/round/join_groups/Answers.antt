@@ -16,10 +16,10 @@ returns-in-Err-join_next g c =
     record {
       told = λ told whole is.
           let joining = inv.told told whole is in
-          let same = passed_bytes inv.step.writer.pass.passed c.requires.writer.apart in
+          let same = passed_bytes inv.step.writer.pass.passed c.requires.begun.apart.apart in
           let group
-          = joining_next _ c.args.stored.places.now whole c.args.width c.loop-at.at (c.loop-at.at + c.min.result) _ _ _ _ _ is joining c.requires.place c.requires.slots.some
-          c.requires.more c.loop-at-test.true (omega (arith, c.min.ensures)) in
+          = joining_next _ c.args.stored.places.now whole c.args.width c.loop-at.at (c.loop-at.at + c.min.result) _ _ _ _ _ is joining c.requires.begun.place c.requires.more.slots.some
+          c.requires.more.more c.loop-at-test.true (omega (arith, c.min.ensures)) in
           let next = rw same at c.in-Err-join_next.ensures.told in
           tells_err Joined Joined _ _ c.in-Err-join_next.refusal (next (inv.step.writer.pass.passed.told ∙ told) _ group.0 group.1);
       made = tt;
@@ -33,10 +33,10 @@ loop-at-init g c = record {
   limit = search rules;
   count = search rules;
   peak = search rules;
-  step = run_none {T = Unit {0}} _ _ _ c.requires.place c.requires.writer.holds;
+  step = run_none {T = Unit {0}} _ _ _ c.requires.begun.place c.requires.begun.apart.holds;
   told = λ told whole is.
       subst (λ p. IsJoining c.args.width is.runs 0 p (g.S.Store.files c.args.store.now) (g.S.Store.files c.args.store.now) c.args.w.now c.args.w.now)
-      (sym c.in-Ok.ensures.items) (joining_none c.args.width is.runs (g.S.Store.files c.args.store.now) c.args.w.now c.requires.slots.some);
+      (sym c.in-Ok.ensures.items) (joining_none c.args.width is.runs (g.S.Store.files c.args.store.now) c.args.w.now c.requires.more.slots.some);
 }
 
 pub loop-at-preserved : goal.loop-at-preserved
@@ -63,17 +63,17 @@ loop-at-preserved g c =
       step = run_ok (run_then inv.step.writer c.in-Ok-join_next.ensures.step);
       told = λ told whole is.
           let joining = inv.told told whole is in
-          let same = passed_bytes inv.step.writer.pass.passed c.requires.writer.apart in
-          let group = joining_next _ c.args.stored.places.now whole c.args.width at end _ _ _ _ _ is joining c.requires.place c.requires.slots.some c.requires.more less e in
+          let same = passed_bytes inv.step.writer.pass.passed c.requires.begun.apart.apart in
+          let group = joining_next _ c.args.stored.places.now whole c.args.width at end _ _ _ _ _ is joining c.requires.begun.place c.requires.more.slots.some c.requires.more.more less e in
           let next = rw same at c.in-Ok-join_next.ensures.told in
           let wrote = next (inv.step.writer.pass.passed.told ∙ told) _ group.0 group.1 in
-          joining_more is joining c.requires.place less e inv.step.writer.pass.passed.told wrote push;
+          joining_more is joining c.requires.begun.place less e inv.step.writer.pass.passed.told wrote push;
     }
 
 pub returns : goal.returns
 returns g c =
     let inv = c.loop-at.invariant in
-    let some = c.requires.slots.some in
+    let some = c.requires.more.slots.some in
     record {
       told = λ told whole is. joining_end _ c.args.stored.places.now whole c.args.width c.loop-at.at _ _ _ _ _ is (inv.told told whole is) some c.loop-at-test.false;
       made = record {
@@ -89,7 +89,7 @@ join_next-requires g c =
     record {
       ready = record {
         slots = record { some = search rules; room = search rules; limit = search rules; entries = search rules };
-        writer = record { holds = inv.step.writer.holds; apart = λ e. c.requires.writer.apart (e ∙ inv.step.writer.name) };
+        writer = record { holds = inv.step.writer.holds; apart = λ e. c.requires.begun.apart.apart (e ∙ inv.step.writer.name) };
         whole = inv.step.whole;
       };
     }
@@ -98,5 +98,5 @@ pub returns-in-Err : goal.returns-in-Err
 returns-in-Err g c = record {
   told = λ told whole is. tt;
   made = tt;
-  step = run_err (writer_bad {T = Unit {0}} {x = tt} Memory (writer_none _ _ _ c.requires.writer.holds) (λ f g. tt) tt);
+  step = run_err (writer_bad {T = Unit {0}} {x = tt} Memory (writer_none _ _ _ c.requires.begun.apart.holds) (λ f g. tt) tt);
 }
