@@ -1,5 +1,5 @@
 -- The documents of two texts, given one after the other.
-use Rattle.std.proofs.Common.{arith, ◌≡◌, ◌≤◌, ◌<◌, ◌+◌, ◌-◌, ◌++◌, ◌∷◌, ◌∙◌, ℕ, List, [], length, take, drop, Option, refl, sym, ap}
+use Rattle.std.proofs.Common.{arith, ◌≡◌, ◌≤◌, ◌<◌, ◌+◌, ◌-◌, ◌++◌, ◌∙◌, ℕ, List, [], length, take, drop, Option, refl, sym, ap}
 use Rattle.std.proofs.lemmas.List.{append_assoc, length-append, take-append-drop}
 use Rattle.mg_dev.specs.Files.{Files}
 use Rattle.mg_defs.specs.Split.{close, documents, has_open_end, is_closed, joined}
@@ -10,20 +10,12 @@ use Rattle.mg_merge.proofs.TextLaws.{documents_of_texts}
 
 -- ---- the bytes of one document
 
--- one byte more
-pub one_more : (fed bytes : List ℕ) (i byte : ℕ) → take (i + 1) bytes ≡ take i bytes ++ byte ∷ [] → (fed ++ take i bytes) ++ byte ∷ [] ≡ fed ++ take (i + 1) bytes
-one_more fed bytes i byte is = append_assoc fed (take i bytes) (byte ∷ []) ∙ ap (λ t. fed ++ t) (sym is)
+-- the first of them, the others and what is behind these
+pub all_behind : (fed held rest : List ℕ) (k : ℕ) → fed ++ (take k held ++ (drop k held ++ rest)) ≡ fed ++ (held ++ rest)
+all_behind fed held rest k = ap (λ t. fed ++ t) (sym (append_assoc (take k held) (drop k held) rest) ∙ ap (λ t. t ++ rest) (take-append-drop k held))
 
--- and the others behind it
-pub others_behind : (fed bytes : List ℕ) (i byte : ℕ) → take (i + 1) bytes ≡ take i bytes ++ byte ∷ [] → ((fed ++ take i bytes) ++ byte ∷ []) ++ drop (i + 1) bytes ≡ fed ++ bytes
-others_behind fed bytes i byte is = ap (λ t. t ++ drop (i + 1) bytes) (one_more fed bytes i byte is)
-    ∙ append_assoc fed (take (i + 1) bytes) (drop (i + 1) bytes) ∙ ap (λ t. fed ++ t) (take-append-drop (i + 1) bytes)
-
--- with more bytes behind these
-pub more_behind : (fed bytes more : List ℕ) (i byte : ℕ) → take (i + 1) bytes ≡ take i bytes ++ byte ∷ [] → (fed ++ take i bytes) ++ byte ∷ (drop (i + 1) bytes ++ more) ≡ fed ++ (bytes ++ more)
-more_behind fed bytes more i byte is =
-    sym (append_assoc (fed ++ take i bytes) (byte ∷ []) (drop (i + 1) bytes ++ more)) ∙ sym (append_assoc ((fed ++ take i bytes) ++ byte ∷ []) (drop (i + 1) bytes) more)
-    ∙ ap (λ t. t ++ more) (others_behind fed bytes i byte is) ∙ append_assoc fed bytes more
+pub first_behind : (fed held rest : List ℕ) (k : ℕ) → (fed ++ take k held) ++ (drop k held ++ rest) ≡ (fed ++ held) ++ rest
+first_behind fed held rest k = append_assoc fed (take k held) (drop k held ++ rest) ∙ all_behind fed held rest k ∙ sym (append_assoc fed held rest)
 
 -- ---- documents
 

@@ -1,6 +1,5 @@
 -- Bytes that are counted and written one after the other, and why a pass over them stops.
-use Rattle.std.proofs.Common.{◌≡◌, ◌<◌, ◌+◌, ◌^◌, ◌++◌, ◌∙◌, ℕ, List, [], length, Option, Some, Ok, Err, IsSome, is_some, sym, ap, subst, inl, inr}
-use Rattle.std.proofs.lemmas.List.{append_assoc}
+use Rattle.std.proofs.Common.{◌≡◌, ◌<◌, ◌^◌, ◌++◌, ◌∙◌, ℕ, List, [], length, Option, Some, Ok, Err, IsSome, is_some, sym, subst, inl, inr}
 use Rattle.std.specs.Prelude.{IfErr, Result}
 use Rattle.mg_dev.specs.Faults.{IsDamagedPart, ReadStops}
 use Rattle.mg_dev.specs.Files.{Files, file_at}
@@ -9,9 +8,9 @@ use Rattle.mg_dev.specs.declared.fault.Fault.{Fault}
 use Rattle.mg_dev.specs.declared.fault.Fault.TheVariants as cause
 use Rattle.mg_dev.specs.declared.part.Part.TheVariants.{Head}
 use Rattle.mg_defs.specs.Limits.{version_2}
-use Rattle.mg_defs.specs.Marks.{Mark, PassesFirst, piece, start}
+use Rattle.mg_defs.specs.Marks.{PassesFirst, piece, start}
 use Rattle.mg_layout.specs.Stands.{StandsForNone}
-use Rattle.mg_make.specs.Counting.{CountStops, EndStops, PassWith}
+use Rattle.mg_make.specs.Counting.{CountStops, EndStops}
 use Rattle.mg_make.specs.Listing.{ListStops}
 use Rattle.mg_make.specs.Plans.{IsPlanOf, Plan}
 use Rattle.mg_make.specs.Putting.{HasPut, IsUnbuilt, Putting}
@@ -20,28 +19,6 @@ use Rattle.mg_make.specs.Outcomes.{Left}
 use Rattle.mg_merge.specs.Stops.{CountingStops, Differ, IsRetold}
 
 -- ---- counting
-
--- what is passed is passed whatever follows
-pub pass_on : (fed more : List ℕ) (mark : Mark) → PassWith fed mark → PassWith (fed ++ more) mark
-pass_on fed more mark pass = λ rest. subst (λ bytes. PassesFirst version_2 bytes mark) (sym (append_assoc fed more rest)) (pass (more ++ rest))
-
-pub count_stops_on : (fed more : List ℕ) (fault : Fault) → CountStops fed fault → CountStops (fed ++ more) fault
-count_stops_on fed more cause.Usage stop = absurd stop
-count_stops_on fed more cause.StoreFault stop = absurd stop
-count_stops_on fed more cause.ReadFault stop = absurd stop
-count_stops_on fed more cause.WriteFault stop = absurd stop
-count_stops_on fed more cause.NotBuilt stop = absurd stop
-count_stops_on fed more (cause.Damaged bad) stop = absurd stop
-count_stops_on fed more cause.NoCollection stop = absurd stop
-count_stops_on fed more (cause.TooLarge bytes most) stop = absurd stop
-count_stops_on fed more cause.TooManyDocuments stop = pass_on fed more start stop
-count_stops_on fed more (cause.TooManyPieces kind) stop = (stop.0, pass_on fed more (piece kind stop.0) stop.1)
-count_stops_on fed more (cause.Changed what one two) stop = absurd stop
-count_stops_on fed more cause.Memory stop = tt
-count_stops_on fed more (cause.NameClash part) stop = absurd stop
-count_stops_on fed more cause.InputTooLong stop = absurd stop
-count_stops_on fed more cause.SameName stop = absurd stop
-count_stops_on fed more (cause.TooManyRotations count) stop = absurd stop
 
 pub counting_stops : (now : Type 0) (stands : List ℕ → Type 0) (fed : List ℕ) (fault : Fault) →
     ((collection : List ℕ) → stands collection → (rest : List ℕ) × (fed ++ rest ≡ collection)) → CountStops fed fault → CountingStops now stands fault

@@ -1,8 +1,8 @@
 //! The first pass over two texts.
-ghost use Rattle.std.specs.Prelude.{◌<◌, ◌≤◌, ◌+◌, ◌^◌, ◌++◌, ℕ, List, [], length, IfErr, IfOk, OnOk};
+ghost use Rattle.std.specs.Prelude.{◌≤◌, ◌^◌, ℕ, List, [], IfErr, IfOk, OnOk};
 ghost use Rattle.mg_dev.specs.Moments.{Between};
 ghost use Rattle.mg_dev.specs.Causes.{Rose};
-ghost use Rattle.mg_make.specs.Counting.{CountStops, HasCounted};
+ghost use Rattle.mg_make.specs.Counting.{HasCounted};
 ghost use Rattle.mg_make.specs.Plans.{IsPlan, IsPlanOf, IsRoomFor};
 ghost use Rattle.mg_merge.specs.Looks.{LooksAtTexts};
 ghost use Rattle.mg_merge.specs.Stops.{CountingStops};
@@ -14,24 +14,6 @@ use crate::retelling::{too_long, too_short};
 use mg_dev::{Fault, Store};
 use mg_make::{Count, Plan, Room};
 use std::alloc::Global;
-
-// Counts the bytes of one document.
-fn count_document(count: &mut Count, bytes: &[u8]) -> Result<(), Fault>
-    requires given { (fed : List ℕ) × HasCounted count.old fed ×
-        (length fed + length bytes.now < 2 ^ 32) }
-    ensures given { OnOk result ((fed : List ℕ) → HasCounted count.old fed → HasCounted count.new
-        (fed ++ bytes.now)) }
-    ensures refused { IfErr result (λ fault. (fed : List ℕ) → HasCounted count.old fed → CountStops
-        (fed ++ bytes.now) fault) }
-{
-    for byte in bytes {
-        match count.take(*byte) {
-            Ok(()) => {}
-            Err(refusal) => return Err(refusal),
-        }
-    }
-    Ok(())
-}
 
 // Counts each document of the texts.
 fn count_documents<'a, S: Store, D: Documents<'a, S>>(
@@ -60,7 +42,7 @@ fn count_documents<'a, S: Store, D: Documents<'a, S>>(
         if found > left {
             return Err(Fault::Damaged(too_long(size - left, left, found)));
         }
-        match count_document(count, texts.bytes()) {
+        match count.take_all(texts.bytes()) {
             Ok(()) => {}
             Err(refusal) => return Err(refusal),
         }

@@ -1,14 +1,14 @@
 //! The second pass over two texts.
-ghost use Rattle.std.specs.Prelude.{◌≡◌, ◌<◌, ◌≤◌, ◌+◌, ◌^◌, ◌++◌, ℕ, List, [], length, IfErr, OnOk, Some};
+ghost use Rattle.std.specs.Prelude.{◌≡◌, ◌<◌, ◌≤◌, ◌^◌, ℕ, List, [], IfErr, OnOk, Some};
 ghost use Rattle.std.specs.Option.{IsSome};
 ghost use Rattle.mg_dev.specs.Causes.{Rose};
 ghost use Rattle.mg_dev.specs.Faults.{ReadStops};
-ghost use Rattle.mg_dev.specs.Files.{SameReads, file_at};
+ghost use Rattle.mg_dev.specs.Files.{file_at};
 ghost use Rattle.mg_dev.specs.Names.{full_name};
 ghost use Rattle.mg_dev.specs.declared.part.Part.TheVariants as part;
 ghost use Rattle.mg_make.specs.Outcomes.{BetweenMoments};
 ghost use Rattle.mg_make.specs.Plans.{IsPlan, IsRoomFor};
-ghost use Rattle.mg_make.specs.Putting.{HasPut, NextRefused, OthersSame};
+ghost use Rattle.mg_make.specs.Putting.{HasPut, OthersSame};
 ghost use Rattle.mg_merge.specs.Looks.{reads_index};
 ghost use Rattle.mg_merge.specs.Passes.{AreAllGiven, AreApart, ArePlanned};
 ghost use Rattle.mg_merge.specs.Texts.{TextsFit};
@@ -21,38 +21,6 @@ use mg_dev::{Fault, Store};
 use mg_make::{Plan, Room, SetWriter, Summary, empty_heads_stand_for_none};
 use std::alloc::Global;
 
-// Writes what the bytes of one document make.
-fn put_document<S: Store>(
-    store: &mut S,
-    writer: &mut SetWriter<'_>,
-    bytes: &[u8],
-) -> Result<(), Fault>
-    requires put { (fed : List ℕ) × HasPut writer.old (S.files store.old) fed ×
-        (length fed + length bytes.now < 2 ^ 32) }
-    requires head { IsSome (S.files store.old) →
-        file_at (S.files store.old) (full_name writer.old.base part.Head) ≡ Some [] }
-    ensures put { OnOk result ((fed : List ℕ) → HasPut writer.old (S.files store.old) fed →
-        HasPut writer.new (S.files store.new) (fed ++ bytes.now)) }
-    ensures base { writer.new.base ≡ writer.old.base }
-    ensures plan { writer.new.plan ≡ writer.old.plan }
-    ensures limit { writer.new.limit ≡ writer.old.limit }
-    ensures head { IsSome (S.files store.old) →
-        file_at (S.files store.new) (full_name writer.old.base part.Head) ≡ Some [] }
-    ensures others { OthersSame writer.old.base (S.files store.old) (S.files store.new) }
-    ensures reads { SameReads (S.reads store.old) (S.reads store.new) }
-    ensures later { S.faults store.old ≤ S.faults store.new }
-    ensures refused { NextRefused writer.old (λ more. bytes.now ++ more)
-        S.files S.faults store.old store.new result }
-{
-    for byte in bytes {
-        match writer.take(store, *byte) {
-            Ok(()) => {}
-            Err(refusal) => return Err(refusal),
-        }
-    }
-    Ok(())
-}
-
 // Gives each document of the texts to the writer of their set.
 fn put_documents<'a, S: Store, D: Documents<'a, S>>(
     store: &mut S,
@@ -62,8 +30,6 @@ fn put_documents<'a, S: Store, D: Documents<'a, S>>(
     requires fits { TextsFit (D.texts texts.old) (S.files store.old) }
     requires apart { AreApart writer.old.base (D.texts texts.old) }
     requires nothing { HasPut writer.old (S.files store.old) [] }
-    requires head { IsSome (S.files store.old) →
-        file_at (S.files store.old) (full_name writer.old.base part.Head) ≡ Some [] }
     ensures put { OnOk result ((fed : List ℕ) × AreAllGiven (D.texts texts.old)
         (S.files store.old) fed × HasPut writer.new (S.files store.new) fed) }
     ensures few { (D.texts texts.old).size < 2 ^ 32 }
@@ -89,7 +55,7 @@ fn put_documents<'a, S: Store, D: Documents<'a, S>>(
         if found > left {
             return Err(Fault::Damaged(too_long(size - left, left, found)));
         }
-        match put_document(store, writer, texts.bytes()) {
+        match writer.take_all(store, texts.bytes()) {
             Ok(()) => {}
             Err(refusal) => return Err(retold(refusal)),
         }

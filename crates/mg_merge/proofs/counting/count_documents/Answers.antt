@@ -1,9 +1,9 @@
-use Rattle.std.proofs.Common.{arith, ◌≡◌, ◌<◌, ◌≤◌, ◌+◌, ◌-◌, ◌∙◌, ◌++◌, [], ℕ, List, length, drop, sym, ap}
+use Rattle.std.proofs.Common.{arith, ◌≡◌, ◌<◌, ◌≤◌, ◌+◌, ◌∙◌, ◌++◌, [], ℕ, List, length, take, drop, sym, ap}
 use Rattle.mg_defs.specs.Split.{documents, has_open_end, joined}
 use Rattle.mg_make.proofs.CallerLemmas.{rose_behind}
 use Rattle.mg_merge.specs.Passes.{AreGiven}
 use Rattle.mg_merge.specs.Texts.{TextsStand, closed_document}
-use Rattle.mg_merge.proofs.GivenLaws.{first_next, given_each, given_nothing, given_one_more, short_next, too_little, too_much}
+use Rattle.mg_merge.proofs.GivenLaws.{first_behind, first_next, given_each, given_nothing, given_one_more, short_next, too_little, too_much}
 use Rattle.mg_merge.proofs.PassLaws.{counting_stops}
 use Rattle.mg_merge.proofs.LookLaws.{looks_more, looks_nothing}
 use Rattle.mg_merge.proofs.StopLaws.{read_counts}
@@ -55,8 +55,8 @@ returns-then-found-left-clause-refused g c = λ collection stand.
 
 -- ---- a document is counted
 
-pub count_document-requires : goal.count_document-requires
-count_document-requires g c =
+pub take_all-requires : goal.take_all-requires
+take_all-requires g c =
     let so_far = c.loop-index.invariant in
     let texts = g.D.Documents.texts c.args.texts.now in
     let before = g.S.Store.files c.args.store.now in
@@ -75,8 +75,8 @@ count_document-requires g c =
     let within : length c.bytes.result.now ≤ c.loop-index.left = omega (arith, c.if-found-left.false) in
     record { given = (fed, so_far.counted.2, omega (arith, given.size, c.requires.fits.few, count, within)) }
 
-pub returns-in-Err-count_document-clause-refused : goal.returns-in-Err-count_document-clause-refused
-returns-in-Err-count_document-clause-refused g c =
+pub returns-in-Err-take_all-clause-refused : goal.returns-in-Err-take_all-clause-refused
+returns-in-Err-take_all-clause-refused g c =
     let so_far = c.loop-index.invariant in
     let texts = g.D.Documents.texts c.args.texts.now in
     let before = g.S.Store.files c.args.store.now in
@@ -91,12 +91,15 @@ returns-in-Err-count_document-clause-refused g c =
       stands = texts_stand_on texts (g.D.Documents.texts c.loop-index.texts) before middle collection so_far.same so_far.looks.files stand;
       short = short_next texts before collection fed c.loop-index.index c.loop-index.left c.requires.fits more given stand;
     }) in
-    counting_stops _ _ (fed ++ held) c.in-Err-count_document.refusal
-    (λ collection stand. (
-      joined (drop (c.loop-index.index + 1) (documents collection)) (has_open_end collection),
-      first_next texts before collection fed held c.loop-index.index c.loop-index.left c.requires.fits more given stand (is collection stand),
+    let stop = c.in-Err-take_all.ensures.refused in
+    counting_stops _ _ (fed ++ take (stop.taken + 1) held) c.in-Err-take_all.refusal
+    (λ collection stand.
+    let rest = joined (drop (c.loop-index.index + 1) (documents collection)) (has_open_end collection) in (
+      drop (stop.taken + 1) held ++ rest,
+      first_behind fed held rest (stop.taken + 1)
+          ∙ first_next texts before collection fed held c.loop-index.index c.loop-index.left c.requires.fits more given stand (is collection stand),
     ))
-    (c.in-Err-count_document.ensures.refused fed so_far.counted.2)
+    (stop.stops fed so_far.counted.2)
 
 pub loop-index-preserved : goal.loop-index-preserved
 loop-index-preserved g c =
@@ -123,7 +126,7 @@ loop-index-preserved g c =
       counted = (
         fed ++ held,
         given_one_more texts before fed held c.loop-index.index c.loop-index.left (length c.bytes.result.now) c.requires.fits more given is count within,
-        c.in-Ok-count_document.ensures.given fed so_far.counted.2,
+        c.in-Ok-take_all.ensures.given fed so_far.counted.2,
       );
     }
 
@@ -153,8 +156,8 @@ returns-in-Err-clause-looks g c = looks_more c.loop-index.invariant.looks c.in-E
 pub returns-then-found-left-clause-looks : goal.returns-then-found-left-clause-looks
 returns-then-found-left-clause-looks g c = looks_more c.loop-index.invariant.looks c.in-Ok.ensures.looks
 
-pub returns-in-Err-count_document-clause-looks : goal.returns-in-Err-count_document-clause-looks
-returns-in-Err-count_document-clause-looks g c = looks_more c.loop-index.invariant.looks c.in-Ok.ensures.looks
+pub returns-in-Err-take_all-clause-looks : goal.returns-in-Err-take_all-clause-looks
+returns-in-Err-take_all-clause-looks g c = looks_more c.loop-index.invariant.looks c.in-Ok.ensures.looks
 
 pub returns-then-left-gt0-clause-looks : goal.returns-then-left-gt0-clause-looks
 returns-then-left-gt0-clause-looks g c = c.loop-index.invariant.looks

@@ -1,5 +1,5 @@
-use Rattle.std.proofs.Common.{arith, ◌≡◌, ◌<◌, ◌≤◌, ◌+◌, ◌-◌, ◌^◌, ◌∙◌, ◌++◌, [], ℕ, List, length, drop, sym, ap, subst, rules, Some}
-use Rattle.std.proofs.lemmas.List.{append_assoc, length-append}
+use Rattle.std.proofs.Common.{arith, ◌≡◌, ◌<◌, ◌≤◌, ◌+◌, ◌^◌, ◌∙◌, ◌++◌, [], ℕ, List, length, take, drop, sym, ap, subst, rules, Some}
+use Rattle.std.proofs.lemmas.List.{append_assoc, length-append, length-take}
 use Rattle.mg_dev.specs.Causes.{Rose}
 use Rattle.mg_dev.specs.Files.{file_at}
 use Rattle.mg_dev.specs.Names.{full_name}
@@ -11,7 +11,7 @@ use Rattle.mg_make.specs.Written.{SecondStops}
 use Rattle.mg_make.proofs.CallerLemmas.{others_more, others_none, rose_behind}
 use Rattle.mg_merge.specs.Passes.{AreGiven}
 use Rattle.mg_merge.specs.Texts.{TextsStand, closed_document}
-use Rattle.mg_merge.proofs.GivenLaws.{first_next, given_each, given_nothing, given_one_more, short_next, too_much}
+use Rattle.mg_merge.proofs.GivenLaws.{all_behind, first_next, given_each, given_nothing, given_one_more, short_next, too_much}
 use Rattle.mg_merge.proofs.LookLaws.{none_index, outside_index}
 use Rattle.mg_merge.proofs.PassLaws.{put_stops, second_differs, still_put, still_told}
 use Rattle.mg_merge.proofs.StayLaws.{apart_still, fits_stay, texts_stay}
@@ -26,7 +26,7 @@ loop-index-init g c = record {
   base = search rules;
   plan = search rules;
   limit = search rules;
-  head = c.requires.head;
+  head = c.requires.nothing.head;
   others = others_none _ _ _ (search rules);
   index = search rules;
   later = omega arith;
@@ -95,8 +95,8 @@ returns-then-found-left-clause-head g c = λ told. subst (λ f. file_at f (full_
 
 -- ---- a document is written
 
-pub put_document-requires : goal.put_document-requires
-put_document-requires g c =
+pub take_all-requires : goal.take_all-requires
+take_all-requires g c =
     let so_far = c.loop-index.invariant in
     let base = c.args.writer.now.base in
     let texts = g.D.Documents.texts c.args.texts.now in
@@ -117,12 +117,7 @@ put_document-requires g c =
     let count : length c.bytes.result.now ≡ length held = ap (λ (bytes : List ℕ). length bytes) (c.bytes.ensures ∙ sym c.bytes-in-loop-index.ensures) in
     let within : length c.bytes.result.now ≤ c.loop-index.left = omega (arith, c.if-found-left.false) in
     let has : HasPut c.loop-index.writer read fed = still_put c.loop-index.writer middle read fed c.in-Ok.ensures.looks.files so_far.put.2 in
-    let read_others : OthersSame base before read = subst (λ f. OthersSame base before f) (sym c.in-Ok.ensures.looks.files) so_far.others in
-    record {
-      put = (fed, has, omega (arith, given.size, c.requires.fits.few, count, within));
-      head = λ told. subst (λ f. file_at f (full_name c.loop-index.writer.base Head) ≡ Some []) (sym c.in-Ok.ensures.looks.files)
-          (subst (λ b. file_at middle (full_name b Head) ≡ Some []) (sym so_far.base) (so_far.head (sym read_others.told ∙ told)));
-    }
+    record { put = (fed, has, omega (arith, given.size, c.requires.fits.few, count, within)) }
 
 pub retold-requires : goal.retold-requires
 retold-requires g c =
@@ -146,11 +141,14 @@ retold-requires g c =
     let count : length c.bytes.result.now ≡ length held = ap (λ (bytes : List ℕ). length bytes) (c.bytes.ensures ∙ sym c.bytes-in-loop-index.ensures) in
     let within : length c.bytes.result.now ≤ c.loop-index.left = omega (arith, c.if-found-left.false) in
     let has : HasPut c.loop-index.writer read fed = still_put c.loop-index.writer middle read fed c.in-Ok.ensures.looks.files so_far.put.2 in
-    let short : length (fed ++ (held ++ [])) < 2 ^ 32 = omega (arith, length-append fed (held ++ []), length-append held [], given.size, c.requires.fits.few, count, within) in
-    second_differs _ _ c.in-Err-put_document.refusal (c.in-Err-put_document.ensures.refused fed [] has short)
+    let stop = c.in-Err-take_all.ensures.refused in
+    let run = take (stop.taken + 1) held in
+    let short : length (fed ++ (run ++ [])) < 2 ^ 32
+    = omega (arith, length-append fed (run ++ []), length-append run [], length-take (stop.taken + 1) held, given.size, c.requires.fits.few, count, within) in
+    second_differs _ _ c.in-Err-take_all.refusal (stop.stops fed [] has short)
 
-pub returns-in-Err-put_document-clause-refused : goal.returns-in-Err-put_document-clause-refused
-returns-in-Err-put_document-clause-refused g c =
+pub returns-in-Err-take_all-clause-refused : goal.returns-in-Err-take_all-clause-refused
+returns-in-Err-take_all-clause-refused g c =
     let so_far = c.loop-index.invariant in
     let base = c.args.writer.now.base in
     let texts = g.D.Documents.texts c.args.texts.now in
@@ -171,20 +169,24 @@ returns-in-Err-put_document-clause-refused g c =
     let count : length c.bytes.result.now ≡ length held = ap (λ (bytes : List ℕ). length bytes) (c.bytes.ensures ∙ sym c.bytes-in-loop-index.ensures) in
     let within : length c.bytes.result.now ≤ c.loop-index.left = omega (arith, c.if-found-left.false) in
     let has : HasPut c.loop-index.writer read fed = still_put c.loop-index.writer middle read fed c.in-Ok.ensures.looks.files so_far.put.2 in
-    let short : length (fed ++ (held ++ [])) < 2 ^ 32 = omega (arith, length-append fed (held ++ []), length-append held [], given.size, c.requires.fits.few, count, within) in
-    let rose = Rose (g.S.Store.faults c.read.new.store) (g.S.Store.faults c.put_document.new.store) in
-    put_stops rose _ _ c.args.writer.now.plan (λ more. fed ++ (held ++ more)) c.in-Err-put_document.refusal c.retold.result
+    let stop = c.in-Err-take_all.ensures.refused in
+    let run = take (stop.taken + 1) held in
+    let short : length (fed ++ (run ++ [])) < 2 ^ 32
+    = omega (arith, length-append fed (run ++ []), length-append run [], length-take (stop.taken + 1) held, given.size, c.requires.fits.few, count, within) in
+    let rose = Rose (g.S.Store.faults c.read.new.store) (g.S.Store.faults c.take_all.new.store) in
+    put_stops rose _ _ c.args.writer.now.plan (λ more. fed ++ (run ++ more)) c.in-Err-take_all.refusal c.retold.result
     (λ rises. rose_behind _ _ _ (omega (arith, so_far.later, c.in-Ok.ensures.looks.later)) rises) short
     (λ some.
     let rest = joined (drop (c.loop-index.index + 1) (documents some.0)) (has_open_end some.0) in
-    let whole : fed ++ (held ++ rest) ≡ some.0
-    = sym (append_assoc fed held rest) ∙ first_next texts before some.0 fed held c.loop-index.index c.loop-index.left c.requires.fits more given some.1 (is some.0 some.1) in
-    (rest, subst (λ n. n < 2 ^ 32) (some.1.size ∙ sym (ap length whole)) c.requires.fits.few, subst (IsPlanOf c.args.writer.now.plan) (sym whole) some.2))
+    let behind = drop (stop.taken + 1) held ++ rest in
+    let whole : fed ++ (run ++ behind) ≡ some.0
+    = all_behind fed held rest (stop.taken + 1) ∙ sym (append_assoc fed held rest) ∙ first_next texts before some.0 fed held c.loop-index.index c.loop-index.left c.requires.fits more given some.1 (is some.0 some.1) in
+    (behind, subst (λ n. n < 2 ^ 32) (some.1.size ∙ sym (ap length whole)) c.requires.fits.few, subst (IsPlanOf c.args.writer.now.plan) (sym whole) some.2))
     c.retold.ensures
-    (λ more few. subst (λ plan. SecondStops rose (IsPlanOf plan (fed ++ (held ++ more))) c.in-Err-put_document.refusal) so_far.plan (c.in-Err-put_document.ensures.refused fed more has few))
+    (λ more few. subst (λ plan. SecondStops rose (IsPlanOf plan (fed ++ (run ++ more))) c.in-Err-take_all.refusal) so_far.plan (stop.stops fed more has few))
 
-pub returns-in-Err-put_document-clause-others : goal.returns-in-Err-put_document-clause-others
-returns-in-Err-put_document-clause-others g c =
+pub returns-in-Err-take_all-clause-others : goal.returns-in-Err-take_all-clause-others
+returns-in-Err-take_all-clause-others g c =
     let so_far = c.loop-index.invariant in
     let base = c.args.writer.now.base in
     let texts = g.D.Documents.texts c.args.texts.now in
@@ -194,16 +196,16 @@ returns-in-Err-put_document-clause-others g c =
     let fed = so_far.put.0 in
     let given : AreGiven texts before c.loop-index.index c.loop-index.left fed = so_far.put.1 in
     let read_others : OthersSame base before read = subst (λ f. OthersSame base before f) (sym c.in-Ok.ensures.looks.files) so_far.others in
-    let now = g.S.Store.files c.put_document.new.store in
-    let put_others : OthersSame base read now = subst (λ b. OthersSame b read now) so_far.base c.in-Err-put_document.ensures.others in
+    let now = g.S.Store.files c.take_all.new.store in
+    let put_others : OthersSame base read now = subst (λ b. OthersSame b read now) so_far.base c.in-Err-take_all.ensures.others in
     others_more base before read now read_others put_others
 
-pub returns-in-Err-put_document-clause-index : goal.returns-in-Err-put_document-clause-index
-returns-in-Err-put_document-clause-index g c =
-    none_index _ _ c.in-Err-put_document.ensures.reads ∙ outside_index _ _ c.in-Ok.ensures.looks.unread ∙ c.loop-index.invariant.index
+pub returns-in-Err-take_all-clause-index : goal.returns-in-Err-take_all-clause-index
+returns-in-Err-take_all-clause-index g c =
+    none_index _ _ c.in-Err-take_all.ensures.reads ∙ outside_index _ _ c.in-Ok.ensures.looks.unread ∙ c.loop-index.invariant.index
 
-pub returns-in-Err-put_document-clause-head : goal.returns-in-Err-put_document-clause-head
-returns-in-Err-put_document-clause-head g c = λ told.
+pub returns-in-Err-take_all-clause-head : goal.returns-in-Err-take_all-clause-head
+returns-in-Err-take_all-clause-head g c = λ told.
     let so_far = c.loop-index.invariant in
     let base = c.args.writer.now.base in
     let texts = g.D.Documents.texts c.args.texts.now in
@@ -213,7 +215,7 @@ returns-in-Err-put_document-clause-head g c = λ told.
     let fed = so_far.put.0 in
     let given : AreGiven texts before c.loop-index.index c.loop-index.left fed = so_far.put.1 in
     let read_others : OthersSame base before read = subst (λ f. OthersSame base before f) (sym c.in-Ok.ensures.looks.files) so_far.others in
-    subst (λ b. file_at (g.S.Store.files c.put_document.new.store) (full_name b Head) ≡ Some []) so_far.base (c.in-Err-put_document.ensures.head (still_told before read read_others.told told))
+    subst (λ b. file_at (g.S.Store.files c.take_all.new.store) (full_name b Head) ≡ Some []) so_far.base (c.in-Err-take_all.ensures.head (still_told before read read_others.told told))
 
 pub loop-index-preserved : goal.loop-index-preserved
 loop-index-preserved g c =
@@ -238,23 +240,23 @@ loop-index-preserved g c =
     let within : length c.bytes.result.now ≤ c.loop-index.left = omega (arith, c.if-found-left.false) in
     let has : HasPut c.loop-index.writer read fed = still_put c.loop-index.writer middle read fed c.in-Ok.ensures.looks.files so_far.put.2 in
     let read_others : OthersSame base before read = subst (λ f. OthersSame base before f) (sym c.in-Ok.ensures.looks.files) so_far.others in
-    let now = g.S.Store.files c.put_document.new.store in
-    let put_others : OthersSame base read now = subst (λ b. OthersSame b read now) so_far.base c.in-Ok-put_document.ensures.others in
+    let now = g.S.Store.files c.take_all.new.store in
+    let put_others : OthersSame base read now = subst (λ b. OthersSame b read now) so_far.base c.in-Ok-take_all.ensures.others in
     let same = texts_more texts (g.D.Documents.texts c.loop-index.texts) (g.D.Documents.texts c.read.new.self) so_far.same c.in-Ok.ensures.same in
     record {
       fits = fits_stay base (g.D.Documents.texts c.read.new.self) read now (apart_still base texts (g.D.Documents.texts c.read.new.self) same c.requires.apart) put_others c.in-Ok.ensures.fits;
       same = same;
-      base = c.in-Ok-put_document.ensures.base ∙ so_far.base;
-      plan = c.in-Ok-put_document.ensures.plan ∙ so_far.plan;
-      limit = c.in-Ok-put_document.ensures.limit ∙ so_far.limit;
-      head = λ told. subst (λ b. file_at now (full_name b Head) ≡ Some []) so_far.base (c.in-Ok-put_document.ensures.head (still_told before read read_others.told told));
+      base = c.in-Ok-take_all.ensures.base ∙ so_far.base;
+      plan = c.in-Ok-take_all.ensures.plan ∙ so_far.plan;
+      limit = c.in-Ok-take_all.ensures.limit ∙ so_far.limit;
+      head = λ told. subst (λ b. file_at now (full_name b Head) ≡ Some []) so_far.base (c.in-Ok-take_all.ensures.head (still_told before read read_others.told told));
       others = others_more base before read now read_others put_others;
-      index = none_index _ _ c.in-Ok-put_document.ensures.reads ∙ outside_index _ _ c.in-Ok.ensures.looks.unread ∙ so_far.index;
-      later = omega (arith, so_far.later, c.in-Ok.ensures.looks.later, c.in-Ok-put_document.ensures.later);
+      index = none_index _ _ c.in-Ok-take_all.ensures.reads ∙ outside_index _ _ c.in-Ok.ensures.looks.unread ∙ so_far.index;
+      later = omega (arith, so_far.later, c.in-Ok.ensures.looks.later, c.in-Ok-take_all.ensures.later);
       put = (
         fed ++ held,
         given_one_more texts before fed held c.loop-index.index c.loop-index.left (length c.bytes.result.now) c.requires.fits more given is count within,
-        c.in-Ok-put_document.ensures.put fed has,
+        c.in-Ok-take_all.ensures.put fed has,
       );
     }
 
