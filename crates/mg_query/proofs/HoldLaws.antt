@@ -1,5 +1,5 @@
 -- A query holds where its document satisfies it.
-use Rattle.std.proofs.Common.{◌≡◌, ℕ, suc, ◌<◌, ◌&&◌, ◌||◌, Bool, true, false, not, List, [], ◌∷◌, ◌++◌, length, drop, get_or, arith, sym, ap, subst, ◌∙◌, append_assoc, append-nil}
+use Rattle.std.proofs.Common.{◌≡◌, ℕ, suc, ◌&&◌, ◌||◌, Bool, false, not, List, [], ◌∷◌, ◌++◌, length, drop, get_or, arith, sym, ap, subst, ◌∙◌, append_assoc, append-nil}
 use Rattle.mg_defs.specs.Sat.{Query, term, both, either, without, satisfies}
 use Rattle.mg_defs.specs.QueryTerms.{query_terms}
 use Rattle.mg_defs.specs.Weights.{has_term}

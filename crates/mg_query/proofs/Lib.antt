@@ -3,4 +3,4 @@ mod Steps
 mod AheadFew
 mod LineSteps
 mod HoldLaws
-mod PhraseSteps
+mod WordSteps

@@ -1,22 +1,22 @@
 -- The steps of the parser.
-use Rattle.std.proofs.Common.{◌≡◌, ℕ, suc, ◌+◌, ◌-◌, ◌<◌, ◌≤◌, Bool, true, false, List, [], ◌∷◌, ◌++◌, length, Option, Some, None, refl, sym, ◌∙◌, ap, subst, append_assoc, append-nil, add-one, arith, ◌==◌, inl, inr, length-append, nat_le, nat_lt, IfSome}
+use Rattle.std.proofs.Common.{◌≡◌, ◌≢◌, ℕ, suc, ◌+◌, ◌-◌, ◌<◌, ◌≤◌, Bool, true, false, List, [], ◌∷◌, ◌++◌, length, Option, Some, None, refl, sym, ◌∙◌, ap, subst, append_assoc, append-nil, add-one, arith, ◌==◌, inl, inr, length-append, nat_le, nat_lt, IfSome}
 use Rattle.std.proofs.lemmas.Bool.{cases_Bool}
 use Rattle.std.proofs.lemmas.Bool.Decides.{leb_tells}
 use Rattle.std.proofs.lemmas.List.{length-map}
+use Rattle.std.proofs.lemmas.Option.{IfSome_then}
 use Rattle.mg_defs.specs.Terms.{folded}
 use Rattle.mg_defs.specs.Sat.{Query, term, both, either, without}
 use Rattle.mg_defs.specs.Tokens.{Token, word, bar, amp, bang, opening, closing, PlacedToken, placed, onto_word_at, onto_word, onto_sign, sign_of, tokens_from, tokens, bare}
 use Rattle.mg_defs.specs.Grammar.{Level, or_level, and_level, not_level, Derives, either_of, only_and, both_of, both_with, only_not, not_of, inside, one_word}
 use Rattle.mg_defs.specs.Walk.{start_spot}
 use Rattle.mg_defs.specs.Read.{refusal_from, negated, boolean, boolean_or, query_of}
-use Rattle.mg_defs.specs.Refusals.{Refusal, syntax, too_deep, too_long, too_many, reads, refused}
+use Rattle.mg_defs.specs.Refusals.{Refusal, syntax, reads, refused}
 use Rattle.mg_defs.specs.Parse.{is_word_byte}
 use Rattle.mg_defs.proofs.ReadLaws.{query_is}
 use Rattle.mg_query.specs.RefusalOf.{refusal_of}
-use Rattle.mg_query.specs.Ahead.{StopsOr, JoinsTo, JoinsBy}
+use Rattle.mg_query.specs.Ahead.{StopsAnd, StopsOr, IsNotAhead, JoinsTo, JoinsBy}
 use Rattle.mg_query.specs.Parsed.{at_depth, Reads, IsStopped}
 use Rattle.mg_query.specs.declared.query_err.QueryErr.{QueryErr}
-use Rattle.mg_query.specs.declared.query_err.QueryErr.TheVariants.{Syntax, TooDeep, TermTooLong, TooManyTerms, Memory}
 
 -- ---- one token
 
@@ -126,6 +126,32 @@ reads-only-not d size before after q r = record { read = r.read; whole = r.whole
 
 pub reads-only-and : (d size : ℕ) (before after : List PlacedToken) (q : Query) → Reads and_level d size before after q → Reads or_level d size before after q
 reads-only-and d size before after q r = record { read = r.read; whole = r.whole; derives = only_and r.derives; goes_on = r.goes_on }
+
+-- ---- what may stand behind a list
+
+pub stops-or : (ts : List PlacedToken) → StopsAnd ts → IsNotAhead bar ts → StopsOr ts
+stops-or [] stops not = stops
+stops-or (t ∷ ts) stops not = at-first t.token stops not
+  where
+    at-first : (k : Token) → StopsAnd (placed t.at k ∷ ts) → k ≢ bar → StopsOr (placed t.at k ∷ ts)
+    at-first bar stops not = absurd (not refl)
+    at-first closing stops not = stops
+    at-first (word w) stops not = absurd stops
+    at-first amp stops not = absurd stops
+    at-first bang stops not = absurd stops
+    at-first opening stops not = absurd stops
+
+pub nothing-left : (ts : List PlacedToken) → StopsOr ts → IsNotAhead closing ts → ts ≡ []
+nothing-left [] stops not = refl
+nothing-left (t ∷ ts) stops not = at-first t.token stops not
+  where
+    at-first : (k : Token) → StopsOr (placed t.at k ∷ ts) → k ≢ closing → t ∷ ts ≡ []
+    at-first closing stops not = absurd (not refl)
+    at-first bar stops not = absurd stops
+    at-first (word w) stops not = absurd stops
+    at-first amp stops not = absurd stops
+    at-first bang stops not = absurd stops
+    at-first opening stops not = absurd stops
 
 -- ---- signs !
 
@@ -264,8 +290,4 @@ line-stops line size before why is long h =
 
 pub line-refused : (e : QueryErr) (line : List ℕ) (size : ℕ) (before : List PlacedToken) → before ≡ tokens line → size ≡ length line →
     IsStopped e 0 size before → IfSome (refusal_of e) (λ why. boolean line ≡ refused why)
-line-refused (Syntax at) line size before is long h = line-stops line size before (syntax at) is long h
-line-refused (TooDeep at) line size before is long h = line-stops line size before (too_deep at) is long h
-line-refused (TermTooLong at) line size before is long h = line-stops line size before (too_long at) is long h
-line-refused (TooManyTerms at) line size before is long h = line-stops line size before (too_many at) is long h
-line-refused Memory line size before is long h = tt
+line-refused e line size before is long h = IfSome_then (refusal_of e) h (λ why stopped. line-stops line size before why is long stopped)

@@ -1,5 +1,6 @@
 -- What the tokens ahead begin with.
-use Rattle.std.specs.Prelude.{◌≡◌, List, [], ◌∷◌}
+use Rattle.std.specs.Prelude.{◌≡◌, ◌≢◌, List, [], ◌∷◌}
+use Rattle.mg_defs.specs.Grammar.{Level, or_level, and_level, not_level}
 use Rattle.mg_defs.specs.Tokens.{Token, word, bar, amp, bang, opening, closing, PlacedToken}
 
 abbrev pub EndsAnd : Token → Type 0
@@ -28,17 +29,16 @@ abbrev pub StopsOr : List PlacedToken → Type 0
 StopsOr [] = Unit {0}
 StopsOr (t ∷ ts) = EndsOr t.token
 
-abbrev pub IsNoBang : Token → Type 0
-IsNoBang bang = ⊥
-IsNoBang (word w) = Unit {0}
-IsNoBang bar = Unit {0}
-IsNoBang amp = Unit {0}
-IsNoBang opening = Unit {0}
-IsNoBang closing = Unit {0}
+-- what may follow a list on a level
+abbrev pub StopsOn : Level → List PlacedToken → Type 0
+StopsOn or_level ts = StopsOr ts
+StopsOn and_level ts = StopsAnd ts
+StopsOn not_level ts = Unit {0}
 
-abbrev pub NoBang : List PlacedToken → Type 0
-NoBang [] = Unit {0}
-NoBang (t ∷ ts) = IsNoBang t.token
+-- the first token, if there is one, is another
+abbrev pub IsNotAhead : Token → List PlacedToken → Type 0
+IsNotAhead sign [] = Unit {0}
+IsNotAhead sign (t ∷ ts) = t.token ≢ sign
 
 abbrev pub JoinsBy : Token → PlacedToken → List PlacedToken → List PlacedToken → Type 0
 JoinsBy amp t ts after = after ≡ ts

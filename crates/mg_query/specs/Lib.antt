@@ -7,3 +7,4 @@ pub mod Ahead
 pub mod Parsed
 pub mod Holds
 pub mod AllOf
+pub mod Words

@@ -1,5 +1,6 @@
 //! Boolean lines.
 ghost use Rattle.std.specs.Prelude.{◌≡◌, ◌≢◌, ◌≤◌, ℕ, length, IfOk, IfErr, IfSome};
+ghost use Rattle.mg_defs.specs.Limits.{line_bytes};
 ghost use Rattle.mg_defs.specs.Read.{boolean};
 ghost use Rattle.mg_defs.specs.Refusals.{reads, refused};
 ghost use Rattle.mg_query.specs.QueryOf.{query_of};
@@ -20,7 +21,7 @@ use std::alloc::Global;
 /// The first token that no query goes on with, that opens a 33rd parenthesis, or that is a word
 /// of more than 255 bytes; `Syntax` at the line's length where the line ends too early.
 pub fn parse_boolean(alloc: Global, line: &[u8]) -> Result<Query, QueryErr>
-    requires { length line.now ≤ 1024 }
+    requires { length line.now ≤ line_bytes }
     ensures reads { IfOk result (λ q. boolean line.now ≡ reads (query_of q)) }
     ensures refused { IfErr result (λ e.
         IfSome (refusal_of e) (λ why. boolean line.now ≡ refused why)) }

@@ -1,20 +1,28 @@
 //! The tokens of a line, one after another.
-ghost use Rattle.std.specs.Prelude.{◌≡◌, ℕ, ◌+◌, ◌<◌, ◌≤◌, [], ◌∷◌, length, drop, IfNone, IfSome};
+ghost use Rattle.std.specs.Prelude.{◌≡◌, ◌≢◌, ℕ, ◌+◌, ◌<◌, ◌≤◌, [], ◌∷◌, length, drop, IfNone, IfSome};
+ghost use Rattle.std.specs.Bool.{OnTrue, OnFalse};
 ghost use Rattle.std.specs.Option.{option_map};
+ghost use Rattle.mg_defs.specs.Limits.{line_bytes};
 ghost use Rattle.mg_defs.specs.Tokens.{tokens_from, tokens, onto_sign, sign_of as sign_of_spec};
-ghost use Rattle.mg_query.specs.TokenOf.{token_of};
+ghost use Rattle.mg_query.specs.TokenOf.{token_of, sign_token};
 
 use mg_parse::{is_word_byte, word_len};
 
-/// A token of a line.
-#[derive(Clone, Copy)]
-pub(crate) enum Token<'a> {
-    Word(&'a [u8]),
+/// A sign of a query.
+#[derive(Clone, Copy, PartialEq, Eq)]
+pub(crate) enum Sign {
     Bar,
     Amp,
     Bang,
     Opening,
     Closing,
+}
+
+/// A token of a line.
+#[derive(Clone, Copy)]
+pub(crate) enum Token<'a> {
+    Word(&'a [u8]),
+    Sign(Sign),
 }
 
 /// A token and the place of its first byte.
@@ -24,20 +32,33 @@ pub(crate) struct Placed<'a> {
     pub(crate) at: u32,
 }
 
+impl Placed<'_> {
+    /// Whether it is this sign.
+    pub(crate) fn is_sign(self, sign: Sign) -> bool
+        ensures yes { OnTrue result (token_of self.entry.token ≡ sign_token sign) }
+        ensures no { OnFalse result (token_of self.entry.token ≢ sign_token sign) }
+    {
+        match self.token {
+            Token::Word(_) => false,
+            Token::Sign(own) => own == sign,
+        }
+    }
+}
+
 /// Gives the tokens of a line from the front, and holds the bytes that are left.
 #[derive(Drop)]
 pub(crate) struct Lexer<'a> {
     pub(crate) rest: &'a [u8],
     // the place of the first of them
     pub(crate) at: u32,
-    ghost within: { at + length rest.now ≤ 1024 },
+    ghost within: { at + length rest.now ≤ line_bytes },
 }
 
 impl<'a> Lexer<'a> {
     ghost use Rattle.mg_query.specs.TokensLeft.{tokens_left, placed_of};
 
     pub(crate) fn new(line: &'a [u8]) -> Lexer<'a>
-        requires { length line.now ≤ 1024 }
+        requires { length line.now ≤ line_bytes }
         ensures { tokens_left result ≡ tokens line.now }
     {
         Lexer { rest: line, at: 0 }
@@ -84,11 +105,11 @@ fn sign_of<'a>(byte: u8) -> Option<Token<'a>>
     ensures { option_map token_of result ≡ sign_of_spec byte }
 {
     match byte {
-        b'|' => Some(Token::Bar),
-        b'&' => Some(Token::Amp),
-        b'!' => Some(Token::Bang),
-        b'(' => Some(Token::Opening),
-        b')' => Some(Token::Closing),
+        b'|' => Some(Token::Sign(Sign::Bar)),
+        b'&' => Some(Token::Sign(Sign::Amp)),
+        b'!' => Some(Token::Sign(Sign::Bang)),
+        b'(' => Some(Token::Sign(Sign::Opening)),
+        b')' => Some(Token::Sign(Sign::Closing)),
         _ => None,
     }
 }

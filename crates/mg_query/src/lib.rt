@@ -21,6 +21,7 @@ mod query_err;
 mod ranked;
 mod term;
 mod terms;
+mod words;
 
 pub use blanks::{blank_len, is_blank};
 pub use boolean::parse_boolean;

@@ -1,13 +1,14 @@
 //! The parser of Boolean lines.
-ghost use Rattle.std.specs.Prelude.{◌≡◌, ℕ, ◌≤◌, [], ◌∷◌, length, drop, IfNone, IfSome, IfOk, IfErr, OnOk};
+ghost use Rattle.std.specs.Prelude.{◌≡◌, ℕ, ◌≤◌, [], ◌∷◌, length, drop, nat_lt, IfNone, IfSome};
 ghost use Rattle.std.specs.Bool.{OnTrue, OnFalse};
 ghost use Rattle.mg_defs.specs.Grammar.{or_level, and_level, not_level};
-ghost use Rattle.mg_defs.specs.Tokens.{tokens, placed, bar, bang, closing};
-ghost use Rattle.mg_query.specs.QueryOf.{query_of};
-ghost use Rattle.mg_query.specs.Ahead.{StopsAnd, StopsOr, NoBang, JoinsTo};
-ghost use Rattle.mg_query.specs.Parsed.{Reads, IsStopped};
+ghost use Rattle.mg_defs.specs.Limits.{line_bytes, open_parentheses};
+ghost use Rattle.mg_defs.specs.Tokens.{tokens, bang};
+ghost use Rattle.mg_query.specs.Ahead.{StopsAnd, IsNotAhead, JoinsTo};
+ghost use Rattle.mg_query.specs.Parsed.{Parses, Takes};
+ghost use Rattle.mg_query.specs.TokenOf.{sign_token};
 
-use crate::lexer::{Lexer, Placed, Token};
+use crate::lexer::{Lexer, Placed, Sign, Token};
 use crate::query::Query;
 use crate::query_err::QueryErr;
 use crate::term::Term;
@@ -34,7 +35,7 @@ impl<'a> Parser<'a> {
     ghost use Rattle.mg_query.specs.TokensLeft.{placed_of};
 
     pub(crate) fn new(alloc: Global, line: &'a [u8]) -> Parser<'a>
-        requires { length line.now ≤ 1024 }
+        requires { length line.now ≤ line_bytes }
         ensures tokens { ahead result ≡ tokens line.now }
         ensures end { result.end ≡ length line.now }
     {
@@ -51,15 +52,11 @@ impl<'a> Parser<'a> {
     /// A query with its signs `|`, up to a closing parenthesis or the end.
     #[cycle(parser)]
     pub(crate) fn or(&mut self, depth: u32) -> Result<Query, QueryErr>
-        requires { depth ≤ 32 }
-        ensures reads { IfOk result (λ q.
-            Reads or_level depth self.old.end (ahead self.old) (ahead self.new) (query_of q)) }
-        ensures stops { OnOk result (StopsOr (ahead self.new)) }
-        ensures stopped { IfErr result (λ e. IsStopped e depth self.old.end (ahead self.old)) }
-        ensures end { self.new.end ≡ self.old.end }
+        requires { depth ≤ open_parentheses }
+        ensures parsed { Parses or_level depth self.old self.new result }
     {
         let mut query = self.and(depth)?;
-        'operands: while self.takes_bar() {
+        'operands: while self.takes(Sign::Bar) {
             let right = self.and(depth)?;
             query = Query::or(self.alloc, query, right)?;
         }
@@ -69,12 +66,8 @@ impl<'a> Parser<'a> {
     /// Operands side by side, or with signs `&` between them.
     #[cycle(parser)]
     fn and(&mut self, depth: u32) -> Result<Query, QueryErr>
-        requires { depth ≤ 32 }
-        ensures reads { IfOk result (λ q.
-            Reads and_level depth self.old.end (ahead self.old) (ahead self.new) (query_of q)) }
-        ensures stops { OnOk result (StopsAnd (ahead self.new)) }
-        ensures stopped { IfErr result (λ e. IsStopped e depth self.old.end (ahead self.old)) }
-        ensures end { self.new.end ≡ self.old.end }
+        requires { depth ≤ open_parentheses }
+        ensures parsed { Parses and_level depth self.old self.new result }
     {
         let mut query = self.not(depth)?;
         'operands: while self.joins() {
@@ -87,14 +80,11 @@ impl<'a> Parser<'a> {
     /// An operand and the signs `!` before it.
     #[cycle(parser)]
     fn not(&mut self, depth: u32) -> Result<Query, QueryErr>
-        requires { depth ≤ 32 }
-        ensures reads { IfOk result (λ q.
-            Reads not_level depth self.old.end (ahead self.old) (ahead self.new) (query_of q)) }
-        ensures stopped { IfErr result (λ e. IsStopped e depth self.old.end (ahead self.old)) }
-        ensures end { self.new.end ≡ self.old.end }
+        requires { depth ≤ open_parentheses }
+        ensures parsed { Parses not_level depth self.old self.new result }
     {
         let mut signs = 0u32;
-        'signs: while self.takes_bang() {
+        'signs: while self.takes(Sign::Bang) {
             signs += 1;
         }
         let query = self.operand(depth)?;
@@ -105,12 +95,9 @@ impl<'a> Parser<'a> {
     /// A word, or a query between parentheses.
     #[cycle(parser)]
     fn operand(&mut self, depth: u32) -> Result<Query, QueryErr>
-        requires shallow { depth ≤ 32 }
-        requires no_bang { NoBang (ahead self.old) }
-        ensures reads { IfOk result (λ q.
-            Reads not_level depth self.old.end (ahead self.old) (ahead self.new) (query_of q)) }
-        ensures stopped { IfErr result (λ e. IsStopped e depth self.old.end (ahead self.old)) }
-        ensures end { self.new.end ≡ self.old.end }
+        requires shallow { depth ≤ open_parentheses }
+        requires no_bang { IsNotAhead bang (ahead self.old) }
+        ensures parsed { Parses not_level depth self.old self.new result }
     {
         let Some(first) = self.take() else {
             return Err(QueryErr::Syntax { at: self.end });
@@ -123,20 +110,22 @@ impl<'a> Parser<'a> {
                 let term = Term::of_word(self.alloc, word)?;
                 Ok(Query::Term(term))
             }
-            Token::Opening => {
-                if depth >= DEPTH_LIMIT {
-                    return Err(QueryErr::TooDeep { at: first.at });
+            Token::Sign(sign) => match sign {
+                Sign::Opening => {
+                    if !may_open(depth) {
+                        return Err(QueryErr::TooDeep { at: first.at });
+                    }
+                    let inner = self.or(depth + 1)?;
+                    if !self.takes(Sign::Closing) {
+                        return Err(QueryErr::Syntax { at: self.end });
+                    }
+                    Ok(inner)
                 }
-                let inner = self.or(depth + 1)?;
-                if !self.takes_closing() {
-                    return Err(QueryErr::Syntax { at: self.end });
-                }
-                Ok(inner)
-            }
-            Token::Bar => Err(QueryErr::Syntax { at: first.at }),
-            Token::Amp => Err(QueryErr::Syntax { at: first.at }),
-            Token::Bang => Err(QueryErr::Syntax { at: first.at }),
-            Token::Closing => Err(QueryErr::Syntax { at: first.at }),
+                Sign::Bar => Err(QueryErr::Syntax { at: first.at }),
+                Sign::Amp => Err(QueryErr::Syntax { at: first.at }),
+                Sign::Bang => Err(QueryErr::Syntax { at: first.at }),
+                Sign::Closing => Err(QueryErr::Syntax { at: first.at }),
+            },
         }
     }
 
@@ -152,86 +141,29 @@ impl<'a> Parser<'a> {
         };
         match next.token {
             Token::Word(_) => true,
-            Token::Bang => true,
-            Token::Opening => true,
-            Token::Amp => {
+            Token::Sign(Sign::Bang) => true,
+            Token::Sign(Sign::Opening) => true,
+            Token::Sign(Sign::Amp) => {
                 self.advance();
                 true
             }
-            Token::Bar => false,
-            Token::Closing => false,
+            Token::Sign(Sign::Bar) => false,
+            Token::Sign(Sign::Closing) => false,
         }
     }
 
-    /// Takes a sign `|`, if it is in hand.
-    fn takes_bar(&mut self) -> bool
-        ensures yes { OnTrue result ((at : ℕ) × (ahead self.old ≡ placed at bar ∷ ahead self.new)) }
-        ensures no { OnFalse result (StopsAnd (ahead self.old) → StopsOr (ahead self.old)) }
-        ensures same { OnFalse result (ahead self.new ≡ ahead self.old) }
-        ensures end { self.new.end ≡ self.old.end }
+    /// Takes a sign, if it is in hand.
+    fn takes(&mut self, sign: Sign) -> bool
+        ensures taken { Takes (sign_token sign) self.old self.new result }
     {
         let Some(next) = self.hand else {
             return false;
         };
-        match next.token {
-            Token::Bar => {
-                self.advance();
-                true
-            }
-            Token::Word(_) => false,
-            Token::Amp => false,
-            Token::Bang => false,
-            Token::Opening => false,
-            Token::Closing => false,
+        let is_it = next.is_sign(sign);
+        if is_it {
+            self.advance();
         }
-    }
-
-    /// Takes a sign `!`, if it is in hand.
-    fn takes_bang(&mut self) -> bool
-        ensures yes { OnTrue result ((at : ℕ)
-            × (ahead self.old ≡ placed at bang ∷ ahead self.new)) }
-        ensures no { OnFalse result (NoBang (ahead self.old)) }
-        ensures same { OnFalse result (ahead self.new ≡ ahead self.old) }
-        ensures end { self.new.end ≡ self.old.end }
-    {
-        let Some(next) = self.hand else {
-            return false;
-        };
-        match next.token {
-            Token::Bang => {
-                self.advance();
-                true
-            }
-            Token::Word(_) => false,
-            Token::Bar => false,
-            Token::Amp => false,
-            Token::Opening => false,
-            Token::Closing => false,
-        }
-    }
-
-    /// Takes a closing parenthesis, if it is in hand.
-    fn takes_closing(&mut self) -> bool
-        ensures yes { OnTrue result ((at : ℕ)
-            × (ahead self.old ≡ placed at closing ∷ ahead self.new)) }
-        ensures no { OnFalse result (StopsOr (ahead self.old) → ahead self.old ≡ []) }
-        ensures same { OnFalse result (ahead self.new ≡ ahead self.old) }
-        ensures end { self.new.end ≡ self.old.end }
-    {
-        let Some(next) = self.hand else {
-            return false;
-        };
-        match next.token {
-            Token::Closing => {
-                self.advance();
-                true
-            }
-            Token::Word(_) => false,
-            Token::Bar => false,
-            Token::Amp => false,
-            Token::Bang => false,
-            Token::Opening => false,
-        }
+        is_it
     }
 
     /// The token in hand; the next one takes its place.
@@ -254,4 +186,11 @@ impl<'a> Parser<'a> {
             self.hand = self.lexer.next();
         }
     }
+}
+
+/// Whether one more parenthesis may be opened where so many are open.
+fn may_open(depth: u32) -> bool
+    ensures is { result ≡ nat_lt depth open_parentheses }
+{
+    depth < DEPTH_LIMIT
 }
