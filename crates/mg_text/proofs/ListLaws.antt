@@ -1,8 +1,9 @@
 -- Steps of reading words, one behind another, by what each of them promises.
-use Rattle.std.proofs.Common.{arith, ◌≡◌, ◌+◌, ◌++◌, ◌^◌, ◌≤◌, ◌<◌, ℕ, Bool, true, false, List, [], ◌∷◌, length, map, take, get_or, Result, Ok, Err, refl, sym, ◌∙◌, ap, subst, zero-add, length-append, append-nil, append_assoc}
+use Rattle.std.proofs.Common.{arith, ◌≡◌, ◌≢◌, ◌+◌, ◌++◌, ◌^◌, ◌≤◌, ◌<◌, ℕ, zero, suc, Bool, true, false, not, List, [], ◌∷◌, length, map, filter, take, get_or, Result, Ok, Err, refl, sym, ◌∙◌, ap, subst, zero-add, length-append, append-nil, append_assoc}
 use Rattle.std.specs.Prelude.{OnOk, IfErr}
 use Rattle.std.specs.Bool.{OnFalse, OnTrue}
 use Rattle.std.proofs.Math.Seq.{take-length}
+use Rattle.std.proofs.lemmas.Grind.{flat_map-append}
 use Rattle.std.proofs.lemmas.Option.{get_or_from_slice_get}
 use Rattle.mg_dev.specs.Bads.{IsNotBad}
 use Rattle.mg_dev.specs.PartCauses.{IsCaused}
@@ -15,9 +16,10 @@ use Rattle.mg_defs.specs.Codes.{gamma}
 use Rattle.mg_defs.specs.CodedText.{TextCode, codeword_of, coded_doc, coded_pair}
 use Rattle.mg_defs.specs.Parse.{Pair, parse, text}
 use Rattle.mg_defs.specs.Sorted.{number_of}
+use Rattle.mg_defs.specs.Terms.{is_empty}
 use Rattle.mg_defs.proofs.FrontLaws.{shows_left}
-use Rattle.mg_text.specs.Decoding.{IsReadCaused, PairsIn, ReadsNumber, Takes, coded_pairs}
-use Rattle.mg_text.specs.Listing.{Adds, AddsTo, AreOfWords, IsAddRefused, ListEnds, ListMoment, ListStep, ListSteps, Listed, Listing, Lists, ReadsOf, word_symbols}
+use Rattle.mg_text.specs.Decoding.{IsIn, IsReadCaused, PairsIn, ReadsNumber, Takes, coded_pairs}
+use Rattle.mg_text.specs.Listing.{Adds, AddsTo, AreOfWords, IsAddRefused, ListEnds, ListMoment, ListStep, ListSteps, Listed, Listing, Lists, ReadsOf, symbol_if, word_symbol, word_symbols}
 use Rattle.mg_text.specs.Listing.{ListsDoc, ListsFirst, ListsPair, ListsPairs, ListsWord, PassesOther}
 use Rattle.mg_text.proofs.PairLaws.{NextPair, bits_more, bits_whole, next_pair, pair_shows, pair_small, parse_text, shows_next, text_more, text_whole}
 
@@ -84,16 +86,32 @@ pub words_added : (code : TextCode) (symbols : List ℕ) {size : ℕ} (r : Resul
 words_added code symbols (Ok done) {old} {new} adds own before = subst (AreOfWords code) (sym adds.done.symbols_are) (words_more code old.symbols symbols before own)
 words_added code symbols (Err refusal) {old} {new} adds own before = subst (AreOfWords code) (sym adds.kept) before
 
-symbols_append : (code : TextCode) (ps qs : List Pair) → word_symbols code (ps ++ qs) ≡ word_symbols code ps ++ word_symbols code qs
-symbols_append code [] qs = refl
-symbols_append code (p ∷ ps) qs = ap (λ s. number_of code.words.pieces p.word ∷ s) (symbols_append code ps qs)
+pub symbol_of_word : (code : TextCode) (symbol size : ℕ) → symbol < length code.words.pieces → AreOfWords code (symbol_if symbol size)
+symbol_of_word code symbol zero lt = tt
+symbol_of_word code symbol (suc size) lt = (lt, tt)
 
--- the words of the symbols of pairs are the pairs' words
-pub words_of_symbols : (code : TextCode) (ps : List Pair) → PairsIn code ps → map (λ (s : ℕ). get_or code.words.pieces s []) (word_symbols code ps) ≡ map (λ (p : Pair). p.word) ps
+-- what is listed of an empty word, and of another one
+pub none_listed : (symbol size : ℕ) → size ≡ 0 → symbol_if symbol size ≡ []
+none_listed symbol zero none = refl
+none_listed symbol (suc size) none = absurd (omega (arith, none))
+
+pub one_listed_if : (symbol size : ℕ) → size ≢ 0 → symbol_if symbol size ≡ symbol ∷ []
+one_listed_if symbol zero some = absurd (some refl)
+one_listed_if symbol (suc size) some = refl
+
+-- the words of the symbols of pairs are the pairs' words that aren't empty
+word_listed : (code : TextCode) (word : List ℕ) (symbols : List ℕ) (words : List (List ℕ)) → IsIn code.words word →
+    map (λ (s : ℕ). get_or code.words.pieces s []) symbols ≡ filter (λ (w : List ℕ). not (is_empty w)) words →
+    map (λ (s : ℕ). get_or code.words.pieces s []) (word_symbol code word ++ symbols) ≡ filter (λ (w : List ℕ). not (is_empty w)) (word ∷ words)
+word_listed code [] symbols words is rest = rest
+word_listed code (b ∷ word) symbols words is rest =
+    ap (λ w. w ∷ map (λ (s : ℕ). get_or code.words.pieces s []) symbols) (get_or_from_slice_get code.words.pieces (number_of code.words.pieces (b ∷ word)) (b ∷ word) [] is)
+    ∙ ap (λ ws. (b ∷ word) ∷ ws) rest
+
+pub words_of_symbols : (code : TextCode) (ps : List Pair) → PairsIn code ps →
+    map (λ (s : ℕ). get_or code.words.pieces s []) (word_symbols code ps) ≡ filter (λ (w : List ℕ). not (is_empty w)) (map (λ (p : Pair). p.word) ps)
 words_of_symbols code [] all = refl
-words_of_symbols code (p ∷ ps) all =
-    ap (λ w. w ∷ map (λ (s : ℕ). get_or code.words.pieces s []) (word_symbols code ps)) (get_or_from_slice_get code.words.pieces (number_of code.words.pieces p.word) p.word [] all.0.word)
-    ∙ ap (λ ws. p.word ∷ ws) (words_of_symbols code ps all.1)
+words_of_symbols code (p ∷ ps) all = word_listed code p.word (word_symbols code ps) (map (λ (p : Pair). p.word) ps) all.0.word (words_of_symbols code ps all.1)
 
 -- ---- one step behind another
 
@@ -192,26 +210,26 @@ piece_listed (Err (Bad bad)) bits symbols one size k a c at read adds is as_long
 pub word_refused : {agrees : Type 0} (code : TextCode) (refusal : PartErr) {a b : ListMoment} → 0 < a.feed.page → ListSteps agrees code (ListsWord code (Err refusal)) (Err refusal) a b →
     ListSteps agrees code (ListsPair code (Err refusal)) (Err refusal) a b
 word_refused code refusal {a} {b} some step = steps_tell step (λ p is.
-    lists_first (codeword_of code.words p.word) (codeword_of code.others p.other) (number_of code.words.pieces p.word ∷ []) [] (length p.word) (length p.other) refusal a b some (step.told p.word is.word))
+    subst (λ s. Lists (coded_pair code p) s (length p.word + length p.other) (Err refusal) a b) (append-nil (word_symbol code p.word)) (lists_first (codeword_of code.words p.word) (codeword_of code.others p.other) (word_symbol code p.word) [] (length p.word) (length p.other) refusal a b some (step.told p.word is.word)))
 
 -- the other came behind the word
 pub pair_listed : {before agrees : Type 0} (code : TextCode) (r : Result (Unit {0}) PartErr) {a b c : ListMoment} → 0 < a.feed.page → ListSteps before code (ListsWord code (Ok tt)) (Ok tt) a b →
     ListSteps agrees code (PassesOther code r) r b c → ListSteps agrees code (ListsPair code r) r a c
 pair_listed code r {a} {b} {c} some first second = steps_more r first second (λ p is.
-    lists_both (codeword_of code.words p.word) (codeword_of code.others p.other) (number_of code.words.pieces p.word ∷ []) [] (length p.word) (length p.other) r a b c some first.calm
-    (first.told p.word is.word) (second.told p.other is.other))
+    subst (λ s. Lists (coded_pair code p) s (length p.word + length p.other) r a c) (append-nil (word_symbol code p.word)) (lists_both (codeword_of code.words p.word) (codeword_of code.others p.other) (word_symbol code p.word) [] (length p.word) (length p.other) r a b c some first.calm
+    (first.told p.word is.word) (second.told p.other is.other)))
 
 -- the reader held the bits of both pieces
-pub held_listed : (f0 f1 f2 : Feeding) (d : Seen) (a p q : ℕ) (x y : Bits) (list list_now : Listing) (symbol number size j k : ℕ) → 0 < f0.page → p ≡ a + length x → Read f0 f1 d d a (a + length x) →
-    q ≡ p + length y → Read f1 f2 d d p (p + length y) → symbol ≡ number → size ≡ j + k → Adds (symbol ∷ []) size list list_now →
-    Listed (x ++ y) (number ∷ []) (j + k) (record { feed = f0; place = a; device = d; list = list }) (record { feed = f2; place = q; device = d; list = list_now })
-held_listed f0 f1 f2 d a p q x y list list_now symbol number size j k some at1 read1 at2 read2 is as_long adds =
+pub held_listed : (f0 f1 f2 : Feeding) (d : Seen) (a p q : ℕ) (x y : Bits) (list list_now : Listing) (symbol number word other j k : ℕ) → 0 < f0.page → p ≡ a + length x → Read f0 f1 d d a (a + length x) →
+    q ≡ p + length y → Read f1 f2 d d p (p + length y) → symbol ≡ number → word ≡ j → other ≡ k →
+    Adds (symbol_if symbol word) (word + other) list list_now → Listed (x ++ y) (symbol_if number j) (j + k) (record { feed = f0; place = a; device = d; list = list }) (record { feed = f2; place = q; device = d; list = list_now })
+held_listed f0 f1 f2 d a p q x y list list_now symbol number word other j k some at1 read1 at2 read2 is long long_other adds =
     let to : p + length y ≡ a + length (x ++ y) = omega (arith, at1, length-append x y) in
     let moved : Read f1 f2 d d (a + length x) (a + length (x ++ y)) = subst (λ n. Read f1 f2 d d n (a + length (x ++ y))) at1 (subst (λ n. Read f1 f2 d d p n) to read2) in
     record {
       at_end = omega (arith, at1, at2, length-append x y);
       read = read_more f0 f1 f2 d d d a (a + length x) (a + length (x ++ y)) some (omega arith) (omega (arith, length-append x y)) read1 moved;
-      adds = rw (← is) (rw (← as_long) adds);
+      adds = rw (← is, ← long, ← long_other) adds;
     }
 
 -- ---- pairs
@@ -242,12 +260,13 @@ size_whole code ps i next = ap length (text_whole code ps i next) ∙ length-app
 -- one pair more was listed
 pairs_more : (code : TextCode) (ps : List Pair) (i : ℕ) (a b c : ListMoment) → 0 < a.feed.page → (next : NextPair code ps i) →
     Listed (coded_pairs code (take i ps)) (word_symbols code (take i ps)) (length (text (take i ps))) a b →
-    Listed (coded_pair code next.pair) (number_of code.words.pieces next.pair.word ∷ []) (length next.pair.word + length next.pair.other) b c →
+    Listed (coded_pair code next.pair) (word_symbol code next.pair.word) (length next.pair.word + length next.pair.other) b c →
     Listed (coded_pairs code (take (i + 1) ps)) (word_symbols code (take (i + 1) ps)) (length (text (take (i + 1) ps))) a c
 pairs_more code ps i a b c some next first second =
     let one = word_symbols code (take i ps) in
-    let symbol = number_of code.words.pieces next.pair.word ∷ [] in
-    let symbols : word_symbols code (take (i + 1) ps) ≡ one ++ symbol = ap (word_symbols code) next.more ∙ symbols_append code (take i ps) (next.pair ∷ []) in
+    let symbol = word_symbol code next.pair.word in
+    let symbols : word_symbols code (take (i + 1) ps) ≡ one ++ symbol = ap (word_symbols code) next.more
+    ∙ flat_map-append (λ (p : Pair). word_symbol code p.word) (take i ps) (next.pair ∷ []) ∙ ap (λ s. one ++ s) (append-nil symbol) in
     let both = listed_both (coded_pairs code (take i ps)) (coded_pair code next.pair) one symbol (length (text (take i ps))) (length next.pair.word + length next.pair.other) a b c some first second in
     subst (λ bits. Listed bits (word_symbols code (take (i + 1) ps)) (length (text (take (i + 1) ps))) a c) (sym (bits_more code ps i next))
     (subst (λ s. Listed (coded_pairs code (take i ps) ++ coded_pair code next.pair) s (length (text (take (i + 1) ps))) a c) (sym symbols)
@@ -343,7 +362,8 @@ doc_listed code r {a} {b} {c} some list head pairs = steps_more r head pairs (λ
     (shows_next _ _ _ _ a.place b.place x y head.calm read.1 shows))))
 
 -- only a symbol of a word is added where a pair is held
-pub words_held : (code : TextCode) (symbol size : ℕ) (answer : Bool) (old new : Listing) → symbol < length code.words.pieces → OnTrue answer (Adds (symbol ∷ []) size old new) →
+pub words_held : (code : TextCode) (symbol word size : ℕ) (answer : Bool) (old new : Listing) → symbol < length code.words.pieces → OnTrue answer (Adds (symbol_if symbol word) size old new) →
     OnFalse answer (new ≡ old) → AreOfWords code old.symbols → AreOfWords code new.symbols
-words_held code symbol size true old new lt held kept before = subst (AreOfWords code) (sym held.symbols_are) (words_more code old.symbols (symbol ∷ []) before (lt, tt))
-words_held code symbol size false old new lt held kept before = rw kept before
+words_held code symbol word size true old new lt held kept before =
+    subst (AreOfWords code) (sym held.symbols_are) (words_more code old.symbols (symbol_if symbol word) before (symbol_of_word code symbol word lt))
+words_held code symbol word size false old new lt held kept before = rw kept before

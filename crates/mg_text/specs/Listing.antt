@@ -1,7 +1,7 @@
 -- What reading the words of a document does: their symbols are listed, and the bytes of its pieces are counted.
-use Rattle.std.specs.Prelude.{◌≡◌, ℕ, ◌+◌, ◌^◌, ◌≤◌, ◌<◌, ◌++◌, Bool, List, [], ◌∷◌, length, map, take, get_or, Ok, Err, IfErr, OnOk, OnErr}
+use Rattle.std.specs.Prelude.{◌≡◌, ℕ, ◌+◌, ◌^◌, ◌≤◌, ◌<◌, ◌++◌, zero, suc, Bool, not, List, [], ◌∷◌, length, map, filter, take, get_or, Ok, Err, IfErr, OnOk, OnErr}
 use Rattle.std.specs.Bool.{OnFalse, OnTrue}
-use Rattle.std.specs.List.{AllByRecursion}
+use Rattle.std.specs.List.{AllByRecursion, flat_map}
 use Rattle.std.specs.declared.option.Option.{Option}
 use Rattle.std.specs.declared.result.Result.{Result}
 use Rattle.mg_dev.specs.Bads.{IsNotBad}
@@ -17,7 +17,7 @@ use Rattle.mg_defs.specs.Bits.{Bits, Shows}
 use Rattle.mg_defs.specs.CodedText.{TextCode, codeword_of, coded_doc, coded_pair}
 use Rattle.mg_defs.specs.Parse.{Pair, parse, text}
 use Rattle.mg_defs.specs.Sorted.{number_of}
-use Rattle.mg_defs.specs.Terms.{document}
+use Rattle.mg_defs.specs.Terms.{document, is_empty}
 use Rattle.mg_text.specs.Decoding.{IsIn, PairIn, PairsIn, coded_pairs}
 use Rattle.mg_text.specs.Held.{WhereShort}
 use Rattle.mg_text.specs.Reading.{PagesOfDocument, SameText, TextFits, TextReading}
@@ -54,14 +54,22 @@ pub record AddsTo (symbols : List ℕ) (size : ℕ) (result : Result (Unit {0}) 
 abbrev pub AreOfWords : TextCode → List ℕ → Type 0
 AreOfWords code symbols = AllByRecursion (λ (s : ℕ). s < length code.words.pieces) symbols
 
+-- what is listed of a word of so many bytes: its symbol, and nothing of an empty one
+abbrev pub symbol_if : ℕ → ℕ → List ℕ
+symbol_if symbol zero = []
+symbol_if symbol (suc size) = symbol ∷ []
+
+abbrev pub word_symbol : TextCode → List ℕ → List ℕ
+word_symbol code word = symbol_if (number_of code.words.pieces word) (length word)
+
 -- the symbols of the words of pairs
 abbrev pub word_symbols : TextCode → List Pair → List ℕ
-word_symbols code ps = map (λ (p : Pair). number_of code.words.pieces p.word) ps
+word_symbols code ps = flat_map (λ (p : Pair). word_symbol code p.word) ps
 
--- the words of symbols are those of a document, with those that are empty
+-- the words of symbols are those of a document that aren't empty, in order
 abbrev pub AreWordsOf : TextCode → List ℕ → List ℕ → Type 0
 AreWordsOf code symbols doc = map (λ (s : ℕ). get_or code.words.pieces s []) symbols
-    ≡ map (λ (p : Pair). p.word) (parse doc)
+    ≡ filter (λ (w : List ℕ). not (is_empty w)) (map (λ (p : Pair). p.word) (parse doc))
 
 -- ---- the moment before a step and the one after it
 
@@ -110,7 +118,7 @@ Lists bits symbols size result old new = size ≤ old.list.left → old.place + 
 -- the word whose codeword stands at the place
 abbrev pub ListsWord : TextCode → Result (Unit {0}) PartErr → ListStep
 ListsWord code result old new = (piece : List ℕ) → IsIn code.words piece →
-    Lists (codeword_of code.words piece) (number_of code.words.pieces piece ∷ []) (length piece) result old new
+    Lists (codeword_of code.words piece) (word_symbol code piece) (length piece) result old new
 
 -- the other, of which no symbol is listed
 abbrev pub PassesOther : TextCode → Result (Unit {0}) PartErr → ListStep
@@ -120,7 +128,7 @@ PassesOther code result old new = (piece : List ℕ) → IsIn code.others piece 
 -- the pair whose codewords stand there
 abbrev pub ListsPair : TextCode → Result (Unit {0}) PartErr → ListStep
 ListsPair code result old new = (p : Pair) → PairIn code p →
-    Lists (coded_pair code p) (number_of code.words.pieces p.word ∷ []) (length p.word + length p.other) result old new
+    Lists (coded_pair code p) (word_symbol code p.word) (length p.word + length p.other) result old new
 
 -- the pairs, so many, whose codewords stand there
 abbrev pub ListsPairs : TextCode → ℕ → Result (Unit {0}) PartErr → ListStep

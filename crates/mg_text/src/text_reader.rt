@@ -253,8 +253,8 @@ impl<'a, S: Store> TextReader<'a, S> {
         gather_doc(&self.model, &mut self.text, store, buffer, out)
     }
 
-    /// Lists the symbols of the words of a document, from 1 to the number of documents, in place of those
-    /// that were listed; an empty word has a symbol too. It reads what [`TextReader::doc_within`] reads, and
+    /// Lists the symbols of the words of a document that are not empty, from 1 to the number of documents, in
+    /// place of those that were listed. It reads what [`TextReader::doc_within`] reads, and
     /// refuses what that refuses, but shows no byte. The reader stays of use whatever it answers.
     ///
     /// # Errors

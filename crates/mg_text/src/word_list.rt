@@ -1,16 +1,17 @@
 //! The symbols of the words of a document.
-ghost use Rattle.std.specs.Prelude.{◌≡◌, ◌≤◌, ◌<◌, ◌∷◌, [], Err, length};
+ghost use Rattle.std.specs.Prelude.{◌≡◌, ◌≤◌, ◌<◌, ◌+◌, [], Err};
 ghost use Rattle.std.specs.Bool.{OnTrue, OnFalse};
-ghost use Rattle.mg_text.specs.Listing.{Adds, AddsTo, IsAddRefused};
+ghost use Rattle.mg_text.specs.Listing.{Adds, AddsTo, IsAddRefused, symbol_if};
 
 use mg_dev::{Bad, Part, PartErr};
 use std::alloc::Global;
 use std::marker::Model;
 
-/// The symbols of the words of a document, and how many bytes its other pieces may have: damaged text
-/// can tell of a document of any length.
+/// The symbols of the words of a document that are not empty, and how many bytes its other pieces may have:
+/// damaged text can tell of a document of any length.
 ///
-/// The memory for the symbols grows with them, never with the bound, and is kept for the next document.
+/// So there are no more symbols than bytes. The memory for them grows with them, never with the bound, and
+/// is kept for the next document.
 #[derive(Drop)]
 pub struct WordList {
     symbols: Vec<u32>,
@@ -71,14 +72,17 @@ impl WordList {
         Ok(())
     }
 
-    /// Adds the symbol of a word, and counts its bytes, of which there are at most 255.
+    /// Adds the symbol of a word that is not empty, and counts its bytes, of which there are at most 255.
     pub(crate) fn add(&mut self, symbol: u32, size: usize) -> Result<(), PartErr>
         requires { size ≤ 255 }
-        ensures { AddsTo (symbol ∷ []) size result self.old self.new }
+        ensures { AddsTo (symbol_if symbol size) size result self.old self.new }
     {
         match self.pass(size) {
             Ok(()) => {}
             Err(refusal) => return Err(refusal),
+        }
+        if size == 0 {
+            return Ok(());
         }
         match self.symbols.push(symbol) {
             Ok(()) => Ok(()),
@@ -86,18 +90,24 @@ impl WordList {
         }
     }
 
-    /// Adds the symbol of a word, and counts the bytes of a pair. False, and nothing changed, where
-    /// memory has to be taken for it, or where there are more bytes than there may be.
+    /// Adds the symbol of a word that is not empty, and counts the bytes of the word and its other. False,
+    /// and nothing changed, where memory has to be taken, or where there are more bytes than there may be.
     #[inline]
-    pub(crate) fn hold(&mut self, symbol: u32, size: usize) -> bool
-        ensures held { OnTrue result (Adds (symbol ∷ []) size self.old self.new) }
+    pub(crate) fn hold(&mut self, symbol: u32, word: usize, other: usize) -> bool
+        requires word { word ≤ 15 }
+        requires other { other ≤ 15 }
+        ensures held { OnTrue result
+            (Adds (symbol_if symbol word) (word + other) self.old self.new) }
         ensures kept { OnFalse result (self.new ≡ self.old) }
     {
-        if size as u64 > self.left || self.symbols.len() == self.symbols.capacity() {
+        let size = (word + other) as u64;
+        if size > self.left || self.symbols.len() == self.symbols.capacity() {
             return false;
         }
-        self.left -= size as u64;
-        self.symbols.push_reserved(symbol);
+        self.left -= size;
+        if word != 0 {
+            self.symbols.push_reserved(symbol);
+        }
         true
     }
 

@@ -109,7 +109,7 @@ fn list_next<F: Feed>(model: &TextModel, r: &mut BitReader<F>, list: &mut WordLi
         Some((_, other)) => other,
         None => return false,
     };
-    list.hold(symbol, word + other)
+    list.hold(symbol, word, other)
 }
 
 /// Lists the word of a pair where no device has to be asked, which is so of most: `true` stands for what

@@ -1,10 +1,10 @@
-use Rattle.std.proofs.Common.{arith, ℕ, ◌+◌, ◌∷◌, [], length-append, sym, subst, ap, ◌∙◌}
+use Rattle.std.proofs.Common.{arith, ℕ, ◌+◌, length-append, sym, subst, ap, ◌∙◌}
 use Rattle.mg_defs.specs.Bits.{Shows}
 use Rattle.mg_defs.specs.CodedText.{codeword_of}
 use Rattle.mg_defs.specs.Sorted.{number_of}
 use Rattle.mg_defs.proofs.FrontLaws.{shows_left, shows_right}
 use Rattle.std.proofs.Common.{length}
-use Rattle.mg_text.specs.Listing.{Adds, ListsHeld}
+use Rattle.mg_text.specs.Listing.{symbol_if, Adds, ListsHeld}
 use Rattle.mg_text.proofs.ListLaws.{held_listed, words_held}
 use Rattle.mg_text.proofs.Steps.{on_true}
 use Rattle.mg_text.proofs.word_lister.list_next.Goals as goal
@@ -14,7 +14,7 @@ returns g c =
     let found = c.in-Some.found in
     let other = c.in-Some-held_piece.other in
     let model = c.args.model.now in
-    let lists_held : Adds (found.0 ∷ []) (found.1 + other) c.args.list.now c.hold.new.self →
+    let lists_held : Adds (symbol_if found.0 found.1) (found.1 + other) c.args.list.now c.hold.new.self →
     ListsHeld g.F.Feed.feeding (g.F.Feed.fits c.args.r.now.feed) c.args.r.now c.held_piece-2.new.r c.args.list.now c.hold.new.self model =
     λ adds. λ d fits. λ p is few small shows.
     let x = codeword_of model.words p.word in
@@ -25,12 +25,12 @@ returns g c =
     (shows_right _ c.args.r.now.place c.held_piece.new.r.place x y first.1 shows) in
     let second = c.in-Some-held_piece.ensures.told p.other is.other d fits_next (omega (arith, small, length-append x y, first.1)) next in
     held_listed _ _ _ d c.args.r.now.place c.held_piece.new.r.place c.held_piece-2.new.r.place x y c.args.list.now c.hold.new.self found.0 (number_of model.words.pieces p.word)
-    (found.1 + other) (length p.word) (length p.other) (g.met.F.Feed.whole_pages c.args.r.now.feed).some first.1 first.2 second.1 second.2
+    found.1 other (length p.word) (length p.other) (g.met.F.Feed.whole_pages c.args.r.now.feed).some first.1 first.2 second.1 second.2
     (ap (λ (f : ℕ × ℕ). f.0) first.0)
-    (omega (arith, ap (λ (f : ℕ × ℕ). f.1) first.0, ap (λ (f : ℕ × ℕ). f.1) second.0)) adds in
+    (ap (λ (f : ℕ × ℕ). f.1) first.0) (ap (λ (f : ℕ × ℕ). f.1) second.0) adds in
     record {
       feed = c.in-Some-held_piece.ensures.feed ∙ c.in-Some.ensures.feed;
       told = on_true c.hold.result _ _ lists_held c.hold.ensures.held;
       kept = c.hold.ensures.kept;
-      of_words = words_held model found.0 (found.1 + other) c.hold.result c.args.list.now c.hold.new.self c.in-Some.ensures.symbol c.hold.ensures.held c.hold.ensures.kept;
+      of_words = words_held model found.0 found.1 (found.1 + other) c.hold.result c.args.list.now c.hold.new.self c.in-Some.ensures.symbol c.hold.ensures.held c.hold.ensures.kept;
     }
