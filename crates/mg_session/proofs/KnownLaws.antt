@@ -1,12 +1,11 @@
 -- A term that no document has changes no answer to ranked terms.
-use Rattle.std.proofs.Common.{arith, ◌≡◌, ℕ, zero, suc, ◌+◌, ◌<◌, ◌≤◌, Bool, true, false, ◌||◌, if◌then◌else◌, List, [], ◌∷◌, length, get_or, Some, None, map, filter, refl, sym, ◌∙◌, ap, subst}
+use Rattle.std.proofs.Common.{arith, ◌≡◌, ℕ, zero, suc, ◌+◌, ◌<◌, ◌≤◌, Bool, true, false, ◌||◌, if◌then◌else◌, List, [], ◌∷◌, length, get_or, Some, None, map, filter, sum_by, refl, sym, ◌∙◌, ap, subst}
 use Rattle.std.specs.Prelude.{count_by, slice_index_or}
 use Rattle.std.specs.List.{list_any, enumerate_from, AllByRecursion, IsDistinct}
 use Rattle.std.specs.Str.{bytes_eq}
 use Rattle.std.specs.declared.option.Option.{Option}
 use Rattle.std.proofs.lemmas.Bool.{cond-true, cond-false}
 use Rattle.std.proofs.lemmas.List.Sums.{sum_by-cons}
-use Rattle.mg_defs.specs.PageBounds.{list_pages, ranked_bound}
 use Rattle.mg_defs.specs.Split.{documents}
 use Rattle.mg_defs.specs.Terms.{docs}
 use Rattle.mg_defs.specs.Weights.{Hit, has_term, hits, score}
@@ -95,10 +94,10 @@ same_hits_in collection ts infos n (doc ∷ docs) none =
 
 -- ---- what the lexicon tells
 
-shorter : {X Y : Type 0} (x : X) (y : Y) (xs : List X) (ys : List Y) → length (x ∷ xs) ≡ length (y ∷ ys) → length xs ≡ length ys
+pub shorter : {X Y : Type 0} (x : X) (y : Y) (xs : List X) (ys : List Y) → length (x ∷ xs) ≡ length (y ∷ ys) → length xs ≡ length ys
 shorter x y xs ys e = omega (arith, e)
 
-infos_more : (collection t : List ℕ) (ts : List (List ℕ)) (o : Option TermInfo) (infos : List (Option TermInfo)) → AreInfos collection (t ∷ ts) (o ∷ infos) →
+pub infos_more : (collection t : List ℕ) (ts : List (List ℕ)) (o : Option TermInfo) (infos : List (Option TermInfo)) → AreInfos collection (t ∷ ts) (o ∷ infos) →
     IsToldOf collection t o × AreInfos collection ts infos
 infos_more collection t ts o infos are = (are.each 0 (omega arith), record { size = shorter o t infos ts are.size; each = λ k lt. are.each (suc k) (omega (arith, lt)) })
 
@@ -115,17 +114,12 @@ known_hits collection ts infos are = same_hits_in collection ts infos 1 (documen
 
 -- ---- the pages
 
-pub known_bound : (collection : List ℕ) (ts : List (List ℕ)) (infos : List (Option TermInfo)) → length infos ≡ length ts → ranked_bound collection (known_terms ts infos) ≤ ranked_bound collection ts
-unfolding ranked_bound
-known_bound collection [] infos size = omega arith
-known_bound collection (t ∷ ts) [] size = omega arith
-known_bound collection (t ∷ ts) (None ∷ infos) size = omega (arith, sum_by-cons (list_pages collection) t ts, known_bound collection ts infos (shorter {X = Option TermInfo} None t infos ts size))
-known_bound collection (t ∷ ts) (Some info ∷ infos) size = omega (
-  arith,
-  sum_by-cons (list_pages collection) t ts,
-  sum_by-cons (list_pages collection) t (known_terms ts infos),
-  known_bound collection ts infos (shorter (Some info) t infos ts size),
-)
+pub known_sum : (f : List ℕ → ℕ) (ts : List (List ℕ)) (infos : List (Option TermInfo)) → length infos ≡ length ts → sum_by f (known_terms ts infos) ≤ sum_by f ts
+known_sum f [] infos size = omega arith
+known_sum f (t ∷ ts) [] size = omega arith
+known_sum f (t ∷ ts) (None ∷ infos) size = omega (arith, sum_by-cons f t ts, known_sum f ts infos (shorter {X = Option TermInfo} None t infos ts size))
+known_sum f (t ∷ ts) (Some info ∷ infos) size =
+    omega (arith, sum_by-cons f t ts, sum_by-cons f t (known_terms ts infos), known_sum f ts infos (shorter (Some info) t infos ts size))
 
 -- ---- the terms that are known are told of
 

@@ -5,6 +5,7 @@ pub mod ShowLaws
 pub mod HitLaws
 pub mod FindLaws
 pub mod KnownLaws
+pub mod AllowedLaws
 pub mod WalkLaws
 pub mod RankedLaws
 pub mod ReplyLaws
@@ -28,4 +29,6 @@ pub mod WildPageLaws
 mod QueriedLaws
 mod PhrasedLaws
 mod MatchedLaws
+mod LineLaws
 pub mod PhraseExamples
+pub mod AllowedExamples

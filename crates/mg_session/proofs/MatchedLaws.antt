@@ -89,7 +89,7 @@ patterns = record {
   reply = λ collection now. wild_reply collection;
   behind_head = behind_head;
   never_opened = kept;
-  lists_kept = (tt, tt, tt);
+  lists_kept = (tt, tt, tt, tt);
   within_none = λ code collection given r0 r1 none. record { post = omega (arith, none.0) };
   within_from = λ code collection given r0 r1 r2 none w. record { post = omega (arith, w.post, none.0) };
   answers = λ s code collection over. patterns_over s collection over;

@@ -17,6 +17,7 @@ use Rattle.mg_session.specs.Queried.{Queried}
 use Rattle.mg_session.specs.Searching.{AnswersBy, AskForNoText, Asked, MayStop, OpenedOver, Over, Searching}
 use Rattle.mg_session.specs.Served.{LinesServed}
 use Rattle.mg_session.specs.Serves.{CountsNone, ReadsWithin}
+use Rattle.mg_session.proofs.AllowedLaws.{KeepsParts, allowed_behind, allowed_kept}
 use Rattle.mg_session.proofs.ServedLaws.{Kind, NoPages, ServedAs, done_or, head_stopped, lines_served, run_of, set_stopped}
 use Rattle.mg_session.proofs.SessionLaws.{answers_over, first_ask_none, pages_within}
 use Rattle.mg_session.proofs.StepLaws.{never_early, text_behind}
@@ -27,11 +28,14 @@ pub text_is : (collection given : List ℕ) → session collection given ≡ hea
 unfolding session
 text_is collection given = refl
 
+keeps : {r s : Reads} → NoPages r s → KeepsParts r s
+keeps none = record { post = none.0; skip = none.1; weights = none.3 }
+
 pub within_none : (code : TextCode) (collection given : List ℕ) (r0 r1 : Reads) → NoPages r0 r1 → ReadsWithin code collection given r0 r1
-within_none code collection given r0 r1 none = record { post = omega (arith, none.0); text = omega (arith, none.2) }
+within_none code collection given r0 r1 none = record { allowed = allowed_kept _ (keeps none); text = omega (arith, none.2) }
 
 pub within_from : (code : TextCode) (collection given : List ℕ) (r0 r1 r2 : Reads) → NoPages r0 r1 → ReadsWithin code collection given r1 r2 → ReadsWithin code collection given r0 r2
-within_from code collection given r0 r1 r2 none w = record { post = omega (arith, w.post, none.0); text = omega (arith, w.text, none.2) }
+within_from code collection given r0 r1 r2 none w = record { allowed = allowed_behind (keeps none) w.allowed; text = omega (arith, w.text, none.2) }
 
 abbrev pub queries : Kind
 queries = record {
@@ -50,7 +54,7 @@ queries = record {
   reply = reply;
   behind_head = λ p never. omega (arith, never_early p never);
   never_opened = λ p never. tt;
-  lists_kept = (tt, tt, tt);
+  lists_kept = (tt, tt, tt, tt);
   within_none = within_none;
   within_from = within_from;
   answers = answers_over;

@@ -27,7 +27,9 @@ use Rattle.mg_reply.specs.Pending.{Passed}
 use Rattle.mg_reply.proofs.CallerLemmas.{pass_both, pass_cut, pass_nothing, pass_part, pass_refused}
 use Rattle.mg_text.specs.Reading.{ShowIsNotBad}
 use Rattle.mg_reply.specs.Printed.{at_score}
-use Rattle.mg_session.specs.Answering.{Answered, RowsShown, answer_pages, mode_pages, rows_asked, rows_in, rows_pages, rows_text, shown_hit, shown_hits}
+use Rattle.mg_session.specs.Answering.{Answered, RowsShown, answer_pages, mode_pages, rows_pages, rows_text, shown_hit, shown_hits}
+use Rattle.mg_session.specs.PagesAllowed.{PartPages, ReadsAllowed, rows_asked, rows_in}
+use Rattle.mg_session.proofs.AllowedLaws.{KeepsParts, allowed_then}
 use Rattle.mg_session.proofs.TotalLaws.{put_rows}
 
 -- ---- row by row
@@ -226,13 +228,13 @@ numbered n rows i number all lt is = (omega (arith, (all i no_hit lt).0, is no_h
 -- ---- the whole answer
 
 -- the lists or the weights were refused
-pub terms_stop : (code : TextCode) (collection : List ℕ) (now : Settings) (query : List (List ℕ)) (bound kept : ℕ) (w : Option (List ℕ)) (r0 r1 : Reads)
-    (error : ShowErr) → kept ≤ bound → r1 part.Post ≤ r0 part.Post + kept → r1 part.Text ≡ r0 part.Text → ShowIsNotBad (Err error) →
-    Answered code collection now (ranking collection query) bound w w r0 r1 (Err error)
-terms_stop code collection now query bound kept w r0 r1 error less post text sound = record {
+pub terms_stop : (code : TextCode) (collection : List ℕ) (now : Settings) (query : List (List ℕ)) (most : PartPages) (w : Option (List ℕ)) (r0 r1 : Reads)
+    (error : ShowErr) → ReadsAllowed most r0 r1 → r1 part.Text ≡ r0 part.Text → ShowIsNotBad (Err error) →
+    Answered code collection now (ranking collection query) most w w r0 r1 (Err error)
+terms_stop code collection now query most w r0 r1 error allowed text sound = record {
   put = grew_nothing w (answer_text collection now (ranking collection query));
   sound = sound;
-  post = omega (arith, less, post);
+  allowed = allowed;
   text = omega (arith, text);
 }
 
@@ -253,16 +255,15 @@ are_rows collection kept query now all most total rows same is m rows_are total_
 }
 
 -- the rows and the count were put, or refused
-pub rows_end : {code : TextCode} {collection : List ℕ} {now : Settings} (query : List (List ℕ)) {all total bound : ℕ} (kept : ℕ) {rows : List Hit} {w0 w1 : Option (List ℕ)}
-    {r0 : Reads} (r1 : Reads) {r2 : Reads} {result : Result (Unit {0}) ShowErr} → AreRows collection query now all total rows → kept ≤ bound →
-    r1 part.Post ≤ r0 part.Post + kept → r1 part.Text ≡ r0 part.Text →
-    AfterPut w0 w1 (rows_text collection now.mode rows ++ count total) result → r2 part.Post ≡ r1 part.Post →
+pub rows_end : {code : TextCode} {collection : List ℕ} {now : Settings} (query : List (List ℕ)) {all total : ℕ} {most : PartPages} {rows : List Hit} {w0 w1 : Option (List ℕ)}
+    {r0 : Reads} (r1 : Reads) {r2 : Reads} {result : Result (Unit {0}) ShowErr} → AreRows collection query now all total rows → ReadsAllowed most r0 r1 → r1 part.Text ≡ r0 part.Text →
+    AfterPut w0 w1 (rows_text collection now.mode rows ++ count total) result → KeepsParts r1 r2 →
     r2 part.Text ≤ r1 part.Text + rows_pages code collection now.mode rows → ShowIsNotBad result →
-    Answered code collection now (ranking collection query) bound w0 w1 r0 r2 result
-rows_end {code} {collection} {now} query {all} {total} {bound} kept {rows} {w0} {w1} {r0} r1 {r2} {result} are less post text put post_too shown_text sound = record {
+    Answered code collection now (ranking collection query) most w0 w1 r0 r2 result
+rows_end {code} {collection} {now} query {all} {total} {most} {rows} {w0} {w1} {r0} r1 {r2} {result} are allowed text put kept shown_text sound = record {
   put = subst (λ t. AfterPut w0 w1 t result) (sym (rows_text_is collection query now all total rows are.all_is are.rows_are are.total_is)) put;
   sound = sound;
-  post = omega (arith, less, post, post_too);
+  allowed = allowed_then allowed kept;
   text = omega (arith, text, shown_text, rows_pages_are code collection query now all rows are.all_is are.rows_are);
 }
 

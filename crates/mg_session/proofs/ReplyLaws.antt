@@ -1,5 +1,5 @@
 -- The reply to a query line.
-use Rattle.std.proofs.Common.{arith, ◌≡◌, ◌≢◌, ◌≤◌, inl, inr, ℕ, Bool, true, false, List, [], ◌∷◌, Ok, Err, refl, sym, subst}
+use Rattle.std.proofs.Common.{arith, ◌≡◌, ◌≢◌, ◌≤◌, inl, inr, ℕ, true, false, List, [], ◌∷◌, Ok, Err, refl, sym, subst}
 use Rattle.std.specs.Prelude.{IfSome, IfErr, IsErrOf}
 use Rattle.std.specs.declared.option.Option.{Option}
 use Rattle.std.specs.declared.result.Result.{Result}
@@ -18,7 +18,6 @@ use Rattle.mg_dev.specs.declared.part_err.PartErr.TheVariants.{Device, Memory, B
 use Rattle.mg_dev.specs.declared.show_err.ShowErr.{ShowErr}
 use Rattle.mg_dev.specs.declared.show_err.ShowErr.TheVariants as show
 use Rattle.mg_defs.specs.CodedText.{TextCode}
-use Rattle.mg_defs.specs.PageBounds.{bound_by, boolean_bound, line_bound, ranked_bound}
 use Rattle.mg_defs.specs.Read.{boolean, ranked}
 use Rattle.mg_defs.specs.Refusals.{Refusal, reads, refused}
 use Rattle.mg_defs.specs.Replies.{refusal, reply, reply_as}
@@ -36,9 +35,11 @@ use Rattle.mg_reply.specs.Refusals.{AnswerStops}
 use Rattle.mg_reply.specs.Served.{PartStops}
 use Rattle.mg_text.specs.Reading.{ShowIsNotBad}
 use Rattle.mg_session.specs.Answering.{Answered, AnswersFor, HasShowCause, HasShowLack, Replied, answer_pages}
+use Rattle.mg_session.specs.PagesAllowed.{PartPages, ReadsAllowed, allowed_by, line_allows, query_allows, ranked_allows}
 use Rattle.mg_session.specs.Parts.{Stepped}
 use Rattle.mg_session.specs.SearchLaws.{same_texts, texts_later, weights_later}
 use Rattle.mg_session.specs.Searching.{Asked, MayStop, Opened, OpenedOver, Over, SameOpened, Searching}
+use Rattle.mg_session.proofs.AllowedLaws.{KeepsParts, allowed_behind, allowed_kept, allowed_none}
 
 -- ---- refusals that say of no part that it is bad
 
@@ -66,28 +67,28 @@ top_sound Memory error collection ts most is or = subst (λ e. ShowIsNotBad (Err
 top_sound (Bad bad) error collection ts most is or = absurd or
 
 -- nothing was printed or read
-pub none_answered : (code : TextCode) (collection : List ℕ) (now : Settings) (answer : List Shown) (bound : ℕ) (w : Option (List ℕ)) (r : Reads) →
-    Answered code collection now answer bound w w r r (Err (show.Part Memory))
-none_answered code collection now answer bound w r = record { put = grew_nothing w (answer_text collection now answer); sound = tt; post = omega arith; text = omega arith }
+pub none_answered : (code : TextCode) (collection : List ℕ) (now : Settings) (answer : List Shown) (most : PartPages) (w : Option (List ℕ)) (r : Reads) →
+    Answered code collection now answer most w w r r (Err (show.Part Memory))
+none_answered code collection now answer most w r = record { put = grew_nothing w (answer_text collection now answer); sound = tt; allowed = allowed_none most r; text = omega arith }
 
 -- it stopped before anything was printed, and neither lists nor text were read
-pub nothing_answered : (code : TextCode) (collection : List ℕ) (now : Settings) (answer : List Shown) (bound : ℕ) (w : Option (List ℕ)) (r0 r1 : Reads) (error : ShowErr)
-    → ShowIsNotBad (Err error) → r1 part.Post ≡ r0 part.Post → r1 part.Text ≡ r0 part.Text → Answered code collection now answer bound w w r0 r1 (Err error)
-nothing_answered code collection now answer bound w r0 r1 error sound post text = record {
+pub nothing_answered : (code : TextCode) (collection : List ℕ) (now : Settings) (answer : List Shown) (most : PartPages) (w : Option (List ℕ)) (r0 r1 : Reads) (error : ShowErr)
+    → ShowIsNotBad (Err error) → KeepsParts r0 r1 → r1 part.Text ≡ r0 part.Text → Answered code collection now answer most w w r0 r1 (Err error)
+nothing_answered code collection now answer most w r0 r1 error sound kept text = record {
   put = grew_nothing w (answer_text collection now answer);
   sound = sound;
-  post = omega (arith, post);
+  allowed = allowed_kept most kept;
   text = omega (arith, text);
 }
 
 -- what was answered behind a look at other parts
-pub answered_behind : (code : TextCode) (collection : List ℕ) (now : Settings) (answer : List Shown) (bound : ℕ) (w0 w1 : Option (List ℕ)) (r0 r1 r2 : Reads) (result : Result (Unit {0}) ShowErr)
-    → Answered code collection now answer bound w0 w1 r1 r2 result → r1 part.Post ≡ r0 part.Post → r1 part.Text ≡ r0 part.Text
-    → Answered code collection now answer bound w0 w1 r0 r2 result
-answered_behind code collection now answer bound w0 w1 r0 r1 r2 result a post text = record {
+pub answered_behind : (code : TextCode) (collection : List ℕ) (now : Settings) (answer : List Shown) (most : PartPages) (w0 w1 : Option (List ℕ))
+    (r0 r1 r2 : Reads) (result : Result (Unit {0}) ShowErr) → Answered code collection now answer most w0 w1 r1 r2 result → KeepsParts r0 r1 → r1 part.Text ≡ r0 part.Text
+    → Answered code collection now answer most w0 w1 r0 r2 result
+answered_behind code collection now answer most w0 w1 r0 r1 r2 result a kept text = record {
   put = a.put;
   sound = a.sound;
-  post = omega (arith, a.post, post);
+  allowed = allowed_behind kept a.allowed;
   text = omega (arith, a.text, text);
 }
 
@@ -130,7 +131,7 @@ pub boolean_refused : (e : QueryErr) (code : TextCode) (collection : List ℕ) {
 boolean_refused e code collection {now} {line} {w0} {w1} {r} {result} P Q said put stops = record {
   put = put (reply_as false collection now line) (IfSome_then (refusal_of e) said (boolean_says collection now line));
   sound = refused_sound P Q result stops;
-  post = omega arith;
+  allowed = allowed_none _ r;
   text = omega arith;
 }
 
@@ -141,51 +142,39 @@ pub ranked_refused : (e : QueryErr) (code : TextCode) (collection : List ℕ) {n
 ranked_refused e code collection {now} {line} {w0} {w1} {r} {result} P Q said put stops = record {
   put = put (reply_as true collection now line) (IfSome_then (refusal_of e) said (ranked_says collection now line));
   sound = refused_sound P Q result stops;
-  post = omega arith;
+  allowed = allowed_none _ r;
   text = omega arith;
 }
 
 -- ---- a query
 
--- it stopped before anything was printed, and neither lists nor text were read
-pub nothing_replied : (code : TextCode) (collection : List ℕ) (by : Bool) (now : Settings) (line : List ℕ) (w : Option (List ℕ)) (r0 r1 : Reads)
-    (error : ShowErr) → ShowIsNotBad (Err error) → r1 part.Post ≡ r0 part.Post → r1 part.Text ≡ r0 part.Text →
-    Replied code collection by now line w w r0 r1 (Err error)
-nothing_replied code collection by now line w r0 r1 error sound post text = record {
-  put = grew_nothing w (reply_as by collection now line);
-  sound = sound;
-  post = omega (arith, post);
-  text = omega (arith, text);
-}
-
-pub boolean_answered : (code : TextCode) (collection : List ℕ) (q : Query) {now : Settings} {line : List ℕ} {w0 w1 : Option (List ℕ)} {r0 r1 r2 : Reads}
+pub boolean_answered : (code : TextCode) (collection : List ℕ) (q : Query) {now : Settings} {line : List ℕ} {w0 w1 : Option (List ℕ)} {r0 r1 : Reads}
     {result : Result (Unit {0}) ShowErr} → boolean line ≡ reads q →
-    Answered code collection now (satisfying collection q) (boolean_bound collection q) w0 w1 r1 r2 result → r1 part.Post ≡ r0 part.Post →
-    r1 part.Text ≡ r0 part.Text → Replied code collection false now line w0 w1 r0 r2 result
-boolean_answered code collection q {now} {line} {w0} {w1} {r0} {r1} {r2} {result} is a post text =
+    Answered code collection now (satisfying collection q) (query_allows collection q) w0 w1 r0 r1 result → Replied code collection false now line w0 w1 r0 r1 result
+boolean_answered code collection q {now} {line} {w0} {w1} {r0} {r1} {result} is a =
     let same_text : reply_as false collection now line ≡ answer_text collection now (satisfying collection q) = rw is refl in
-    let same_bound : bound_by false collection line ≡ boolean_bound collection q = rw is refl in
+    let same_most : allowed_by false collection now line ≡ query_allows collection q = rw is refl in
     let same_pages : answer_pages code collection now (answer_by false collection line) ≡ answer_pages code collection now (satisfying collection q) = rw is refl in
     record {
       put = subst (λ t. AfterPut w0 w1 t result) (sym same_text) a.put;
       sound = a.sound;
-      post = omega (arith, a.post, post, same_bound);
-      text = omega (arith, a.text, text, same_pages);
+      allowed = subst (λ m. ReadsAllowed m r0 r1) (sym same_most) a.allowed;
+      text = omega (arith, a.text, same_pages);
     }
 
-pub ranked_answered : (code : TextCode) (collection : List ℕ) (terms : List (List ℕ)) {now : Settings} {line : List ℕ} {w0 w1 : Option (List ℕ)} {r0 r1 r2 : Reads}
+pub ranked_answered : (code : TextCode) (collection : List ℕ) (terms : List (List ℕ)) {now : Settings} {line : List ℕ} {w0 w1 : Option (List ℕ)} {r0 r1 : Reads}
     {result : Result (Unit {0}) ShowErr} → ranked line ≡ reads terms →
-    Answered code collection now (ranking collection terms) (ranked_bound collection terms) w0 w1 r1 r2 result → r1 part.Post ≡ r0 part.Post →
-    r1 part.Text ≡ r0 part.Text → Replied code collection true now line w0 w1 r0 r2 result
-ranked_answered code collection terms {now} {line} {w0} {w1} {r0} {r1} {r2} {result} is a post text =
+    Answered code collection now (ranking collection terms) (ranked_allows collection now terms) w0 w1 r0 r1 result →
+    Replied code collection true now line w0 w1 r0 r1 result
+ranked_answered code collection terms {now} {line} {w0} {w1} {r0} {r1} {result} is a =
     let same_text : reply_as true collection now line ≡ answer_text collection now (ranking collection terms) = rw is refl in
-    let same_bound : bound_by true collection line ≡ ranked_bound collection terms = rw is refl in
+    let same_most : allowed_by true collection now line ≡ ranked_allows collection now terms = rw is refl in
     let same_pages : answer_pages code collection now (answer_by true collection line) ≡ answer_pages code collection now (ranking collection terms) = rw is refl in
     record {
       put = subst (λ t. AfterPut w0 w1 t result) (sym same_text) a.put;
       sound = a.sound;
-      post = omega (arith, a.post, post, same_bound);
-      text = omega (arith, a.text, text, same_pages);
+      allowed = subst (λ m. ReadsAllowed m r0 r1) (sym same_most) a.allowed;
+      text = omega (arith, a.text, same_pages);
     }
 
 -- what stands for the answer, after the lexicon was read
@@ -208,14 +197,16 @@ pub asked_one : (s t : Searching) (now : Settings) (line : List ℕ) (w0 w1 : Op
     Stepped now.mode s.files t.files s.reads t.reads s.faults t.faults → SameOpened s.opened t.opened →
     ((code : TextCode) (collection : List ℕ) → Over s code collection → Replied code collection now.ranked now line w0 w1 s.reads t.reads result) →
     Asked s t (record { now = now; line = line } ∷ [])
-unfolding line_bound line_text_bound answer_of
+unfolding line_allows line_text_bound answer_of
 asked_one s t now line w0 w1 result step same replied = record {
   files = step.files;
   faults = step.faults;
   same = same;
   unread = λ p never. step.unread p (inl never);
   texts_unread = λ none p of_text. step.unread p (inr (All-head (λ (q : Question). q.now.mode ≢ mode.Text) (record { now = now; line = line }) [] none, of_text));
-  post = λ code collection over. omega (arith, (replied code collection over).post);
+  allowed = λ code collection over.
+      let a = (replied code collection over).allowed in
+      record { post = omega (arith, a.post); skip = omega (arith, a.skip); weights = omega (arith, a.weights) };
   shown = λ code collection over. omega (arith, (replied code collection over).text);
 }
 

@@ -49,9 +49,10 @@ run_of store store_now input input_now out out_now err err_now result = record {
   status = status_of result;
 }
 
--- no page of the lists or of the text is read
+-- no page of the lists, the weights or the text is read
 abbrev pub NoPages : Reads → Reads → Type 0
 NoPages before now = (now part.Post ≡ before part.Post) × (now part.Skip ≡ before part.Skip) × (now part.Text ≡ before part.Text)
+    × (now part.Weights ≡ before part.Weights)
 
 -- A kind of session: what it prints of a collection and an input, and what it reads; what its answerer's states are; and why these fit together.
 pub record Kind : Type 1 where
@@ -68,10 +69,10 @@ pub record Kind : Type 1 where
   pub MayStop : State → State → PartErr → Type 0
   pub IsOver : State → TextCode → List ℕ → Type 0
   pub reply : List ℕ → Settings → List ℕ → List ℕ
-  -- what is never read is neither the head nor read while a set is opened, and no page of the lists or of the text is read then
+  -- what is never read is neither the head nor read while a set is opened, and no page of the lists, the weights or the text is read then
   pub behind_head : (p : Part) → IsUnread p → 1 ≤ number p
   pub never_opened : (p : Part) → IsUnread p → IsKept p
-  pub lists_kept : IsKept part.Post × IsKept part.Skip × IsKept part.Text
+  pub lists_kept : IsKept part.Post × IsKept part.Skip × IsKept part.Text × IsKept part.Weights
   pub within_none : (code : TextCode) (collection given : List ℕ) (r0 r1 : Reads) → NoPages r0 r1 → IsWithin code collection given r0 r1
   pub within_from : (code : TextCode) (collection given : List ℕ) (r0 r1 r2 : Reads) → NoPages r0 r1 → IsWithin code collection given r1 r2 → IsWithin code collection given r0 r2
   -- over a collection it answers as the session of the collection does
@@ -98,16 +99,20 @@ refused_as {A} {B} f g (inr (inr e)) = let same : f ≡ Memory = cc in inr (inr 
 
 -- ---- the opening
 
--- no page of the lists or of the text is read with the head
+-- no page of the lists, the weights or the text is read with the head
 head_pages : (base : List ℕ) (s0 s1 : StoreAt) (r : Result Head Fault) → HeadOpened base s0 s1 r → NoPages s0.reads s1.reads
-head_pages base s0 s1 r h = (h.unread part.Post (omega arith), h.unread part.Skip (omega arith), h.unread part.Text (omega arith))
+head_pages base s0 s1 r h = (h.unread part.Post (omega arith), h.unread part.Skip (omega arith), h.unread part.Text (omega arith), h.unread part.Weights (omega arith))
 
 -- nor while the set is opened
 set_pages : {T : Type 0} (k : Kind) (IsOver : T → TextCode → List ℕ → Type 0) (counted : ℕ → Type 0) (head : Head) (base : List ℕ) (s0 s1 s2 : StoreAt) (r : Result Head Fault) (o : Result T Fault) →
     HeadOpened base s0 s1 r → SetOpened IsOver k.IsKept counted head base s1 s2 o → NoPages s0.reads s2.reads
 set_pages k IsOver counted head base s0 s1 s2 r o h set =
-    let first = head_pages base s0 s1 r h in
-    (set.unread part.Post k.lists_kept.0 ∙ first.0, set.unread part.Skip k.lists_kept.1 ∙ first.1, set.unread part.Text k.lists_kept.2 ∙ first.2)
+    let first = head_pages base s0 s1 r h in (
+      set.unread part.Post k.lists_kept.0 ∙ first.0,
+      set.unread part.Skip k.lists_kept.1 ∙ first.1,
+      set.unread part.Text k.lists_kept.2 ∙ first.2,
+      set.unread part.Weights k.lists_kept.3 ∙ first.3,
+    )
 
 -- the files stand for a collection only where the set with the loaded head does
 pub stands_opened : (base : List ℕ) (s0 s1 : StoreAt) (head : Head) → HeadOpened base s0 s1 (Ok head) → (collection : List ℕ) →

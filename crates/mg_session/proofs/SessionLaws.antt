@@ -4,7 +4,6 @@ use Rattle.std.specs.Prelude.{true}
 use Rattle.std.proofs.lemmas.List.Sums.{sum_by-append}
 use Rattle.mg_dev.specs.declared.part.Part.{Part}
 use Rattle.mg_defs.specs.CodedText.{TextCode}
-use Rattle.mg_defs.specs.PageBounds.{line_bound, session_bound}
 use Rattle.mg_defs.specs.Replies.{reply}
 use Rattle.mg_defs.specs.Session.{Question, questions_of}
 use Rattle.mg_defs.specs.TextBounds.{line_text_bound, session_text_bound}
@@ -12,6 +11,7 @@ use Rattle.mg_session.specs.Parts.{is_of_text}
 use Rattle.mg_session.specs.SearchLaws.{ask_before}
 use Rattle.mg_session.specs.Searching.{AnswersBy, AskForNoText, Asked, Over, Searching}
 use Rattle.mg_session.specs.Serves.{ReadsWithin}
+use Rattle.mg_session.proofs.AllowedLaws.{first_allowed}
 
 pub answers_over : (s : Searching) (code : TextCode) (collection : List ℕ) → Over s code collection → AnswersBy s (reply collection)
 answers_over s code collection over = record { code = code; collection = collection; over = over; by_is = refl }
@@ -19,9 +19,9 @@ answers_over s code collection over = record { code = code; collection = collect
 -- the first of the queries of an input
 pub pages_within : (s t : Searching) (answered : List Question) (code : TextCode) (collection given : List ℕ) → Asked s t answered →
     (more : List Question) × (questions_of given ≡ answered ++ more) → Over s code collection → ReadsWithin code collection given s.reads t.reads
-unfolding session_bound session_text_bound
+unfolding session_text_bound
 pages_within s t answered code collection given a first over = record {
-  post = omega (arith, a.post code collection over, ap (sum_by (line_bound collection)) first.1, sum_by-append (line_bound collection) answered first.0);
+  allowed = first_allowed collection given answered first (a.allowed code collection over);
   text = omega (arith, a.shown code collection over, ap (sum_by (line_text_bound code collection)) first.1, sum_by-append (line_text_bound code collection) answered first.0);
 }
 

@@ -16,6 +16,7 @@ use Rattle.mg_post.specs.TermLists.{ReadsLists}
 use Rattle.mg_rank.specs.Ranked.{ReadsRanked}
 use Rattle.mg_session.specs.Answering.{HasShowCause, IsFailureCaused}
 use Rattle.mg_session.specs.Parts.{NeverRead, ShownIn, Stepped, UnreadIn, is_of_text, is_shown_from}
+use Rattle.mg_session.proofs.AllowedLaws.{KeepsParts}
 
 -- ---- what is left of the store
 
@@ -185,14 +186,25 @@ looked_shown one other f g r s m n low high low_other high_other looked = record
   others = λ p not. looked.others p (same_false p one 0 5 (not_text p not) low (omega (arith, high))) (same_false p other 0 5 (not_text p not) low_other (omega (arith, high_other)));
 }
 
-post_not : (w : Mode) → is_shown_from w part.Post ≡ false
-post_not mode.Docnums = refl
-post_not mode.Text = refl
-post_not mode.Count = refl
+-- parts from which no document is decoded are not read
+not_shown : (w : Mode) (p : Part) → is_of_text p ≡ false → is_shown_from w p ≡ false
+not_shown mode.Docnums p is = refl
+not_shown mode.Text p is = is
+not_shown mode.Count p is = refl
 
--- Post is not read
 pub shown_post : (w : Mode) (f g : Option Files) (r s : Reads) (m n : ℕ) → ShownIn w f g r s m n → s part.Post ≡ r part.Post
-shown_post w f g r s m n shown = shown.others part.Post (post_not w)
+shown_post w f g r s m n shown = shown.others part.Post (not_shown w part.Post refl)
+
+pub shown_keeps : {w : Mode} {f g : Option Files} {r s : Reads} {m n : ℕ} → ShownIn w f g r s m n → KeepsParts r s
+shown_keeps {w} shown = record {
+  post = shown.others part.Post (not_shown w part.Post refl);
+  skip = shown.others part.Skip (not_shown w part.Skip refl);
+  weights = shown.others part.Weights (not_shown w part.Weights refl);
+}
+
+-- nor by a look at the lexicon
+pub lex_keeps : {f g : Option Files} {r s : Reads} {m n : ℕ} → LookedAt part.Lex part.LexAt f g r s m n → KeepsParts r s
+lex_keeps looked = record { post = looked.others part.Post refl refl; skip = looked.others part.Skip refl refl; weights = looked.others part.Weights refl refl }
 
 -- neither Post nor Text is read
 pub lex_post : (f g : Option Files) (r s : Reads) (m n : ℕ) → LookedAt part.Lex part.LexAt f g r s m n → s part.Post ≡ r part.Post
@@ -203,6 +215,9 @@ lex_text f g r s m n looked = looked.others part.Text refl refl
 
 pub lists_text : (r s : Reads) → ReadsLists r s → s part.Text ≡ r part.Text
 lists_text r s reads = reads.others part.Text (λ e. omega (arith, ap number e)) (λ e. omega (arith, ap number e))
+
+pub lists_weights : (r s : Reads) → ReadsLists r s → s part.Weights ≡ r part.Weights
+lists_weights r s reads = reads.others part.Weights (λ e. omega (arith, ap number e)) (λ e. omega (arith, ap number e))
 
 pub ranked_text : (r s : Reads) → ReadsRanked r s → s part.Text ≡ r part.Text
 ranked_text r s reads = reads.others part.Text (λ e. omega (arith, ap number e)) (λ e. omega (arith, ap number e)) (λ e. omega (arith, ap number e))

@@ -25,15 +25,22 @@ use Rattle.mg_defs.specs.declared.session.Mode.{Mode}
 use Rattle.mg_defs.specs.declared.session.Mode.TheVariants.{Docnums, Text, Count}
 use Rattle.mg_defs.specs.declared.session.Settings.{Settings}
 use Rattle.mg_defs.proofs.ReplyLaws.{first-full, first-front, first-more, hit_adds, none_first, reply-front}
-use Rattle.mg_bool.specs.Matches.{GoesOn, Matching, MatchesFit, MatchesOver, left_of}
-use Rattle.mg_bool.specs.Places.{pages_read}
+use Rattle.mg_defs.specs.PageBounds.{boolean_bound}
+use Rattle.mg_defs.specs.QueryTerms.{query_terms}
+use Rattle.mg_bool.specs.Calls.{PlacesSkip, SkipsWithin, skips_read}
+use Rattle.mg_bool.specs.Matches.{GoesOn, Matching, MatchesFit, MatchesOver, left_of, query_bound}
+use Rattle.mg_bool.specs.Places.{pages_read, term_entries}
+use Rattle.mg_bool.specs.Shown.{SameLists}
 use Rattle.mg_query.specs.QueryOf.{query_of}
-use Rattle.mg_post.specs.TermLists.{PagesWithin}
+use Rattle.mg_post.specs.TermLists.{PagesWithin, ReadsLists}
 use Rattle.mg_reply.specs.Pending.{Passed}
 use Rattle.mg_reply.proofs.CallerLemmas.{pass_nothing, pass_both, pass_cut}
 use Rattle.mg_text.specs.Reading.{ShowIsNotBad}
 use Rattle.mg_reply.specs.Printed.{at_score}
 use Rattle.mg_session.specs.Answering.{Answered, Walked, answer_pages, hit_pages, mode_pages}
+use Rattle.mg_session.specs.PagesAllowed.{ReadsAllowed, query_allows}
+use Rattle.mg_session.proofs.AllowedLaws.{KeepsParts, allowed_then}
+use Rattle.mg_session.proofs.StepLaws.{lists_text, lists_weights}
 use Rattle.mg_session.proofs.TotalLaws.{put_rest}
 
 -- ---- the documents that are found have no score
@@ -97,29 +104,76 @@ no_pages code collection Docnums most = refl
 no_pages code collection Text most = ap (sum_by (doc_pages code collection)) (none_first most)
 no_pages code collection Count most = refl
 
+-- ---- what a call for the next document reads
+
+-- The lists of a query were asked for the next document, whatever was answered.
+pub record NextRead (collection : List ℕ) (q : Query) (m n : Matching) (before now : Reads) : Type 0 where
+  pub asks : query_of m.asks ≡ q
+  pub least : pages_read n.places ≤ query_bound collection q
+  pub post : now part.Post + pages_read m.places ≤ before part.Post + pages_read n.places
+  pub lists : SameLists m n
+  pub skips : PlacesSkip m.places n.places before now
+  pub reads : ReadsLists before now
+
+pub next_read : {collection : List ℕ} (start : Matching) {m n : Matching} {before now : Reads} → m.asks ≡ start.asks → pages_read n.places ≤ query_bound collection (query_of m.asks) →
+    PagesWithin (boolean_bound collection (query_of m.asks)) (pages_read m.places) (pages_read n.places) before now → SameLists m n →
+    PlacesSkip m.places n.places before now → ReadsLists before now → NextRead collection (query_of start.asks) m n before now
+next_read {collection} start asks least pages lists skips reads = record {
+  asks = ap query_of asks;
+  least = omega (arith, least, ap (λ a. query_bound collection (query_of a)) asks);
+  post = pages.post;
+  lists = lists;
+  skips = skips;
+  reads = reads;
+}
+
+-- what mg_bool says of the pages of Skip that the lists' cursors have read
+abbrev pub SkipsTold : Type 0
+SkipsTold = (base collection : List ℕ) (m now : Matching) → MatchesOver base collection m → SameLists m now → SkipsWithin now.places →
+    skips_read now.places ≤ sum_by (term_entries collection) (query_terms (query_of m.asks))
+
+-- so no more is read than the query allows
+next_allowed : {base : List ℕ} {code : TextCode} {collection : List ℕ} {q : Query} {now : Settings} {w0 w1 : Option (List ℕ)} {waiting : List ℕ} {total : ℕ}
+    {m n : Matching} {r0 r1 r2 : Reads} → SkipsTold → Walked base code collection q now w0 w1 waiting total m r0 r1 → NextRead collection q m n r1 r2 →
+    ReadsAllowed (query_allows collection q) r0 r2
+next_allowed {base} {code} {collection} {q} {m = m} {n = n} {r1 = r1} {r2 = r2} law w next = record {
+  post = omega (arith, w.post, next.post, next.least);
+  skip = omega (
+    arith,
+    w.skip,
+    next.skips.skip,
+    law base collection m n w.over next.lists (next.skips.within w.skips_within),
+    ap (λ p. sum_by (term_entries collection) (query_terms p)) next.asks,
+  );
+  weights = omega (arith, w.weights, lists_weights r1 r2 next.reads);
+}
+
 -- ---- one document after another
 
 pub walked_start : {base : List ℕ} {code : TextCode} {collection : List ℕ} {q : Query} {now : Settings} {w : Option (List ℕ)} {waiting : List ℕ} {m : Matching} {r : Reads} →
-    waiting ≡ [] → query_of m.asks ≡ q → m.decided ≡ 0 → MatchesOver base collection m → Walked base code collection q now w w waiting 0 m r r
-walked_start {base} {code} {collection} {q} {now} {w} {waiting} {m} {r} none asks before over = record {
+    waiting ≡ [] → query_of m.asks ≡ q → m.decided ≡ 0 → SkipsWithin m.places → MatchesOver base collection m → Walked base code collection q now w w waiting 0 m r r
+walked_start {base} {code} {collection} {q} {now} {w} {waiting} {m} {r} none asks before within over = record {
   so_far = [];
   split = ap (λ p. satisfying collection p) (sym asks) ∙ ap (λ n. found (query_of m.asks) (n + 1) (drop n (documents collection))) (sym before);
   total_is = refl;
   passed = subst (λ xs. Passed w w [] waiting (flat_map (shown collection now.mode) xs)) (sym (none_first now.most)) (subst (λ p. Passed w w [] p []) (sym none) (pass_nothing w []));
   over = over;
   post = omega arith;
+  skip = omega arith;
+  skips_within = within;
+  weights = refl;
   text = omega arith;
 }
 
 -- a document that was found
 pub walked_hit : {base : List ℕ} {code : TextCode} {collection : List ℕ} {q : Query} {now : Settings} {w0 w1 w2 : Option (List ℕ)} {waiting waiting2 : List ℕ} (total number : ℕ)
-    {bound : ℕ} (m n : Matching) {r0 : Reads} (r1 r2 : Reads) {r3 : Reads} →
+    (m n : Matching) {r0 : Reads} (r1 r2 : Reads) {r3 : Reads} →
     Walked base code collection q now w0 w1 waiting total m r0 r1 → GoesOn (left_of collection m) (left_of collection n) (Some number) →
-    MatchesOver base collection n → PagesWithin bound (pages_read m.places) (pages_read n.places) r1 r2 → r2 part.Text ≡ r1 part.Text →
-    Passed w1 w2 waiting waiting2 (hit_text (document collection number) now.mode now.most total (at_score number None)) → r3 part.Post ≡ r2 part.Post →
+    MatchesOver base collection n → NextRead collection q m n r1 r2 →
+    Passed w1 w2 waiting waiting2 (hit_text (document collection number) now.mode now.most total (at_score number None)) → KeepsParts r2 r3 →
     r3 part.Text ≤ r2 part.Text + hit_pages code collection now total (at_score number None) →
     Walked base code collection q now w0 w2 waiting2 (total + 1) n r0 r3
-walked_hit {base} {code} {collection} {q} {now} {w0} {w1} {w2} {waiting} {waiting2} total number {bound} m n {r0} r1 r2 {r3} w goes over pages text passed post shown_text =
+walked_hit {base} {code} {collection} {q} {now} {w0} {w1} {w2} {waiting} {waiting2} total number m n {r0} r1 r2 {r3} w goes over next passed kept shown_text =
     let hit = at_score number None in
     let whole : Passed w0 w2 [] waiting2 (flat_map (shown collection now.mode) (limited_to now.most w.so_far) ++ hit_text (document collection number) now.mode now.most total hit) =
     pass_both w0 w1 w2 [] waiting waiting2 (flat_map (shown collection now.mode) (limited_to now.most w.so_far)) (hit_text (document collection number)
@@ -131,8 +185,11 @@ walked_hit {base} {code} {collection} {q} {now} {w0} {w1} {w2} {waiting} {waitin
       total_is = omega (arith, length-append w.so_far (hit ∷ []), w.total_is);
       passed = subst (Passed w0 w2 [] waiting2) (sym (hit_adds collection now (document collection number) w.so_far hit total refl w.total_is)) whole;
       over = over;
-      post = omega (arith, w.post, pages.post, post);
-      text = omega (arith, w.text, text, shown_text, pages_adds code collection now.mode now.most w.so_far hit total w.total_is);
+      post = omega (arith, w.post, next.post, kept.post);
+      skip = omega (arith, w.skip, next.skips.skip, kept.skip);
+      skips_within = next.skips.within w.skips_within;
+      weights = kept.weights ∙ lists_weights r1 r2 next.reads ∙ w.weights;
+      text = omega (arith, w.text, lists_text r1 r2 next.reads, shown_text, pages_adds code collection now.mode now.most w.so_far hit total w.total_is);
     }
 
 -- ---- the end, and stops before it
@@ -155,26 +212,26 @@ pages_so_far base code collection q now w0 w1 waiting total m r0 r1 w =
     omega (arith, w.text, pages_front code collection now.mode now.most w.so_far (left_of collection m), ap (answer_pages code collection now) w.split)
 
 -- the lists could not be read
-pub walked_stop : {base : List ℕ} {code : TextCode} {collection : List ℕ} {q : Query} {now : Settings} {w0 w1 : Option (List ℕ)} {waiting : List ℕ} {total bound : ℕ}
-    (m n : Matching) {r0 : Reads} (r1 : Reads) {r2 : Reads} {error : ShowErr} →
-    Walked base code collection q now w0 w1 waiting total m r0 r1 → PagesWithin bound (pages_read m.places) (pages_read n.places) r1 r2 → r2 part.Text ≡ r1 part.Text → ShowIsNotBad (Err error) →
-    Answered code collection now (satisfying collection q) bound w0 w1 r0 r2 (Err error)
-walked_stop {base} {code} {collection} {q} {now} {w0} {w1} {waiting} {total} {bound} m n {r0} r1 {r2} {error} w pages text sound = record {
+pub walked_stop : {base : List ℕ} {code : TextCode} {collection : List ℕ} {q : Query} {now : Settings} {w0 w1 : Option (List ℕ)} {waiting : List ℕ} {total : ℕ}
+    (m n : Matching) {r0 : Reads} (r1 : Reads) {r2 : Reads} {error : ShowErr} → SkipsTold →
+    Walked base code collection q now w0 w1 waiting total m r0 r1 → NextRead collection q m n r1 r2 → ShowIsNotBad (Err error) →
+    Answered code collection now (satisfying collection q) (query_allows collection q) w0 w1 r0 r2 (Err error)
+walked_stop {base} {code} {collection} {q} {now} {w0} {w1} {waiting} {total} m n {r0} r1 {r2} {error} law w next sound = record {
   put = so_far_prefix base code collection q now w0 w1 waiting total m r0 r1 w;
   sound = sound;
-  post = omega (arith, w.post, pages.post, pages.within);
-  text = omega (arith, pages_so_far base code collection q now w0 w1 waiting total m r0 r1 w, text);
+  allowed = next_allowed law w next;
+  text = omega (arith, pages_so_far base code collection q now w0 w1 waiting total m r0 r1 w, lists_text r1 r2 next.reads);
 }
 
 -- a document could not be shown
 pub walked_cut : {base : List ℕ} {code : TextCode} {collection : List ℕ} {q : Query} {now : Settings} {w0 w1 w2 : Option (List ℕ)} {waiting : List ℕ} (total number : ℕ)
-    {bound : ℕ} (m n : Matching) {r0 : Reads} (r1 r2 : Reads) {r3 : Reads} {error : ShowErr} →
+    (m n : Matching) {r0 : Reads} (r1 r2 : Reads) {r3 : Reads} {error : ShowErr} → SkipsTold →
     Walked base code collection q now w0 w1 waiting total m r0 r1 → GoesOn (left_of collection m) (left_of collection n) (Some number) →
-    PagesWithin bound (pages_read m.places) (pages_read n.places) r1 r2 → r2 part.Text ≡ r1 part.Text →
-    GrewByPrefix w1 w2 (waiting ++ hit_text (document collection number) now.mode now.most total (at_score number None)) → r3 part.Post ≡ r2 part.Post →
+    NextRead collection q m n r1 r2 →
+    GrewByPrefix w1 w2 (waiting ++ hit_text (document collection number) now.mode now.most total (at_score number None)) → KeepsParts r2 r3 →
     r3 part.Text ≤ r2 part.Text + hit_pages code collection now total (at_score number None) → ShowIsNotBad (Err error) →
-    Answered code collection now (satisfying collection q) bound w0 w2 r0 r3 (Err error)
-walked_cut {base} {code} {collection} {q} {now} {w0} {w1} {w2} {waiting} total number {bound} m n {r0} r1 r2 {r3} {error} w goes pages text grew post shown_text sound =
+    Answered code collection now (satisfying collection q) (query_allows collection q) w0 w2 r0 r3 (Err error)
+walked_cut {base} {code} {collection} {q} {now} {w0} {w1} {w2} {waiting} total number m n {r0} r1 r2 {r3} {error} law w goes next grew kept shown_text sound =
     let hit = at_score number None in
     let g = shown collection now.mode in
     let one = hit_text (document collection number) now.mode now.most total hit in
@@ -189,11 +246,11 @@ walked_cut {base} {code} {collection} {q} {now} {w0} {w1} {w2} {waiting} total n
     record {
       put = subst (GrewByPrefix w0 w2) (sym is_text) (grew_first w0 w2 (flat_map g (limited_to now.most w.so_far) ++ one) front.0 part);
       sound = sound;
-      post = omega (arith, w.post, pages.post, pages.within, post);
+      allowed = allowed_then (next_allowed law w next) kept;
       text = omega (
         arith,
         w.text,
-        text,
+        lists_text r1 r2 next.reads,
         shown_text,
         pages_adds code collection now.mode now.most w.so_far hit total w.total_is,
         pages_front code collection now.mode now.most (w.so_far ++ hit ∷ []) (left_of collection n),
@@ -216,19 +273,19 @@ ended base code collection q now w0 w1 waiting total m n r0 r1 w goes =
     )
 
 -- the count was put behind all that waited, or refused
-pub walked_end : {base : List ℕ} {code : TextCode} {collection : List ℕ} {q : Query} {now : Settings} {w0 w1 w2 : Option (List ℕ)} {waiting : List ℕ} (total : ℕ) {bound : ℕ}
-    (m n : Matching) {r0 : Reads} (r1 : Reads) {r2 : Reads} {result : Result (Unit {0}) ShowErr} →
+pub walked_end : {base : List ℕ} {code : TextCode} {collection : List ℕ} {q : Query} {now : Settings} {w0 w1 w2 : Option (List ℕ)} {waiting : List ℕ} (total : ℕ)
+    (m n : Matching) {r0 : Reads} (r1 : Reads) {r2 : Reads} {result : Result (Unit {0}) ShowErr} → SkipsTold →
     Walked base code collection q now w0 w1 waiting total m r0 r1 → GoesOn (left_of collection m) (left_of collection n) None →
-    PagesWithin bound (pages_read m.places) (pages_read n.places) r1 r2 → r2 part.Text ≡ r1 part.Text →
+    NextRead collection q m n r1 r2 →
     AfterPut w1 w2 (waiting ++ count total) result → ShowIsNotBad result →
-    Answered code collection now (satisfying collection q) bound w0 w2 r0 r2 result
-walked_end {base} {code} {collection} {q} {now} {w0} {w1} {w2} {waiting} total {bound} m n {r0} r1 {r2} {result} w goes pages text put sound =
+    Answered code collection now (satisfying collection q) (query_allows collection q) w0 w2 r0 r2 result
+walked_end {base} {code} {collection} {q} {now} {w0} {w1} {w2} {waiting} total m n {r0} r1 {r2} {result} law w goes next put sound =
     let t = ended base code collection q now w0 w1 waiting total m n r0 r1 w goes in
     record {
       put = subst (λ x. AfterPut w0 w2 x result) (sym t.2) (put_rest w0 w1 w2 waiting t.0 (count total) result t.1 put);
       sound = sound;
-      post = omega (arith, w.post, pages.post, pages.within);
-      text = omega (arith, pages_so_far base code collection q now w0 w1 waiting total m r0 r1 w, text);
+      allowed = next_allowed law w next;
+      text = omega (arith, pages_so_far base code collection q now w0 w1 waiting total m r0 r1 w, lists_text r1 r2 next.reads);
     }
 
 -- ---- what is kept agrees with the same files

@@ -1,5 +1,5 @@
 -- An answer to a query line, as it is shown: what is printed, what is read, and why it stops.
-use Rattle.std.specs.Prelude.{◌≡◌, ℕ, ◌+◌, ◌<◌, ◌≤◌, Bool, if◌then◌else◌, List, [], ◌∷◌, ◌++◌, length, get_or, take, slice_index_or, flat_map, map, sum_by, unwrap_or, Option, Some, None, Ok, Err}
+use Rattle.std.specs.Prelude.{◌≡◌, ℕ, ◌+◌, ◌<◌, ◌≤◌, Bool, if◌then◌else◌, List, [], ◌∷◌, ◌++◌, length, get_or, take, slice_index_or, flat_map, map, sum_by, Option, Some, None, Ok, Err}
 use Rattle.std.specs.declared.result.Result.{Result}
 use Rattle.mg_dev.specs.Causes.{Rose}
 use Rattle.mg_dev.specs.Files.{Files, Reads}
@@ -9,7 +9,6 @@ use Rattle.mg_dev.specs.declared.part_err.PartErr.TheVariants.{Device, Memory, B
 use Rattle.mg_dev.specs.declared.show_err.ShowErr.{ShowErr}
 use Rattle.mg_dev.specs.declared.show_err.ShowErr.TheVariants as show
 use Rattle.mg_defs.specs.CodedText.{TextCode}
-use Rattle.mg_defs.specs.PageBounds.{bound_by}
 use Rattle.mg_defs.specs.Replies.{reply_as, shows}
 use Rattle.mg_defs.specs.ShownAnswers.{Shown, answer_text, satisfying, shown}
 use Rattle.mg_defs.specs.Sat.{Query}
@@ -20,11 +19,13 @@ use Rattle.mg_defs.specs.declared.session.Mode.{Mode}
 use Rattle.mg_defs.specs.declared.session.Mode.TheVariants.{Docnums, Text, Count}
 use Rattle.mg_defs.specs.declared.session.Settings.{Settings}
 use Rattle.mg_bool.specs.Matches.{Matching, MatchesOver, left_of}
+use Rattle.mg_bool.specs.Calls.{SkipsWithin, skips_read}
 use Rattle.mg_bool.specs.Places.{IsToldOf, pages_read}
 use Rattle.mg_layout.specs.declared.term_info.TermInfo.{TermInfo}
 use Rattle.mg_rank.specs.Ranked.{WeightsStand}
 use Rattle.mg_reply.specs.Pending.{Passed}
 use Rattle.mg_text.specs.Reading.{ShowIsNotBad}
+use Rattle.mg_session.specs.PagesAllowed.{PartPages, ReadsAllowed, allowed_by}
 use Rattle.mg_session.specs.Texts.{Texting, TextsStand}
 
 -- ---- causes
@@ -81,13 +82,13 @@ pub record AnswersFor (base : List ℕ) (files : Option Files) (texts : Texting)
   pub texts_are : TextsStand texts files code collection
   pub all_is : all ≡ length (documents collection)
 
--- An answer was printed, or a part of its text; no part is bad, and no pages were read but so many of Post, and those of the documents that are shown.
-pub record Answered (code : TextCode) (collection : List ℕ) (now : Settings) (answer : List Shown) (bound : ℕ)
+-- An answer was printed, or a part of its text; no part is bad, and no pages were read but so many of Post, Skip and Weights, and those of the documents that are shown.
+pub record Answered (code : TextCode) (collection : List ℕ) (now : Settings) (answer : List Shown) (most : PartPages)
     (before after : Option (List ℕ)) (reads_before reads_now : Reads) (result : Result (Unit {0}) ShowErr) : Type 0
   where
     pub put : AfterPut before after (answer_text collection now answer) result
     pub sound : ShowIsNotBad result
-    pub post : reads_now part.Post ≤ reads_before part.Post + bound
+    pub allowed : ReadsAllowed most reads_before reads_now
     pub text : reads_now part.Text ≤ reads_before part.Text + answer_pages code collection now answer
 
 -- A query line was replied to, or a part of the reply was printed; no part is bad, and no more pages were read than the line allows.
@@ -96,7 +97,7 @@ pub record Replied (code : TextCode) (collection : List ℕ) (ranked : Bool) (no
   where
     pub put : AfterPut before after (reply_as ranked collection now line) result
     pub sound : ShowIsNotBad result
-    pub post : reads_now part.Post ≤ reads_before part.Post + bound_by ranked collection line
+    pub allowed : ReadsAllowed (allowed_by ranked collection now line) reads_before reads_now
     pub text : reads_now part.Text ≤ reads_before part.Text + answer_pages code collection now
         (answer_by ranked collection line)
 
@@ -112,19 +113,12 @@ pub record Walked (base : List ℕ) (code : TextCode) (collection : List ℕ) (q
   pub passed : Passed before after [] waiting (flat_map (shown collection now.mode) (limited_to now.most so_far))
   pub over : MatchesOver base collection m
   pub post : reads_now part.Post ≤ reads_before part.Post + pages_read m.places
+  pub skip : reads_now part.Skip ≤ reads_before part.Skip + skips_read m.places
+  pub skips_within : SkipsWithin m.places
+  pub weights : reads_now part.Weights ≡ reads_before part.Weights
   pub text : reads_now part.Text ≤ reads_before part.Text + answer_pages code collection now so_far
 
 -- ---- a ranked answer
-
--- how many of so many rows a mode shows
-abbrev pub rows_in : Mode → ℕ → ℕ
-rows_in Docnums count = count
-rows_in Text count = count
-rows_in Count count = 0
-
--- how many rows of a ranked answer are asked for
-abbrev pub rows_asked : Settings → ℕ → ℕ
-rows_asked now all = rows_in now.mode (unwrap_or now.most all)
 
 abbrev pub shown_hit : Hit → Shown
 shown_hit h = record { number = h.number; score = Some h.score }

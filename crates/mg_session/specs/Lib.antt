@@ -1,5 +1,6 @@
 pub mod Parts
 pub mod Texts
+pub mod PagesAllowed
 pub mod Searching
 pub mod Answering
 pub mod Sessions

@@ -9,7 +9,6 @@ use Rattle.mg_dev.specs.declared.show_err.ShowErr.{ShowErr}
 use Rattle.mg_dev.specs.declared.sink.Sink as sinks
 use Rattle.mg_dev.specs.declared.store.Store as stores
 use Rattle.mg_defs.specs.CodedText.{TextCode}
-use Rattle.mg_defs.specs.PageBounds.{boolean_bound, ranked_bound}
 use Rattle.mg_defs.specs.Patterns.{Pattern}
 use Rattle.mg_defs.specs.QueryTerms.{query_terms}
 use Rattle.mg_defs.specs.ShownAnswers.{Shown, ranking, satisfying}
@@ -23,6 +22,7 @@ use Rattle.mg_query.specs.QueryOf.{query_of}
 use Rattle.mg_session.specs.Answering.{Answered, AnswersFor, Replied}
 use Rattle.mg_session.specs.Calls.{StepsOpened}
 use Rattle.mg_session.specs.Decided.{BooleanRow, PrintsLine, PrintsPhrase, PrintsTold, PrintsWords, RanksTold}
+use Rattle.mg_session.specs.PagesAllowed.{PartPages, query_allows, ranked_allows}
 use Rattle.mg_session.specs.PhraseAnswers.{DocumentSearched, PhraseAnswered, PhraseReplied}
 use Rattle.mg_session.specs.Searching.{Opened}
 use Rattle.mg_session.specs.Sessions.{ForOpened, ForText}
@@ -43,7 +43,7 @@ abbrev pub AnswersQuery : {X Y : Type 0} → stores.Ghosts X → sinks.Ghosts Y 
 AnswersQuery of_store of_out store store_now out out_now result base texts all q infos now =
     ForAnswers base (of_store.files store) texts all (λ code collection.
     AreInfos collection (query_terms q) infos →
-    Answered code collection now (satisfying collection q) (boolean_bound collection q) (of_out.written out)
+    Answered code collection now (satisfying collection q) (query_allows collection q) (of_out.written out)
     (of_out.written out_now) (of_store.reads store) (of_store.reads store_now) result)
 
 -- over the lists, weights and text of some base, of which none was asked for yet: those that satisfy the query are the answer
@@ -52,7 +52,7 @@ abbrev pub AnswersMatches : {X Y : Type 0} → stores.Ghosts X → sinks.Ghosts 
 AnswersMatches of_store of_out store store_now out out_now result texts m now = (base : List ℕ) →
     ForAnswers base (of_store.files store) texts m.all (λ code collection.
     MatchesOver base collection m →
-    Answered code collection now (satisfying collection (query_of m.asks)) (boolean_bound collection (query_of m.asks))
+    Answered code collection now (satisfying collection (query_of m.asks)) (query_allows collection (query_of m.asks))
     (of_out.written out) (of_out.written out_now) (of_store.reads store) (of_store.reads store_now) result)
 
 -- where this is told of distinct terms, their ranking is the answer
@@ -61,15 +61,15 @@ abbrev pub AnswersTerms : {X Y : Type 0} → stores.Ghosts X → sinks.Ghosts Y 
 AnswersTerms of_store of_out store store_now out out_now result base texts all infos now =
     ForAnswers base (of_store.files store) texts all (λ code collection.
     (terms : List (List ℕ)) → AreInfos collection terms infos → IsDistinct bytes_eq terms →
-    Answered code collection now (ranking collection terms) (ranked_bound collection terms) (of_out.written out)
+    Answered code collection now (ranking collection terms) (ranked_allows collection now terms) (of_out.written out)
     (of_out.written out_now) (of_store.reads store) (of_store.reads store_now) result)
 
--- over the open parts: an answer is shown, and of Post no more pages are read than its bound
+-- over the open parts: an answer is shown, and no more pages of Post, Skip and Weights are read than it allows
 abbrev pub AnswersOpened : {X Y : Type 0} → stores.Ghosts X → sinks.Ghosts Y → X → X → Y → Y →
-    Result (Unit {0}) ShowErr → Opened → Settings → (List ℕ → List Shown) → (List ℕ → ℕ) → Type 0
-AnswersOpened of_store of_out store store_now out out_now result opened now answer bound =
+    Result (Unit {0}) ShowErr → Opened → Settings → (List ℕ → List Shown) → (List ℕ → PartPages) → Type 0
+AnswersOpened of_store of_out store store_now out out_now result opened now answer allows =
     ForOpened (of_store.files store) opened (λ code collection.
-    Answered code collection now (answer collection) (bound collection) (of_out.written out) (of_out.written out_now)
+    Answered code collection now (answer collection) (allows collection) (of_out.written out) (of_out.written out_now)
     (of_store.reads store) (of_store.reads store_now) result)
 
 -- over the open parts: a line is replied to, ranked or Boolean
@@ -140,7 +140,7 @@ abbrev pub AsksQuery : {X Y : Type 0} → stores.Ghosts X → sinks.Ghosts Y →
     Result (Unit {0}) ShowErr → Opened → Opened → Settings → Query → Type 0
 AsksQuery of_store of_out store store_now out out_now result opened opened_now now q = AnsweredOver
     (AnswersOpened of_store of_out store store_now out out_now result opened now (λ collection. satisfying collection q)
-    (λ collection. boolean_bound collection q))
+    (λ collection. query_allows collection q))
     (PrintsTold (of_out.written out) (of_out.written out_now) result (of_store.files store) opened q (BooleanRow now))
     (StepsOpened of_store of_out store store_now out out_now result opened opened_now now.mode)
 
@@ -149,7 +149,7 @@ abbrev pub AsksTerms : {X Y : Type 0} → stores.Ghosts X → sinks.Ghosts Y →
     Result (Unit {0}) ShowErr → Opened → Opened → Settings → List (List ℕ) → Type 0
 AsksTerms of_store of_out store store_now out out_now result opened opened_now now ts = AnsweredOver
     (AnswersOpened of_store of_out store store_now out out_now result opened now (λ collection. ranking collection ts)
-    (λ collection. ranked_bound collection ts))
+    (λ collection. ranked_allows collection now ts))
     (RanksTold (of_out.written out) (of_out.written out_now) result (of_store.files store) opened ts)
     (StepsOpened of_store of_out store store_now out out_now result opened opened_now now.mode)
 

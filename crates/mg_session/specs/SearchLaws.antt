@@ -4,11 +4,10 @@ use Rattle.std.specs.Option.{IsSome}
 use Rattle.std.specs.declared.option.Option.{Option}
 use Rattle.std.proofs.lemmas.List.Elements.{All-cons, All-head, All-tail}
 use Rattle.std.proofs.lemmas.List.Sums.{sum_by-append}
-use Rattle.mg_dev.specs.Files.{Files, bytes_at}
+use Rattle.mg_dev.specs.Files.{Files, Reads, bytes_at}
 use Rattle.mg_dev.specs.declared.part_err.PartErr.{PartErr}
 use Rattle.mg_dev.specs.declared.part_err.PartErr.TheVariants.{Device, Memory, Bad}
 use Rattle.mg_defs.specs.CodedText.{TextCode}
-use Rattle.mg_defs.specs.PageBounds.{line_bound}
 use Rattle.mg_defs.specs.Session.{Question}
 use Rattle.mg_defs.specs.TextBounds.{line_text_bound}
 use Rattle.mg_defs.specs.declared.session.Mode.TheVariants as mode
@@ -19,6 +18,7 @@ use Rattle.mg_lex.specs.Reading.{LexStands}
 use Rattle.mg_post.specs.TermLists.{ListsStand}
 use Rattle.mg_rank.specs.Ranked.{WeightsStand}
 use Rattle.mg_text.specs.Reading.{IsText}
+use Rattle.mg_session.specs.PagesAllowed.{ReadsAllowed, line_allows, lines_allow}
 use Rattle.mg_session.specs.Searching.{AnswersBy, AskForNoText, Asked, MayStop, Opened, Over, SameOpened, Searching}
 use Rattle.mg_session.specs.Texts.{SameTexts, Texting, TextsStand}
 
@@ -120,6 +120,19 @@ ask_behind : (xs ys : List Question) → AskForNoText (xs ++ ys) → AskForNoTex
 ask_behind [] ys none = none
 ask_behind (x ∷ xs) ys none = ask_behind xs ys (All-tail (λ (q : Question). q.now.mode ≢ mode.Text) x (xs ++ ys) none)
 
+allowed_more : (collection : List ℕ) (xs ys : List Question) {r s t : Reads} →
+    ReadsAllowed (lines_allow collection xs) r s → ReadsAllowed (lines_allow collection ys) s t →
+    ReadsAllowed (lines_allow collection (xs ++ ys)) r t
+allowed_more collection xs ys a b =
+    let post = λ (q : Question). (line_allows collection q).post in
+    let skip = λ (q : Question). (line_allows collection q).skip in
+    let weights = λ (q : Question). (line_allows collection q).weights in
+    record {
+      post = omega (arith, a.post, b.post, sum_by-append post xs ys);
+      skip = omega (arith, a.skip, b.skip, sum_by-append skip xs ys);
+      weights = omega (arith, a.weights, b.weights, sum_by-append weights xs ys);
+    }
+
 pub asked_none : (s : Searching) → Asked s s []
 asked_none s = record {
   files = refl;
@@ -127,7 +140,7 @@ asked_none s = record {
   same = same_opened s.opened;
   unread = λ p never. refl;
   texts_unread = λ none p of_text. refl;
-  post = λ code collection over. omega arith;
+  allowed = λ code collection over. record { post = omega arith; skip = omega arith; weights = omega arith };
   shown = λ code collection over. omega arith;
 }
 
@@ -139,12 +152,8 @@ asked_more s t u xs ys a b = record {
   unread = λ p never. b.unread p never ∙ a.unread p never;
   texts_unread = λ none p of_text. b.texts_unread (ask_behind xs ys none) p of_text
       ∙ a.texts_unread (ask_before xs ys none) p of_text;
-  post = λ code collection over. omega (
-    arith,
-    a.post code collection over,
-    b.post code collection (over_later s t xs code collection a over),
-    sum_by-append (line_bound collection) xs ys,
-  );
+  allowed = λ code collection over. allowed_more collection xs ys (a.allowed code collection over)
+      (b.allowed code collection (over_later s t xs code collection a over));
   shown = λ code collection over. omega (
     arith,
     a.shown code collection over,

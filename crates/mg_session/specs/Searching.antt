@@ -11,7 +11,6 @@ use Rattle.mg_defs.specs.CodedText.{TextCode}
 use Rattle.mg_defs.specs.declared.session.Mode.TheVariants as mode
 use Rattle.mg_defs.specs.declared.session.Settings.{Settings}
 use Rattle.mg_defs.specs.WithinLimits.{IsWithinLimits}
-use Rattle.mg_defs.specs.PageBounds.{line_bound}
 use Rattle.mg_defs.specs.Replies.{reply}
 use Rattle.mg_defs.specs.Session.{Question}
 use Rattle.mg_defs.specs.Split.{documents}
@@ -20,6 +19,7 @@ use Rattle.mg_front.specs.Reading.{Fronted, FrontFits, SameParts}
 use Rattle.mg_layout.specs.declared.head.Head.{Head}
 use Rattle.mg_lex.specs.Reading.{LexStands}
 use Rattle.mg_rank.specs.Ranked.{WeightsStand}
+use Rattle.mg_session.specs.PagesAllowed.{ReadsAllowed, lines_allow}
 use Rattle.mg_session.specs.Parts.{NeverRead, is_of_text}
 use Rattle.mg_session.specs.Texts.{SameTexts, Texting, TextsFit, TextsStand}
 
@@ -95,8 +95,8 @@ pub record Asked (s t : Searching) (questions : List Question) : Type 0 where
   pub same : SameOpened s.opened t.opened
   pub unread : (p : Part) → NeverRead p → t.reads p ≡ s.reads p
   pub texts_unread : AskForNoText questions → (p : Part) → is_of_text p ≡ true → t.reads p ≡ s.reads p
-  pub post : (code : TextCode) (collection : List ℕ) → Over s code collection →
-      t.reads part.Post ≤ s.reads part.Post + sum_by (line_bound collection) questions
+  pub allowed : (code : TextCode) (collection : List ℕ) → Over s code collection →
+      ReadsAllowed (lines_allow collection questions) s.reads t.reads
   pub shown : (code : TextCode) (collection : List ℕ) → Over s code collection →
       t.reads part.Text ≤ s.reads part.Text + sum_by (line_text_bound code collection) questions
 

@@ -9,10 +9,10 @@ use Rattle.mg_dev.specs.declared.fault.Fault.TheVariants.{StoreFault, ReadFault,
 use Rattle.mg_defs.specs.CodedText.{TextCode}
 use Rattle.mg_defs.specs.InputLimit.{is_too_much}
 use Rattle.mg_defs.specs.Limits.{input_limit}
-use Rattle.mg_defs.specs.PageBounds.{session_bound}
 use Rattle.mg_defs.specs.TextBounds.{session_text_bound}
 use Rattle.mg_layout.specs.Stands.{ForSetBy, HasNoHead, StandsForNone}
 use Rattle.mg_layout.specs.declared.head.Head.{Head}
+use Rattle.mg_session.specs.PagesAllowed.{ReadsAllowed, session_allows}
 
 -- the cause of each refusal, by the faults of store, input and output, whether nothing is built, whether the files stand for none,
 -- which numbers of rotations are counted and are too many, and the input
@@ -54,7 +54,7 @@ IsFirst _ = ⊥
 abbrev pub StandsByNone : Head → Option Files → List ℕ → Type 0
 StandsByNone head files base = ForSetBy head files base (λ code collection. ⊥)
 
--- no more pages are read than the bounds of the query lines add up to
+-- no more pages are read than the query lines allow, added up
 pub record ReadsWithin (code : TextCode) (collection given : List ℕ) (before now : Reads) : Type 0 where
-  pub post : now part.Post ≤ before part.Post + session_bound collection given
+  pub allowed : ReadsAllowed (session_allows collection given) before now
   pub text : now part.Text ≤ before part.Text + session_text_bound code collection given

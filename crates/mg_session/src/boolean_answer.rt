@@ -1,6 +1,7 @@
 //! The answer to a Boolean query.
 ghost use Rattle.std.specs.Prelude.{◌≡◌, ℕ, List, length};
 ghost use Rattle.mg_defs.specs.QueryTerms.{query_terms};
+ghost use Rattle.mg_bool.specs.Calls.{SkipsWithin};
 ghost use Rattle.mg_bool.specs.Matches.{MatchesFit};
 ghost use Rattle.mg_bool.specs.Shown.{MatchesStand};
 ghost use Rattle.mg_query.specs.QueryOf.{query_of};
@@ -15,7 +16,7 @@ use crate::hit::show_hit;
 use crate::lists::Lists;
 use crate::lookup::Sought;
 use crate::total::put_total;
-use mg_bool::Matches;
+use mg_bool::{Matches, skips_are_within};
 use mg_defs::Settings;
 use mg_dev::{PartErr, ShowErr, Sink, Store};
 use mg_reply::Pending;
@@ -33,6 +34,7 @@ fn show_matches<S: Store, D: Documents<S>, O: Sink>(
     requires on { (base : List ℕ) × MatchesFit base (S.files store.old) matches.old }
     requires stands { MatchesStand (S.files store.old) matches.old }
     requires first { matches.old.decided ≡ 0 }
+    requires within { SkipsWithin matches.old.places }
     requires all { (D.texts texts.old).head.documents ≡ matches.old.all }
     ensures answer { AnswersMatches S.Store O.Sink store.old store.new out.old out.new result
         (D.texts texts.old) matches.old now.now }
@@ -41,6 +43,7 @@ fn show_matches<S: Store, D: Documents<S>, O: Sink>(
     ensures stepped { StepsText S.Store O.Sink store.old store.new out.old out.new result
         (D.texts texts.old) (D.texts texts.new) (Stepped now.now.mode) }
 {
+    skips_are_within();
     let mut pending = Pending::new();
     let mut total = 0u32;
     'matches: loop {

@@ -15,6 +15,7 @@ mod document_set;
 mod documents;
 mod held_text;
 mod hit;
+mod laws;
 mod lists;
 mod lookup;
 mod phrase;
@@ -32,6 +33,7 @@ mod wild;
 mod wild_answer;
 mod wild_searcher;
 
+pub use laws::query_lines_allow;
 pub use phrase::serve_phrase;
 pub use session::serve;
 pub use wild::serve_wild;

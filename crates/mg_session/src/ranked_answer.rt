@@ -2,7 +2,7 @@
 ghost use Rattle.std.specs.Prelude.{◌≡◌, ◌≤◌, All, length};
 ghost use Rattle.mg_defs.specs.Texts.{count as count_text};
 ghost use Rattle.mg_rank.specs.Ranked.{IsNumbered};
-ghost use Rattle.mg_session.specs.Answering.{rows_asked};
+ghost use Rattle.mg_session.specs.PagesAllowed.{rows_asked};
 ghost use Rattle.mg_session.specs.Calls.{ShowsText, StepsText};
 ghost use Rattle.mg_session.specs.Decided.{PassesSome, PrintsTerms, PutsSome};
 ghost use Rattle.mg_session.specs.Parts.{Stepped};

@@ -119,7 +119,10 @@ module _ (run : Run) (stops : Stops run Memory) (store : run.store_now ≡ run.s
 
   queried : (n : List ℕ) → Queried n run
   queried n = record {
-    served = served session Commands reply ReadsWithin NeverRead serves.CountsNone n (λ code c given. record { post = rw (same_reads part.Post) (omega arith); text = rw (same_reads part.Text) (omega arith) });
+    served = served session Commands reply ReadsWithin NeverRead serves.CountsNone n (λ code c given. record {
+      allowed = record { post = rw (same_reads part.Post) (omega arith); skip = rw (same_reads part.Skip) (omega arith); weights = rw (same_reads part.Weights) (omega arith) };
+      text = rw (same_reads part.Text) (omega arith);
+    });
     complete = λ c given stands some short no_store no_input no_output. inr stops;
     texts_unread = λ given some asks p is. same_reads p;
   }

@@ -1,10 +1,10 @@
 use Rattle.std.proofs.Common.{◌∙◌, subst}
-use Rattle.mg_defs.specs.PageBounds.{boolean_bound}
 use Rattle.mg_defs.specs.ShownAnswers.{satisfying}
 use Rattle.mg_query.specs.QueryOf.{query_of}
 use Rattle.mg_query.specs.declared.query.Query.{Query}
 use Rattle.mg_session.specs.Answering.{Answered}
 use Rattle.mg_session.specs.Decided.{BooleanRow}
+use Rattle.mg_session.specs.PagesAllowed.{query_allows}
 use Rattle.mg_session.proofs.CallLaws.{text_lacked}
 use Rattle.mg_session.proofs.DecidedLaws.{query_printed}
 use Rattle.mg_session.proofs.ReplyLaws.{none_answered}
@@ -15,7 +15,7 @@ returns-in-Err-clause-answer g c = λ code collection stands told. none_answered
 
 pub returns-clause-answer : goal.returns-clause-answer
 returns-clause-answer g c = λ code collection stands told.
-    subst (λ (a : Query). Answered code collection c.args.now.now (satisfying collection (query_of a)) (boolean_bound collection (query_of a))
+    subst (λ (a : Query). Answered code collection c.args.now.now (satisfying collection (query_of a)) (query_allows collection (query_of a))
     (g.O.Sink.written c.args.out.now) (g.O.Sink.written c.show_matches.new.out) (g.S.Store.reads c.args.store.now)
     (g.S.Store.reads c.show_matches.new.store) c.show_matches.result) c.in-Ok.ensures.asks
     (c.show_matches.ensures.answer c.args.lists.now.base.now code collection
@@ -24,6 +24,9 @@ returns-clause-answer g c = λ code collection stands told.
 
 pub show_matches-requires-clause-stands : goal.show_matches-requires-clause-stands
 show_matches-requires-clause-stands g c = c.in-Ok.ensures.stands _
+
+pub show_matches-requires-clause-within : goal.show_matches-requires-clause-within
+show_matches-requires-clause-within g c = c.in-Ok.ensures.within
 
 pub returns-in-Err-clause-printed : goal.returns-in-Err-clause-printed
 returns-in-Err-clause-printed g c = tt

@@ -1,21 +1,16 @@
 use Rattle.std.specs.Prelude.{IfSome}
 use Rattle.std.proofs.Common.{arith, ◌≡◌, ◌<◌, ◌≤◌, ℕ, refl, sym, ◌∙◌, ap, subst}
 use Rattle.std.specs.declared.option.Option.{Option}
-use Rattle.mg_defs.specs.PageBounds.{boolean_bound}
 use Rattle.mg_dev.specs.Files.{Files}
 use Rattle.mg_bool.specs.Matches.{GoesOn, left_of}
-use Rattle.mg_bool.specs.Places.{pages_read}
 use Rattle.mg_layout.specs.declared.head.Head.{Head}
-use Rattle.mg_post.specs.TermLists.{PagesWithin}
-use Rattle.mg_query.specs.QueryOf.{query_of}
-use Rattle.mg_query.specs.declared.query.Query.{Query}
 use Rattle.mg_session.specs.SearchLaws.{texts_later, weights_later}
 use Rattle.mg_session.specs.Texts.{TextsFit}
 use Rattle.mg_session.proofs.CallLaws.{shown_text, text_refused, text_shown, text_start, text_written}
 use Rattle.mg_session.proofs.DecidedLaws.{printing_end, printing_hit, printing_start}
-use Rattle.mg_session.proofs.StepLaws.{lists_step, lists_text, shown_post}
+use Rattle.mg_session.proofs.StepLaws.{lists_step, shown_keeps}
 use Rattle.mg_session.proofs.ReplyLaws.{list_sound}
-use Rattle.mg_session.proofs.WalkLaws.{fit_later, walked_cut, walked_end, walked_hit, walked_start, walked_stop}
+use Rattle.mg_session.proofs.WalkLaws.{fit_later, next_read, walked_cut, walked_end, walked_hit, walked_start, walked_stop}
 use Rattle.mg_session.proofs.boolean_answer.show_matches.Goals as goal
 
 pub matches-init : goal.matches-init
@@ -26,7 +21,7 @@ matches-init g c = record {
   few = omega arith;
   within = omega (arith, c.requires.first);
   printing = printing_start c.requires.stands c.requires.first c.new-pending.ensures refl;
-  walked = λ base code collection stands over. walked_start c.new-pending.ensures refl c.requires.first over;
+  walked = λ base code collection stands over. walked_start c.new-pending.ensures refl c.requires.first c.requires.within over;
 }
 
 pub returns-in-Err-clause-answer : goal.returns-in-Err-clause-answer
@@ -34,11 +29,10 @@ returns-in-Err-clause-answer g c = λ base code collection stands over.
     let inv = c.matches.invariant in
     let walked = inv.walked base code collection stands over in
     let lists = (weights_later base base _ _ collection refl inv.so_far.step.files stands.weights).lists in
-    let pages = c.in-Err.ensures.pages base collection lists walked.over in
-    walked_stop c.matches.matches c.next.new.self (g.S.Store.reads c.matches.store) walked
-    (subst (λ (a : Query). PagesWithin (boolean_bound collection (query_of a)) (pages_read c.matches.matches.places) (pages_read c.next.new.self.places)
-    (g.S.Store.reads c.matches.store) (g.S.Store.reads c.next.new.store)) inv.kept.asks pages)
-    (lists_text _ _ c.in-Err.ensures.reads)
+    let read = next_read c.args.matches.now inv.kept.asks (c.in-Err.ensures.least base collection lists walked.over) (c.in-Err.ensures.pages base collection lists walked.over)
+    c.in-Err.ensures.lists c.in-Err.ensures.skips c.in-Err.ensures.reads in
+    walked_stop c.matches.matches c.next.new.self (g.S.Store.reads c.matches.store) c.skips_are_within.ensures.terms walked
+    read
     (list_sound c.in-Err.refusal _ _ c.from.ensures (c.in-Err.ensures.answer base collection lists walked.over))
 
 pub returns-in-Err-show_hit-clause-answer : goal.returns-in-Err-show_hit-clause-answer
@@ -47,15 +41,14 @@ returns-in-Err-show_hit-clause-answer g c = λ base code collection stands over.
     let walked = inv.walked base code collection stands over in
     let lists = (weights_later base base _ _ collection refl inv.so_far.step.files stands.weights).lists in
     let text = texts_later _ _ _ _ code collection inv.so_far.same (c.in-Ok-Some.ensures.files ∙ inv.so_far.step.files) stands.texts_are in
-    let pages = c.in-Ok-Some.ensures.pages base collection lists walked.over in
+    let read = next_read c.args.matches.now inv.kept.asks (c.in-Ok-Some.ensures.least base collection lists walked.over) (c.in-Ok-Some.ensures.pages base collection lists walked.over)
+    c.in-Ok-Some.ensures.lists c.in-Ok-Some.ensures.skips c.in-Ok-Some.ensures.reads in
     let answer = c.in-Ok-Some.ensures.answer base collection lists walked.over in
-    walked_cut c.matches.total c.in-Ok-Some.number c.matches.matches c.next.new.self (g.S.Store.reads c.matches.store) (g.S.Store.reads c.next.new.store) walked
+    walked_cut c.matches.total c.in-Ok-Some.number c.matches.matches c.next.new.self (g.S.Store.reads c.matches.store) (g.S.Store.reads c.next.new.store) c.skips_are_within.ensures.terms walked
     (subst (GoesOn (left_of collection c.matches.matches) (left_of collection c.next.new.self)) c.in-Ok-Some.field-0-is answer.0)
-    (subst (λ (a : Query). PagesWithin (boolean_bound collection (query_of a)) (pages_read c.matches.matches.places) (pages_read c.next.new.self.places)
-    (g.S.Store.reads c.matches.store) (g.S.Store.reads c.next.new.store)) inv.kept.asks pages)
-    (lists_text _ _ c.in-Ok-Some.ensures.reads)
+    read
     (c.in-Err-show_hit.ensures.shown.content code collection text)
-    (shown_post _ _ _ _ _ _ _ c.in-Err-show_hit.ensures.shown.looked)
+    (shown_keeps c.in-Err-show_hit.ensures.shown.looked)
     (c.in-Err-show_hit.ensures.shown.pages code collection text)
     (c.in-Err-show_hit.ensures.shown.sound code collection text)
 
@@ -77,14 +70,14 @@ matches-preserved g c =
           let walked = inv.walked base code collection stands over in
           let lists = (weights_later base base _ _ collection refl inv.so_far.step.files stands.weights).lists in
           let text = texts_later _ _ _ _ code collection inv.so_far.same (c.in-Ok-Some.ensures.files ∙ inv.so_far.step.files) stands.texts_are in
-          let pages = c.in-Ok-Some.ensures.pages base collection lists walked.over in
+          let read = next_read c.args.matches.now inv.kept.asks (c.in-Ok-Some.ensures.least base collection lists walked.over) (c.in-Ok-Some.ensures.pages base collection lists walked.over)
+          c.in-Ok-Some.ensures.lists c.in-Ok-Some.ensures.skips c.in-Ok-Some.ensures.reads in
           let answer = c.in-Ok-Some.ensures.answer base collection lists walked.over in
           walked_hit c.matches.total c.in-Ok-Some.number c.matches.matches c.next.new.self (g.S.Store.reads c.matches.store) (g.S.Store.reads c.next.new.store) walked
           (subst (GoesOn (left_of collection c.matches.matches) (left_of collection c.next.new.self)) c.in-Ok-Some.field-0-is answer.0)
-          answer.1 pages
-          (lists_text _ _ c.in-Ok-Some.ensures.reads)
+          answer.1 read
           (c.in-Ok.ensures.shown.content code collection text)
-          (shown_post _ _ _ _ _ _ _ c.in-Ok.ensures.shown.looked)
+          (shown_keeps c.in-Ok.ensures.shown.looked)
           (c.in-Ok.ensures.shown.pages code collection text);
     }
 
@@ -93,13 +86,12 @@ returns-in-Ok-None-clause-answer g c = λ base code collection stands over.
     let inv = c.matches.invariant in
     let walked = inv.walked base code collection stands over in
     let lists = (weights_later base base _ _ collection refl inv.so_far.step.files stands.weights).lists in
-    let pages = c.in-Ok-None.ensures.pages base collection lists walked.over in
+    let read = next_read c.args.matches.now inv.kept.asks (c.in-Ok-None.ensures.least base collection lists walked.over) (c.in-Ok-None.ensures.pages base collection lists walked.over)
+    c.in-Ok-None.ensures.lists c.in-Ok-None.ensures.skips c.in-Ok-None.ensures.reads in
     let answer = c.in-Ok-None.ensures.answer base collection lists walked.over in
-    walked_end c.matches.total c.matches.matches c.next.new.self (g.S.Store.reads c.matches.store) walked
+    walked_end c.matches.total c.matches.matches c.next.new.self (g.S.Store.reads c.matches.store) c.skips_are_within.ensures.terms walked
     (subst (GoesOn (left_of collection c.matches.matches) (left_of collection c.next.new.self)) c.in-Ok-None.field-0-is answer.0)
-    (subst (λ (a : Query). PagesWithin (boolean_bound collection (query_of a)) (pages_read c.matches.matches.places) (pages_read c.next.new.self.places)
-    (g.S.Store.reads c.matches.store) (g.S.Store.reads c.next.new.store)) inv.kept.asks pages)
-    (lists_text _ _ c.in-Ok-None.ensures.reads)
+    read
     c.put_total.ensures.content
     c.put_total.ensures.alone.sound
 

@@ -1,14 +1,15 @@
-use Rattle.std.proofs.Common.{List, sym, ◌∙◌, subst}
+use Rattle.std.proofs.Common.{arith, ◌≤◌, List, length, ap, sym, ◌∙◌, subst}
 use Rattle.mg_layout.specs.declared.term_info.TermInfo.{TermInfo}
 use Rattle.mg_rank.specs.Ranked.{AreTold}
 use Rattle.mg_session.specs.Answering.{known_terms}
 use Rattle.mg_session.specs.SearchLaws.{same_texts, texts_later}
+use Rattle.mg_session.proofs.AllowedLaws.{ranked_read}
 use Rattle.mg_session.proofs.CallLaws.{shown_text, text_lacked, text_refused, text_shown, text_start}
 use Rattle.mg_session.proofs.DecidedLaws.{terms_printed}
-use Rattle.mg_session.proofs.KnownLaws.{known_bound, known_hits, known_told}
+use Rattle.mg_session.proofs.KnownLaws.{known_hits, known_told}
 use Rattle.mg_session.proofs.RankedLaws.{are_rows, rows_end, terms_stop}
 use Rattle.mg_session.proofs.ReplyLaws.{none_answered, top_sound}
-use Rattle.mg_session.proofs.StepLaws.{ranked_step, ranked_text, shown_post}
+use Rattle.mg_session.proofs.StepLaws.{ranked_step, ranked_text, shown_keeps}
 use Rattle.mg_session.proofs.ranked_answer.answer_terms.Goals as goal
 
 pub returns-in-Err-clause-answer : goal.returns-in-Err-clause-answer
@@ -19,8 +20,11 @@ returns-in-Err-rank-clause-answer g c = λ code collection stands terms told apa
     let kept = known_terms terms c.args.infos.now in
     let is_told : AreTold collection kept c.deref.result.now = subst (λ (xs : List TermInfo). AreTold collection kept xs)
     (sym (c.deref.ensures.value ∙ c.in-Ok.ensures.known)) (known_told collection terms c.args.infos.now told apart) in
-    terms_stop _ _ _ terms _ _ _ _ _ _ (known_bound collection terms c.args.infos.now told.size)
-    (c.in-Err-rank.ensures.pages collection kept stands.weights.lists is_told stands.all_is) (ranked_text _ _ c.in-Err-rank.ensures.reads)
+    let e = c.in-Err-rank.ensures in
+    let few : length c.deref.result.now ≤ length c.args.infos.now = omega (arith, ap length c.deref.ensures.value, c.in-Ok.ensures.few) in
+    let allowed = ranked_read c.args.now.now terms c.args.infos.now c.deref.result.now told (c.deref.ensures.value ∙ c.in-Ok.ensures.known) few stands.all_is
+    c.rows_asked-most.ensures (e.once collection kept stands.weights.lists is_told stands.all_is) e.skips e.weights e.none in
+    terms_stop _ _ _ terms _ _ _ _ _ allowed (ranked_text _ _ e.reads)
     (top_sound c.in-Err-rank.refusal _ collection kept _ c.from.ensures (c.in-Err-rank.ensures.answer collection kept stands.weights is_told stands.all_is))
 
 pub returns-clause-answer : goal.returns-clause-answer
@@ -33,9 +37,12 @@ returns-clause-answer g c = λ code collection stands terms told apart.
     (known_hits collection terms c.args.infos.now told) stands.all_is c.rows_asked-most.ensures top.0 top.1 in
     let text = texts_later (g.D.Documents.texts c.args.texts.now) (g.D.Documents.texts c.args.texts.now) _ _ code collection
     (same_texts (g.D.Documents.texts c.args.texts.now)) c.in-Ok-rank.ensures.files stands.texts_are in
-    rows_end terms _ (g.S.Store.reads c.rank.new.store) are (known_bound collection terms c.args.infos.now told.size)
-    (c.in-Ok-rank.ensures.pages collection kept stands.weights.lists is_told stands.all_is) (ranked_text _ _ c.in-Ok-rank.ensures.reads)
-    (c.show_ranked.ensures.shown.content code collection text) (shown_post _ _ _ _ _ _ _ c.show_ranked.ensures.shown.looked)
+    let e = c.in-Ok-rank.ensures in
+    let few : length c.deref.result.now ≤ length c.args.infos.now = omega (arith, ap length c.deref.ensures.value, c.in-Ok.ensures.few) in
+    let allowed = ranked_read c.args.now.now terms c.args.infos.now c.deref.result.now told (c.deref.ensures.value ∙ c.in-Ok.ensures.known) few stands.all_is
+    c.rows_asked-most.ensures (e.once collection kept stands.weights.lists is_told stands.all_is) e.skips e.weights e.none in
+    rows_end terms (g.S.Store.reads c.rank.new.store) are allowed (ranked_text _ _ e.reads)
+    (c.show_ranked.ensures.shown.content code collection text) (shown_keeps c.show_ranked.ensures.shown.looked)
     (c.show_ranked.ensures.shown.pages code collection text) (c.show_ranked.ensures.shown.sound code collection text)
 
 pub returns-in-Err-clause-stepped : goal.returns-in-Err-clause-stepped

@@ -1,4 +1,4 @@
-use Rattle.std.proofs.Common.{refl, subst}
+use Rattle.std.proofs.Common.{subst}
 use Rattle.mg_query.specs.QueryOf.{query_of}
 use Rattle.mg_query.specs.RefusalOf.{refusal_of}
 use Rattle.mg_session.specs.Decided.{BooleanRow, PrintsTold}
@@ -19,7 +19,7 @@ returns-in-Err g c = record {
 pub returns-in-Ok : goal.returns-in-Ok
 returns-in-Ok g c = record {
   answer = λ code collection over.
-      boolean_answered code collection (query_of c.in-Ok.query) c.in-Ok.ensures.reads (c.answer_parsed.ensures.answer code collection over) refl refl;
+      boolean_answered code collection (query_of c.in-Ok.query) c.in-Ok.ensures.reads (c.answer_parsed.ensures.answer code collection over);
   printed = λ q is told.
       subst (λ a. PrintsTold (g.O.Sink.written c.args.out.now) (g.O.Sink.written c.answer_parsed.new.out) c.answer_parsed.result
       (g.S.Store.files c.args.store.now) c.args.self.now a (BooleanRow c.args.now.now)) (read_same c.in-Ok.ensures.reads is) c.answer_parsed.ensures.printed;

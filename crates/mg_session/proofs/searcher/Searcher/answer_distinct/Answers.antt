@@ -7,7 +7,7 @@ use Rattle.mg_session.specs.Searching.{Opened, OpenedOver}
 use Rattle.mg_session.proofs.DecidedLaws.{told_ranked}
 use Rattle.mg_session.proofs.CallLaws.{opened_answered, opened_refused}
 use Rattle.mg_session.proofs.ReplyLaws.{answered_behind, answers_for, nothing_answered, part_sound}
-use Rattle.mg_session.proofs.StepLaws.{lex_post, lex_text}
+use Rattle.mg_session.proofs.StepLaws.{lex_keeps, lex_text}
 use Rattle.mg_session.proofs.searcher.Searcher.answer_distinct.Goals as goal
 
 pub returns-in-Err : goal.returns-in-Err
@@ -16,7 +16,7 @@ returns-in-Err g c = record {
       nothing_answered code collection _ _ _ _ _ _ _
       (part_sound c.in-Err.refusal _ _ c.from.ensures (c.in-Err.ensures.answer over.version collection over.limits
       (subst (λ (o : Opened). LexStands o.lex (g.S.Store.files c.args.store.now) collection) (sym c.self.view_is) over.lex)))
-      (lex_post _ _ _ _ _ _ c.in-Err.ensures.looked) (lex_text _ _ _ _ _ _ c.in-Err.ensures.looked);
+      (lex_keeps c.in-Err.ensures.looked) (lex_text _ _ _ _ _ _ c.in-Err.ensures.looked);
   printed = λ version collection limits stands. tt;
   stepped = let e = c.in-Err.ensures in
       opened_refused c.self.view_is c.requires.fits e.fits e.same e.looked c.in-Err.refusal c.from.ensures e.cause;
@@ -37,7 +37,7 @@ returns g c = record {
       let stands = answers_for _ _ own code collection c.in-Ok.ensures.looked.files own_over in
       answered_behind code collection _ _ _ _ _ _ (g.S.Store.reads c.find_terms.new.store) _ _
       (c.answer_terms.ensures.answer code collection stands c.args.terms.now same c.requires.apart)
-      (lex_post _ _ _ _ _ _ c.in-Ok.ensures.looked) (lex_text _ _ _ _ _ _ c.in-Ok.ensures.looked);
+      (lex_keeps c.in-Ok.ensures.looked) (lex_text _ _ _ _ _ _ c.in-Ok.ensures.looked);
   printed = λ version collection limits stands.
       let told = c.in-Ok.ensures.answer version collection limits
       (subst (λ (o : Opened). LexStands o.lex (g.S.Store.files c.args.store.now) collection) (sym c.self.view_is) stands) in

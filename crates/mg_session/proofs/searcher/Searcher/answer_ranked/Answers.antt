@@ -1,4 +1,4 @@
-use Rattle.std.proofs.Common.{refl, subst}
+use Rattle.std.proofs.Common.{subst}
 use Rattle.mg_query.specs.RefusalOf.{refusal_of}
 use Rattle.mg_session.specs.Decided.{RanksTold}
 use Rattle.mg_session.proofs.DecidedLaws.{read_same, refused_printed}
@@ -25,7 +25,7 @@ answer_distinct-requires-clause-apart g c = (line_terms c.args.line.now c.in-Ok.
 pub returns-in-Ok : goal.returns-in-Ok
 returns-in-Ok g c = record {
   answer = λ code collection over.
-      ranked_answered code collection c.in-Ok.terms c.in-Ok.ensures.reads (c.answer_distinct.ensures.answer code collection over) refl refl;
+      ranked_answered code collection c.in-Ok.terms c.in-Ok.ensures.reads (c.answer_distinct.ensures.answer code collection over);
   printed = λ ts is told.
       subst (λ xs. RanksTold (g.O.Sink.written c.args.out.now) (g.O.Sink.written c.answer_distinct.new.out) c.answer_distinct.result
       (g.S.Store.files c.args.store.now) c.args.self.now xs) (read_same c.in-Ok.ensures.reads is) c.answer_distinct.ensures.printed;

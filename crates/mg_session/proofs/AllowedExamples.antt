@@ -1,0 +1,35 @@
+-- What worked lines allow, computed.
+use Rattle.std.proofs.Common.{◌≡◌, ℕ, List, [], ◌∷◌, ◌++◌, refl}
+use Rattle.std.specs.Prelude.{codes}
+use Rattle.std.specs.List.{repeat}
+use Rattle.mg_defs.specs.Bits.{digits, filled}
+use Rattle.mg_defs.specs.Codes.{gamma, golomb, unary, ones, short, shorter, ceil_log2}
+use Rattle.mg_defs.specs.Commands.{command, words, dot_of, set_query, set_mode, set_most, set_of, value, is_most}
+use Rattle.mg_defs.specs.Lists.{posting_bits, bits_after, last_doc, doc_before, bits_before, block_pages, lists_bits, lists_entries, entries_to}
+use Rattle.mg_defs.specs.PageBounds.{numbers, met_pages, whole_pages, pages_for, list_pages, asked_of, boolean_bound, line_bound, ranked_bound, session_bound}
+use Rattle.mg_defs.specs.Parse.{parse}
+use Rattle.mg_defs.specs.Read.{boolean, ranked, query_of}
+use Rattle.mg_defs.specs.Session.{after_line, asked, ends, heard_questions, questions}
+use Rattle.mg_defs.specs.Tokens.{sign_of}
+use Rattle.mg_bool.specs.Matches.{query_bound}
+use Rattle.mg_bool.specs.Places.{place_bound, term_entries}
+use Rattle.mg_session.specs.PagesAllowed.{line_allows, session_allows}
+
+-- 'y x' and then 200 of one x
+abbrev many : List ℕ
+many = codes "y x" ++ 2 ∷ repeat 200 (120 ∷ 2 ∷ [])
+
+-- of Boolean lines one page of Post and one of Skip for each term that some document has; of ranked ones the same, and one of
+-- Weights for each term, unless only the count is shown
+allows : session_allows many (codes "!x\ny & !x\n.set query ranked\nx z\n.set mode count\nx z\n(\n") ≡ record { post = 5; skip = 5; weights = 2 }
+unfolding golomb unary ones short shorter ceil_log2 gamma parse digits filled command words dot_of set_query set_mode set_most set_of value is_most
+    boolean ranked query_of after_line asked ends heard_questions questions sign_of posting_bits bits_after last_doc doc_before bits_before block_pages
+    lists_bits lists_entries entries_to numbers met_pages pages_for asked_of query_bound place_bound term_entries line_allows session_allows
+allows = refl
+
+-- the bound by blocks of the same lines: x has four
+blocks : session_bound many (codes "!x\ny & !x\n.set query ranked\nx z\n.set mode count\nx z\n(\n") ≡ 14
+unfolding golomb unary ones short shorter ceil_log2 gamma parse digits filled command words dot_of set_query set_mode set_most set_of value is_most
+    boolean ranked query_of after_line asked ends heard_questions questions sign_of posting_bits bits_after last_doc doc_before bits_before block_pages
+    lists_bits numbers met_pages whole_pages pages_for list_pages asked_of boolean_bound line_bound ranked_bound session_bound
+blocks = refl

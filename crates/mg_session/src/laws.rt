@@ -1,0 +1,24 @@
+//! What the query lines of a session may read.
+ghost use Rattle.std.specs.Prelude.{◌≡◌, ◌≤◌, ℕ, List, sum_by};
+ghost use Rattle.mg_defs.specs.PageBounds.{session_bound};
+ghost use Rattle.mg_bool.specs.Places.{term_entries};
+ghost use Rattle.mg_post.specs.PagesOnce.{span_pages};
+ghost use Rattle.mg_session.specs.PagesAllowed.{session_allows, session_terms};
+
+use mg_bool::query_bound_is_the_lesser;
+
+/// The pages that the query lines of an input may read. Of Post they are no more than the blocks have
+/// that may be read, each page counted once for each block on it, nor than those on which the lists of
+/// the lines' terms lie. Of Skip they are those on which the entries of these lists lie.
+pub fn query_lines_allow()
+    ensures blocks { (collection given : List ℕ) →
+        (session_allows collection given).post ≤ session_bound collection given }
+    ensures lists { (collection given : List ℕ) →
+        (session_allows collection given).post
+        ≤ sum_by (span_pages collection) (session_terms given) }
+    ensures entries { (collection given : List ℕ) →
+        (session_allows collection given).skip
+        ≡ sum_by (term_entries collection) (session_terms given) }
+{
+    query_bound_is_the_lesser();
+}
