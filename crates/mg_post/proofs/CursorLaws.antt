@@ -156,13 +156,6 @@ walks_on all doc b ps reached last blocks block before to at post_at count held 
 
 -- ---- calls
 
-pub ended_stays : (b : Bool) (doc : ℕ) (ps : List Posting) (reached last : ℕ) (held left : List Posting) → b ≡ true → StandsOn b ps reached last held left →
-    (None ≡ head_of (from_doc doc left)) × StandsOn b ps reached last held (from_doc doc left)
-ended_stays true doc ps reached last held left is stands =
-    let e : from_doc doc left ≡ [] = ap (from_doc doc) stands.1 ∙ from_nothing doc in
-    (ap head_of (sym e), (stands.0, e))
-ended_stays false doc ps reached last held left is stands = absurd cc
-
 pub walks_of : (b : Bool) (ps : List Posting) (reached last : ℕ) (held left : List Posting) → b ≡ false → StandsOn b ps reached last held left → Walks ps reached last held left
 walks_of true ps reached last held left is stands = absurd cc
 walks_of false ps reached last held left is stands = stands

@@ -214,10 +214,6 @@ pub step_none : (docs reached last : ℕ) (found : Option Posting) (held now : L
 step_none docs reached last None held now ended went none = rw went.1 none
 step_none docs reached last (Some p) held now ended went none = record { first = λ not empty. absurd (omega (arith, empty, (head_some now p went.2).0)); all = none.all }
 
--- some postings are at hand
-pub some_held : (docs reached last : ℕ) (held : List Posting) (p : Posting) (ended : Bool) → ended ≡ false → head_of held ≡ Some p → HeldNone docs reached last held ended
-some_held docs reached last held p ended on is = record { first = λ not empty. absurd (omega (arith, empty, (head_some held p is).0)); all = λ off. absurd (false≢true (sym on ∙ off)) }
-
 -- all blocks were reached
 pub all_held : (docs reached last : ℕ) (held : List Posting) (ended : Bool) → ended ≡ true → reached ≡ block_count docs → HeldNone docs reached last held ended
 all_held docs reached last held ended off all = record { first = λ on. absurd (false≢true (sym on ∙ off)); all = λ is. all }

@@ -379,11 +379,11 @@ module _ {Dev : Type 0} {device : Dev → Seen} {c : Cursoring} {d0 d1 : Dev} {d
           answer = λ ps left stands on.
               let entries = at_blocks c (device d0).files blocks ps k.count stands.list.entries in
               refused_answer refusal Post e _ _ is
-              (w.does.told ps blocks entries.rises stands.list.whole (shows_at s ps stands.list) stands.list.small (found_at s ps left entries on));
+              (w.does.listed ps blocks entries.rises stands.list.whole (shows_at s ps stands.list) stands.list.small (found_at s ps left entries on)).told;
           entered = λ ps left stands on.
               let entries = at_blocks c (device d0).files blocks ps k.count stands.list.entries in
               let f = found_at s ps left entries on in
-              let most = w.does.most ps blocks entries.rises stands.list.whole (shows_at s ps stands.list) stands.list.small f in (
+              let most = (w.does.listed ps blocks entries.rises stands.list.whole (shows_at s ps stands.list) stands.list.small f).most in (
                 least,
                 λ lt. record {
                   block = found.block;
@@ -397,7 +397,7 @@ module _ {Dev : Type 0} {device : Dev → Seen} {c : Cursoring} {d0 d1 : Dev} {d
           first = first;
           once = λ ps left stands on reads.
               let entries = at_blocks c (device d0).files blocks ps k.count stands.list.entries in
-              let read = w.does.once ps blocks entries.rises stands.list.whole (shows_at s ps stands.list) stands.list.small (found_at s ps left entries on) in
+              let read = (w.does.listed ps blocks entries.rises stands.list.whole (shows_at s ps stands.list) stands.list.small (found_at s ps left entries on)).once in
               let most = once_refused refusal c post.feed found.block ps s.does.found.from (omega (arith, s.does.found.there, k.count)) read reads in
               record { again = tt; reached = tt; most = most };
           third = third_of c blocks skip.feed.count k.count s.does.most;
@@ -464,14 +464,14 @@ module _ {Dev : Type 0} {device : Dev → Seen} {c : Cursoring} {d0 d1 : Dev} {d
           answer = λ ps left stands on.
               let entries = at_blocks c (device d0).files blocks ps k.count stands.list.entries in
               let f = found_at s ps left entries on in
-              let e = w.does.told ps blocks entries.rises stands.list.whole (shows_at s ps stands.list) stands.list.small f in
+              let e = (w.does.listed ps blocks entries.rises stands.list.whole (shows_at s ps stands.list) stands.list.small f).told in
               let r = on_block c.ended c.all doc c.parameter ps c.reached c.last blocks found.block found.before found.last found.at (8 * c.post_at)
               inside.pages c.held left block held inside.posting k.on entries.rises k.beyond on.on f e swapped in
               (r.0, record { on = r.1 });
           entered = λ ps left stands on.
               let entries = at_blocks c (device d0).files blocks ps k.count stands.list.entries in
               let f = found_at s ps left entries on in
-              let e = w.does.told ps blocks entries.rises stands.list.whole (shows_at s ps stands.list) stands.list.small f in (
+              let e = (w.does.listed ps blocks entries.rises stands.list.whole (shows_at s ps stands.list) stands.list.small f).told in (
                 λ le. absurd (omega (arith, le, k.beyond)),
                 λ lt. record {
                   block = found.block;
@@ -484,7 +484,7 @@ module _ {Dev : Type 0} {device : Dev → Seen} {c : Cursoring} {d0 d1 : Dev} {d
           first = first;
           once = λ ps left stands on reads.
               let entries = at_blocks c (device d0).files blocks ps k.count stands.list.entries in
-              let read = w.does.once ps blocks entries.rises stands.list.whole (shows_at s ps stands.list) stands.list.small (found_at s ps left entries on) in
+              let read = (w.does.listed ps blocks entries.rises stands.list.whole (shows_at s ps stands.list) stands.list.small (found_at s ps left entries on)).once in
               let v : Cursoring = record c { skip = skip.feed; post = post.feed; reached = found.block + 1; last = found.last; held = held; entered = entered } in
               once_answered v ps (Some inside.posting) (omega (arith, s.does.found.there, k.count)) (once_read inside c post.feed found.block ps s.does.found.from read reads);
           third = third_of c blocks skip.feed.count k.count s.does.most;

@@ -1,5 +1,5 @@
 -- What the calls of a writer do to the lists that it was handed.
-use Rattle.std.proofs.Common.{arith, zero, suc, ◌≡◌, ◌≢◌, ◌+◌, ◌-◌, ◌*◌, ◌/◌, ◌%◌, ◌^◌, ◌≤◌, ◌<◌, ◌++◌, ℕ, List, []}
+use Rattle.std.proofs.Common.{arith, zero, suc, ◌≡◌, ◌≢◌, ◌+◌, ◌-◌, ◌*◌, ◌%◌, ◌^◌, ◌≤◌, ◌<◌, ◌++◌, ℕ, List, []}
 use Rattle.std.proofs.Common.{◌∷◌, length, refl, sym, ◌∙◌, ap, subst, ◌⊎◌, inl, inr, IsSome, is_some, unwrap_or, length-append, append_assoc, append-nil}
 use Rattle.std.specs.Prelude.{flat_map}
 use Rattle.std.specs.declared.option.Option.{Option}
@@ -314,10 +314,6 @@ took_ended {w} {q} {k} {f} {g} {h} {r} {s} {t} lists ps blocks ended to align al
       room = omega (arith, took.room, ended.few);
       total = took.total;
     }
-
-pub begun_at : (w : Listing) (files : Option Files) (lists : List (List Posting)) (ps : List Posting) → Took w files lists ps → w.pushed ≡ w.docs →
-    (w.start / 8 ≡ length (lists_bits w.all lists) / 8) × (w.first ≡ length (lists_entries w.all lists)) × (w.first < 2 ^ 32)
-begun_at w files lists ps took whole = (ap (λ n. n / 8) took.start, took.first, omega (arith, took.room, took.total, whole, took.docs))
 
 -- ---- the first call, a list begun, and the last call
 

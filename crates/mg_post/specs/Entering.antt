@@ -42,6 +42,18 @@ LacksFound post list doc found at = found.before < doc → doc ≤ found.last �
     LacksBlock list.all list.parameter.value post (8 * list.post_at + found.at) (min (list.docs - 64 * found.block) 64)
     found.before found.last at
 
+-- of a list that stands, the block that was found for a document is entered
+pub record EntersListed (list : ListPlace) (found : Found) (doc : ℕ) (held : List Posting) (result : Result Inside Refusal)
+    (old new : Feeding) (ps : List Posting) : Type 0 where
+  -- it is entered at its first posting from the document on, or the device failed
+  pub told : OrDevice result (λ i.
+      Entered list.parameter.value ps (8 * list.post_at) found.block doc i.posting held i.pages)
+  -- no more pages are read than the block has
+  pub most : new.count ≤ old.count + block_pages list.parameter.value (8 * list.post_at) found.block ps
+  -- and none of them again that is held
+  pub once : ReadsOn (8 * list.post_at + bits_before list.parameter.value (64 * found.block) ps)
+      (8 * list.post_at + bits_before list.parameter.value (64 * (found.block + 1)) ps) result old new
+
 -- the block that was found for a document is entered, by the bytes of Post that are told and the feed before and after
 pub record EntersFound (list : ListPlace) (found : Found) (doc : ℕ) (held : List Posting)
     (result : Result Inside Refusal) (post : Option (List ℕ)) (old new : Feeding) : Type 0 where
@@ -55,16 +67,8 @@ pub record EntersFound (list : ListPlace) (found : Found) (doc : ℕ) (held : Li
   pub shows : OnOk result (HoldsFound post list doc found held)
   -- no more pages are read than are answered
   pub count : IfOk result (λ i. new.count ≤ old.count + i.pages)
-  -- where the list stands, the block is entered at its first posting from the document on, or the device failed
-  pub told : WhereFound post list doc found
-      (λ ps. OrDevice result (λ i. Entered list.parameter.value ps (8 * list.post_at) found.block doc i.posting held i.pages))
-  -- and no more pages are read than the block has
-  pub most : WhereFound post list doc found (λ ps. new.count ≤ old.count
-      + block_pages list.parameter.value (8 * list.post_at) found.block ps)
-  -- and none of them again that is held
-  pub once : WhereFound post list doc found (λ ps. ReadsOn
-      (8 * list.post_at + bits_before list.parameter.value (64 * found.block) ps)
-      (8 * list.post_at + bits_before list.parameter.value (64 * (found.block + 1)) ps) result old new)
+  -- where the list stands, the block is entered, or the device failed
+  pub listed : WhereFound post list doc found (EntersListed list found doc held result old new)
   -- where the block alone stands, only the device may fail
   pub block : WhereBlockStands post list doc found (OrDevice result (λ _. Unit {0}))
   -- a damage is told at the first bit of what is missing

@@ -3,7 +3,9 @@ use Rattle.mg_post.proofs.AheadLaws.{high_below, high_takes, low_below, low_take
 use Rattle.mg_post.proofs.ahead.short_ahead.Goals as goal
 
 pub returns-then-code-eq0-clause-takes : goal.returns-then-code-eq0-clause-takes
-returns-then-code-eq0-clause-takes c = none_takes c.args.code.parameter.value c.args.code.size c.args.code.few c.args.ahead.bits c.args.ahead.count c.args.code.code c.if-code-eq0.true c.args.ahead.below
+returns-then-code-eq0-clause-takes c =
+    none_takes c.args.code.parameter.value c.args.code.size c.args.code.few c.args.ahead.bits c.args.ahead.count c.args.code.code
+    c.if-code-eq0.true c.args.ahead.below
 
 pub returns-then-high-code-clause-takes : goal.returns-then-high-code-clause-takes
 returns-then-high-code-clause-takes c =

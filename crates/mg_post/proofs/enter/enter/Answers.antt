@@ -23,9 +23,7 @@ returns-in_default g c =
         whole = λ is. tt;
         shows = tt;
         count = tt;
-        told = λ ps blocks rises whole shows small found. absurd (omega (arith, bits_fit list.parameter.value (64 * c.args.found.block) ps, found.bits, far, small));
-        most = λ ps blocks rises whole shows small found. absurd (omega (arith, bits_fit list.parameter.value (64 * c.args.found.block) ps, found.bits, far, small));
-        once = λ ps blocks rises whole shows small found. absurd (omega (arith, bits_fit list.parameter.value (64 * c.args.found.block) ps, found.bits, far, small));
+        listed = λ ps blocks rises whole shows small found. absurd (omega (arith, bits_fit list.parameter.value (64 * c.args.found.block) ps, found.bits, far, small));
         block = λ ps after within stands. absurd (omega (arith, stands.small, far));
         lacks = λ after within. inr (inr record { far = far; at_is = c.place_or_most.ensures });
       };
@@ -49,19 +47,7 @@ returns-then-last-found g c =
         whole = λ is. tt;
         shows = tt;
         count = tt;
-        told = λ ps blocks rises whole shows small found.
-            let at : c.seek.new.self.place ≡ 8 * list.post_at + bits_before list.parameter.value (64 * f.block) ps = place ∙ ap (λ n. 8 * list.post_at + n) found.bits in
-            let got : c.fill.new.self ≡ block_of f.block ps =
-            block_answer _ (8 * list.post_at) list.all list.parameter.value c.seek.new.self.place f.before _ list.docs f.block ps c.fill.new.self (Ok c.in-Ok.last)
-            c.min.ensures whole found.from at rises (rw (← c.seek.ensures.feed) at shows) small e.told in
-            absurd (c.if-last-found.true (block_ends list.parameter.value blocks c.args.doc f.block f.before f.last f.at c.in-Ok.last ps c.fill.new.self found got e.last));
-        most = λ ps blocks rises whole shows small found.
-            let at : c.seek.new.self.place ≡ 8 * list.post_at + bits_before list.parameter.value (64 * f.block) ps = place ∙ ap (λ n. 8 * list.post_at + n) found.bits in
-            let got : c.fill.new.self ≡ block_of f.block ps =
-            block_answer _ (8 * list.post_at) list.all list.parameter.value c.seek.new.self.place f.before _ list.docs f.block ps c.fill.new.self (Ok c.in-Ok.last)
-            c.min.ensures whole found.from at rises (rw (← c.seek.ensures.feed) at shows) small e.told in
-            absurd (c.if-last-found.true (block_ends list.parameter.value blocks c.args.doc f.block f.before f.last f.at c.in-Ok.last ps c.fill.new.self found got e.last));
-        once = λ ps blocks rises whole shows small found.
+        listed = λ ps blocks rises whole shows small found.
             let at : c.seek.new.self.place ≡ 8 * list.post_at + bits_before list.parameter.value (64 * f.block) ps = place ∙ ap (λ n. 8 * list.post_at + n) found.bits in
             let got : c.fill.new.self ≡ block_of f.block ps =
             block_answer _ (8 * list.post_at) list.all list.parameter.value c.seek.new.self.place f.before _ list.docs f.block ps c.fill.new.self (Ok c.in-Ok.last)
@@ -118,15 +104,7 @@ returns-in-Some-current g c =
           held_is = c.forward.ensures;
         };
         count = rw (c.pages_of-pages.ensures, c.place.ensures, ← c.seek.ensures.place, ← c.seek.ensures.feed) most;
-        told = λ ps blocks rises whole shows small found.
-            let at : c.seek.new.self.place ≡ 8 * list.post_at + bits_before list.parameter.value (64 * f.block) ps = place ∙ ap (λ n. 8 * list.post_at + n) found.bits in
-            let got : c.fill.new.self ≡ block_of f.block ps =
-            block_answer _ (8 * list.post_at) list.all list.parameter.value c.seek.new.self.place f.before _ list.docs f.block ps c.fill.new.self (Ok c.in-Ok.last)
-            c.min.ensures whole found.from at rises (rw (← c.seek.ensures.feed) at shows) small e.told in
-            entered list.parameter.value (8 * list.post_at) c.seek.new.self.place c.fill.new.r.place f.block c.args.doc f.before _ ps c.fill.new.self
-            c.forward.new.self c.in-Some-current.posting got c.forward.ensures (sym c.in-Some-current.ensures) found.from at e.place
-            (rw (c.place.ensures, ← c.seek.ensures.place) at c.pages_of-pages.ensures);
-        most = λ ps blocks rises whole shows small found.
+        listed = λ ps blocks rises whole shows small found.
             let at : c.seek.new.self.place ≡ 8 * list.post_at + bits_before list.parameter.value (64 * f.block) ps = place ∙ ap (λ n. 8 * list.post_at + n) found.bits in
             let got : c.fill.new.self ≡ block_of f.block ps =
             block_answer _ (8 * list.post_at) list.all list.parameter.value c.seek.new.self.place f.before _ list.docs f.block ps c.fill.new.self (Ok c.in-Ok.last)
@@ -134,15 +112,13 @@ returns-in-Some-current g c =
             let told = entered list.parameter.value (8 * list.post_at) c.seek.new.self.place c.fill.new.r.place f.block c.args.doc f.before c.pages_of-pages.result ps
             c.fill.new.self c.forward.new.self c.in-Some-current.posting got c.forward.ensures (sym c.in-Some-current.ensures) found.from at e.place
             (rw (c.place.ensures, ← c.seek.ensures.place) at c.pages_of-pages.ensures) in
-            rw (← told.pages, c.pages_of-pages.ensures, c.place.ensures, ← c.seek.ensures.place, ← c.seek.ensures.feed) most;
-        once = λ ps blocks rises whole shows small found.
-            let at : c.seek.new.self.place ≡ 8 * list.post_at + bits_before list.parameter.value (64 * f.block) ps = place ∙ ap (λ n. 8 * list.post_at + n) found.bits in
-            let got : c.fill.new.self ≡ block_of f.block ps =
-            block_answer _ (8 * list.post_at) list.all list.parameter.value c.seek.new.self.place f.before _ list.docs f.block ps c.fill.new.self (Ok c.in-Ok.last)
-            c.min.ensures whole found.from at rises (rw (← c.seek.ensures.feed) at shows) small e.told in
-            let on = read_on {T = Inside} _ list.parameter.value (8 * list.post_at) c.seek.new.self.place c.fill.new.r.place f.block f.before ps c.fill.new.self _ _ _ _
-            (rw c.seek.ensures.feed c.requires.feed.page) got found.from at e.place read in
-            rw (← c.seek.ensures.feed) on;
+            record {
+              told = told;
+              most = rw (← told.pages, c.pages_of-pages.ensures, c.place.ensures, ← c.seek.ensures.place, ← c.seek.ensures.feed) most;
+              once = rw (← c.seek.ensures.feed)
+                  (read_on {T = Inside} _ list.parameter.value (8 * list.post_at) c.seek.new.self.place c.fill.new.r.place f.block f.before ps c.fill.new.self _ _ _ _
+                  (rw c.seek.ensures.feed c.requires.feed.page) got found.from at e.place read);
+            };
         block = λ ps after within stands. tt;
         lacks = tt;
       };
@@ -167,21 +143,7 @@ returns-in-None g c =
         whole = λ is. tt;
         shows = tt;
         count = tt;
-        told = λ ps blocks rises whole shows small found.
-            let at : c.seek.new.self.place ≡ 8 * list.post_at + bits_before list.parameter.value (64 * f.block) ps = place ∙ ap (λ n. 8 * list.post_at + n) found.bits in
-            let got : c.fill.new.self ≡ block_of f.block ps =
-            block_answer _ (8 * list.post_at) list.all list.parameter.value c.seek.new.self.place f.before _ list.docs f.block ps c.fill.new.self (Ok c.in-Ok.last)
-            c.min.ensures whole found.from at rises (rw (← c.seek.ensures.feed) at shows) small e.told in
-            let same : length c.forward.new.self ≡ length (forward_to c.args.doc (block_of f.block ps)) = ap length (c.forward.ensures ∙ ap (forward_to c.args.doc) got) in
-            absurd (omega (arith, none, same, found_some list.all list.parameter.value blocks c.args.doc f.block f.before f.last f.at ps rises found));
-        most = λ ps blocks rises whole shows small found.
-            let at : c.seek.new.self.place ≡ 8 * list.post_at + bits_before list.parameter.value (64 * f.block) ps = place ∙ ap (λ n. 8 * list.post_at + n) found.bits in
-            let got : c.fill.new.self ≡ block_of f.block ps =
-            block_answer _ (8 * list.post_at) list.all list.parameter.value c.seek.new.self.place f.before _ list.docs f.block ps c.fill.new.self (Ok c.in-Ok.last)
-            c.min.ensures whole found.from at rises (rw (← c.seek.ensures.feed) at shows) small e.told in
-            let same : length c.forward.new.self ≡ length (forward_to c.args.doc (block_of f.block ps)) = ap length (c.forward.ensures ∙ ap (forward_to c.args.doc) got) in
-            absurd (omega (arith, none, same, found_some list.all list.parameter.value blocks c.args.doc f.block f.before f.last f.at ps rises found));
-        once = λ ps blocks rises whole shows small found.
+        listed = λ ps blocks rises whole shows small found.
             let at : c.seek.new.self.place ≡ 8 * list.post_at + bits_before list.parameter.value (64 * f.block) ps = place ∙ ap (λ n. 8 * list.post_at + n) found.bits in
             let got : c.fill.new.self ≡ block_of f.block ps =
             block_answer _ (8 * list.post_at) list.all list.parameter.value c.seek.new.self.place f.before _ list.docs f.block ps c.fill.new.self (Ok c.in-Ok.last)
@@ -218,21 +180,20 @@ returns-in-Err g c =
         whole = λ is. tt;
         shows = tt;
         count = tt;
-        told = λ ps blocks rises whole shows small found.
+        listed = λ ps blocks rises whole shows small found.
             let at : c.seek.new.self.place ≡ 8 * list.post_at + bits_before list.parameter.value (64 * f.block) ps = place ∙ ap (λ n. 8 * list.post_at + n) found.bits in
-            any_refused c.in-Err.refusal _ _
-            (block_answer _ (8 * list.post_at) list.all list.parameter.value c.seek.new.self.place f.before _ list.docs f.block ps c.fill.new.self
-            (Err c.in-Err.refusal) c.min.ensures whole found.from at rises (rw (← c.seek.ensures.feed) at shows) small e.told);
-        most = λ ps blocks rises whole shows small found.
-            let at : c.seek.new.self.place ≡ 8 * list.post_at + bits_before list.parameter.value (64 * f.block) ps = place ∙ ap (λ n. 8 * list.post_at + n) found.bits in
-            let most = refused_pages _ _ _ _ _ (8 * list.post_at) list.all list.parameter.value c.seek.new.self.place f.before _ list.docs f.block ps
-            (rw c.seek.ensures.feed c.requires.feed.page) c.min.ensures whole found.from at rises (rw (← c.seek.ensures.feed) at shows) small e.pages in
-            rw (← c.seek.ensures.feed) most;
-        once = λ ps blocks rises whole shows small found.
-            let at : c.seek.new.self.place ≡ 8 * list.post_at + bits_before list.parameter.value (64 * f.block) ps = place ∙ ap (λ n. 8 * list.post_at + n) found.bits in
-            let on = refused_on {T = Inside} c.in-Err.refusal _ _ _ _ _ (8 * list.post_at) list.all list.parameter.value c.seek.new.self.place f.before _ list.docs f.block ps
-            (rw c.seek.ensures.feed c.requires.feed.page) c.min.ensures whole found.from at rises (rw (← c.seek.ensures.feed) at shows) small e.pages in
-            rw (← c.seek.ensures.feed) on;
+            let stands = rw (← c.seek.ensures.feed) at shows in
+            record {
+              told = any_refused c.in-Err.refusal _ _
+                  (block_answer _ (8 * list.post_at) list.all list.parameter.value c.seek.new.self.place f.before _ list.docs f.block ps c.fill.new.self
+                  (Err c.in-Err.refusal) c.min.ensures whole found.from at rises stands small e.told);
+              most = rw (← c.seek.ensures.feed)
+                  (refused_pages _ _ _ _ _ (8 * list.post_at) list.all list.parameter.value c.seek.new.self.place f.before _ list.docs f.block ps
+                  (rw c.seek.ensures.feed c.requires.feed.page) c.min.ensures whole found.from at rises stands small e.pages);
+              once = rw (← c.seek.ensures.feed)
+                  (refused_on {T = Inside} c.in-Err.refusal _ _ _ _ _ (8 * list.post_at) list.all list.parameter.value c.seek.new.self.place f.before _ list.docs f.block ps
+                  (rw c.seek.ensures.feed c.requires.feed.page) c.min.ensures whole found.from at rises stands small e.pages);
+            };
         block = λ ps after within stands.
             any_refused c.in-Err.refusal _ _ (block_filled _ list.all list.parameter.value (8 * list.post_at + f.at) c.min.result f.before f.last
             c.seek.new.self.place ps c.fill.new.self (Err c.in-Err.refusal) (rw (c.min.ensures, c.seek.ensures.feed) stands) place e.told);
