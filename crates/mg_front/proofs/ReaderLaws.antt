@@ -11,6 +11,7 @@ use Rattle.mg_dev.specs.Files.{Reads}
 use Rattle.mg_dev.specs.Names.{same_part}
 use Rattle.mg_dev.specs.declared.part.Part.{Part}
 use Rattle.mg_dev.specs.PartCauses.{HasPartCause}
+use Rattle.mg_dev.proofs.CallerLemmas.{cause_err, cause_then}
 use Rattle.mg_dev.specs.declared.bad.Bad as declared
 use Rattle.mg_dev.specs.declared.device.Failed.{Failed}
 use Rattle.mg_bits.specs.Pages.{Fits, Looked, Paging}
@@ -228,17 +229,6 @@ same_again one two = record {
 fits_as : {feed : Paging} {f g : Option Files} → g ≡ f → Fits feed f → Fits feed g
 fits_as {feed} same fits = subst (Fits feed) (sym same) fits
 
-pub caused_later : {T : Type 0} {a b c : ℕ} (result : Result T PartErr) → a ≤ b → HasPartCause b c result → HasPartCause a c result
-caused_later (Ok value) before cause = record { later = omega (arith, before, cause.later); device = tt }
-caused_later (Err Device) before cause = record { later = omega (arith, before, cause.later); device = omega (arith, before, cause.device) }
-caused_later (Err Memory) before cause = record { later = omega (arith, before, cause.later); device = tt }
-caused_later (Err (Bad bad)) before cause = record { later = omega (arith, before, cause.later); device = tt }
-
-pub refused_for : {T U : Type 0} {a b : ℕ} (refusal : PartErr) → HasPartCause {T = T} a b (Err refusal) → HasPartCause {T = U} a b (Err refusal)
-refused_for Device cause = record { later = cause.later; device = cause.device }
-refused_for Memory cause = record { later = cause.later; device = tt }
-refused_for (Bad bad) cause = record { later = cause.later; device = tt }
-
 not_memory : {T : Type 0} (refusal : PartErr) (places : Paging) (files : Option Files) (block : ℕ) → LacksPlace refusal places files block →
     ◌≡◌ {A = Result T PartErr} (Err refusal) (Err Memory) → ⊥
 not_memory Device places files block lacks is = absurd cc
@@ -260,7 +250,7 @@ looked_place {w = w} {block = block} {refusal} {f} fits one = record {
   looked = looked_places one.looked;
   reads = λ apart. place_look apart one.page one.looked;
   memory = not_memory refusal w.places f block one.answer;
-  cause = refused_for refusal one.cause;
+  cause = cause_err (omega arith) one.cause;
 }
 
 -- entries were read from the place on
@@ -274,7 +264,7 @@ looked_entries {w = w} result fits one two memory cause = record {
   looked = looked_both one.looked two.looked refl;
   reads = λ apart. one_look apart one.page one.looked two.looked two.read_to;
   memory = memory;
-  cause = caused_later result one.cause.later cause;
+  cause = cause_then result one.cause.later cause;
 }
 
 module _ {U : Type 0} {w : Fronted} {p q : Paging} {block place : ℕ} {f g h : Option Files} {r s t : Reads} {x y z : ℕ} where

@@ -1,22 +1,18 @@
 -- What a walk over entries gives.
-use Rattle.std.proofs.Common.{arith, ◌≡◌, ◌≤◌, ◌+◌, ◌-◌, ◌*◌, ◌/◌, ◌<◌, ◌++◌, ◌⊎◌, inl, inr, ℕ, Bool, false, true, List, [], ◌∷◌}
-use Rattle.std.proofs.Common.{length, length-drop, unwrap_or, take, drop, Some, None, refl, sym, ◌∙◌, ap, subst, length-append, append_assoc, IsSome, append-nil, Ok, Err, Result, slice_get}
+use Rattle.std.proofs.Common.{arith, ◌≡◌, ◌+◌, ◌<◌, ◌++◌, ◌⊎◌, inl, inr, ℕ, Bool, false, true, List, [], ◌∷◌}
+use Rattle.std.proofs.Common.{length, take, drop, Some, None, refl, sym, ◌∙◌, ap, subst, length-append, append_assoc, IsSome, append-nil, Ok, Err, Result, slice_get}
 use Rattle.mg_dev.specs.declared.part_err.PartErr.{PartErr}
 use Rattle.mg_dev.specs.declared.part_err.PartErr.TheVariants.{Device, Memory, Bad}
 use Rattle.std.specs.declared.option.Option.{Option}
-use Rattle.std.specs.Option.{option_map}
-use Rattle.std.proofs.lemmas.List.{drop-drop, drop_all}
+use Rattle.std.proofs.lemmas.List.{drop-drop}
 use Rattle.mg_dev.specs.declared.bad.Bad as declared
 use Rattle.mg_dev.specs.declared.device.Failed.{Failed}
-use Rattle.mg_dev.specs.declared.part.Part.{Part}
 use Rattle.mg_dev.specs.Bads.{IsBad}
-use Rattle.mg_dev.specs.Causes.{Rose}
-use Rattle.mg_dev.specs.Files.{Files, Reads, SameReads, bytes_at, file_at}
-use Rattle.mg_bits.specs.Pages.{Fits, Looked, Paging}
-use Rattle.mg_bits.proofs.CallerLemmas.{held_after_none}
+use Rattle.mg_dev.specs.Files.{Files, Reads, bytes_at}
+use Rattle.mg_bits.specs.Pages.{Fits}
 use Rattle.mg_defs.specs.Front.{Entry, IsEntry, AreEntries, entry_bytes, front, front_from, last_string, read_entry, IsFront}
 use Rattle.mg_front.specs.Entries.{ReadsEntry, string_of, entry_of, found_of}
-use Rattle.mg_front.specs.Looks.{ReadOn, ReadTo}
+use Rattle.mg_front.specs.Looks.{ReadOn}
 use Rattle.mg_defs.proofs.FrontParts.{prefix_of, same_entry, slice_get-behind}
 use Rattle.mg_defs.specs.Front.{NoEntry}
 use Rattle.mg_front.specs.Walk.{Walking, Given, Gave, BeginsWith, AnswersNext, AnswersAmong, Stepped}
@@ -174,79 +170,5 @@ stepped_failed one width count = record {
   looked = one.read.looked;
   reads = one.read.read_to;
   cause = record { later = one.read.cause.later; device = one.read.cause.failed };
-  memory = λ is. absurd cc;
-}
-
--- what a call that reads nothing leaves
-pub record Still (f g : Option Files) (r s : Reads) (x y : ℕ) : Type 0 where
-  pub files : g ≡ f
-  pub reads : SameReads r s
-  pub faults : x ≤ y
-
-still_looked : (part : Part) {f g : Option Files} {r s : Reads} {x y : ℕ} → Still f g r s x y → Looked part f g r s x y
-still_looked part still = record {
-  files = still.files;
-  faults = still.faults;
-  later = λ p. omega (arith, still.reads p);
-  others = λ p apart. still.reads p;
-}
-
-still_to : (feed : Paging) {f g : Option Files} {r s : Reads} {x y : ℕ} (place more : ℕ) → Still f g r s x y → ReadTo feed r s place (place + more)
-still_to feed place more still =
-    let further : place / 4096 ≤ (place + more) / 4096 = omega arith in
-    record { pages = omega (arith, still.reads feed.part, further) }
-
-size_of : (o : Option (List ℕ)) (size : Option ℕ) (found : ℕ) → size ≡ option_map length o → found ≡ unwrap_or size 0 → found ≡ length (unwrap_or o [])
-size_of None size found is same = same ∙ ap (λ s. unwrap_or s 0) is
-size_of (Some bytes) size found is same = same ∙ ap (λ s. unwrap_or s 0) is
-
--- the size of the walk's file
-pub found_size : (f : Option Files) (name other : List ℕ) (size : Option ℕ) (found : ℕ) → name ≡ other → (IsSome f → size ≡ option_map length (file_at f other)) →
-    found ≡ unwrap_or size 0 → IsSome f → found ≡ length (bytes_at f name)
-found_size f name other size found same is found_is told = size_of (file_at f other) size found (is told) found_is ∙ ap (λ n. length (bytes_at f n)) (sym same)
-
--- no byte is left over
-pub stepped_end : {w : Walking} {out : FrontEntry} {f g : Option Files} {r s : Reads} {x y : ℕ} (found : ℕ) → w.done ≡ w.count →
-    (IsSome f → found ≡ length (bytes_at f w.feed.name)) → found ≤ w.place → Still f g r s x y → Stepped w w out (Ok false) f g r s x y
-stepped_end {w} {f = f} {r = r} {s} found done size short still = record {
-  gave = λ es gave. record {
-    fits = subst (Fits w.feed) (sym still.files) gave.fits;
-    given = λ told. subst (λ h. Given w (bytes_at h w.feed.name) es) (sym still.files)
-        (gave.given (subst IsSome still.files told));
-  };
-  answer = λ told. (done, drop_all w.place (bytes_at f w.feed.name) (omega (arith, size told, short)));
-  step = (done, refl);
-  same = record { name = refl; part = refl; width = refl; count = refl };
-  looked = still_looked w.feed.part still;
-  reads = record { pages = omega (arith, still.reads w.feed.part); order = omega arith; held = sym (held_after_none 4096 w.feed.held (8 * w.place)) };
-  cause = record { later = still.faults; device = tt };
-  memory = λ is. absurd cc;
-}
-
--- bytes are left over
-pub stepped_over : {w : Walking} {out : FrontEntry} {f g : Option Files} {r s : Reads} {x y : ℕ} (found : ℕ) (bad : declared.Bad) → w.done ≡ w.count →
-    (IsSome f → found ≡ length (bytes_at f w.feed.name)) → IsBad bad w.feed.part w.place 0 0 (found - w.place) → Still f g r s x y →
-    Stepped w w out (Err (Bad bad)) f g r s x y
-stepped_over {w} {f = f} found bad done size is still = record {
-  gave = λ es gave. tt;
-  answer = λ told. inr (done, subst (IsBad bad w.feed.part w.place 0 0) (omega (arith, size told, length-drop w.place (bytes_at f w.feed.name))) is);
-  step = tt;
-  same = record { name = refl; part = refl; width = refl; count = refl };
-  looked = still_looked w.feed.part still;
-  reads = still_to w.feed w.place 281 still;
-  cause = record { later = still.faults; device = tt };
-  memory = λ is. absurd cc;
-}
-
--- the store does not tell the size
-pub stepped_unknown : {w : Walking} {out : FrontEntry} {f g : Option Files} {r s : Reads} {x y : ℕ} → Rose x y → Still f g r s x y → Stepped w w out (Err Device) f g r s x y
-stepped_unknown {w} rose still = record {
-  gave = λ es gave. tt;
-  answer = λ told. tt;
-  step = tt;
-  same = record { name = refl; part = refl; width = refl; count = refl };
-  looked = still_looked w.feed.part still;
-  reads = still_to w.feed w.place 281 still;
-  cause = record { later = still.faults; device = rose };
   memory = λ is. absurd cc;
 }

@@ -7,7 +7,8 @@ use Rattle.mg_dev.specs.Files.{Reads}
 use Rattle.mg_dev.specs.declared.part.Part.{Part}
 use Rattle.mg_front.specs.Looks.{halvings}
 use Rattle.mg_front.proofs.ReadPages.{Halved, halved_none, halved_more, halved_look, halved_done, look_as}
-use Rattle.mg_front.proofs.ReaderLaws.{caused_later, looked_again, looked_not, memory_for, refused_for, same_again}
+use Rattle.mg_dev.proofs.CallerLemmas.{cause_err}
+use Rattle.mg_front.proofs.ReaderLaws.{looked_again, looked_not, memory_for, same_again}
 use Rattle.mg_front.proofs.reader.FrontReader.block_of.Goals as goal
 
 halved_none_as : (strings places : Part) (r : Reads) (blocks left : ℕ) → blocks < 2 ^ 32 → left ≡ blocks → Halved strings places r r left (halvings blocks)
@@ -76,7 +77,7 @@ returns-in-Err-clause-step g c =
       looked = looked_again inv.looked at.looked inv.same.strings_part inv.same.places_part;
       reads = λ apart. halved_look (omega arith) (inv.reads apart) (look_as inv.same.strings_part inv.same.places_part apart at.reads);
       memory = memory_for _ at.memory;
-      cause = refused_for _ (caused_later _ inv.looked.faults at.cause);
+      cause = cause_err inv.looked.faults at.cause;
     }
 
 pub returns-then-low-eq0-clause-step : goal.returns-then-low-eq0-clause-step

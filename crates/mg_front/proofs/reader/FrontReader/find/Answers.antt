@@ -2,7 +2,8 @@ use Rattle.std.proofs.Common.{arith, subst, Ok}
 use Rattle.mg_front.specs.Reading.{AnswersBlock}
 use Rattle.mg_front.proofs.ReadPages.{look_as, looks_more, looks_wider}
 use Rattle.mg_front.proofs.OrderLaws.{block_refused, lost_among, stands_same, none_at_all, found_in}
-use Rattle.mg_front.proofs.ReaderLaws.{caused_later, looked_again, memory_for, refused_for, same_again}
+use Rattle.mg_dev.proofs.CallerLemmas.{cause_err, cause_then}
+use Rattle.mg_front.proofs.ReaderLaws.{looked_again, memory_for, same_again}
 use Rattle.mg_front.proofs.reader.FrontReader.find.Goals as goal
 
 pub returns-in-Err : goal.returns-in-Err
@@ -16,7 +17,7 @@ returns-in-Err g c =
       bad = e.bad;
       memory = memory_for _ e.step.memory;
       reads = λ apart. looks_wider (omega arith) (e.step.reads apart);
-      cause = refused_for _ e.step.cause;
+      cause = cause_err (omega arith) e.step.cause;
     }
 
 pub returns-in-Ok-None : goal.returns-in-Ok-None
@@ -52,5 +53,5 @@ returns g c =
       memory = i.step.memory;
       reads = λ apart. looks_more (e.step.reads apart)
           (look_as e.step.same.strings_part e.step.same.places_part apart i.step.reads);
-      cause = caused_later _ e.step.looked.faults i.step.cause;
+      cause = cause_then _ e.step.looked.faults i.step.cause;
     }
