@@ -1,14 +1,14 @@
 -- Copies of files: what is added and what is left as it is.
-use Rattle.std.proofs.Common.{arith, ◌≡◌, ◌≢◌, ◌≤◌, ◌<◌, ◌∙◌, ◌+◌, ◌-◌, ◌++◌, min, ℕ, List, [], length, take, drop, refl, sym, ap, subst, Ok, Err, IsSome, None, Some, inl, inr}
+use Rattle.std.proofs.Common.{arith, ◌≡◌, ◌≢◌, ◌≤◌, ◌∙◌, ◌+◌, ◌++◌, ℕ, List, [], length, take, drop, refl, sym, ap, subst, Ok, Err, IsSome, None, Some}
 use Rattle.std.specs.Option.{is_some, option_map, unwrap_or}
 use Rattle.std.specs.declared.option.Option.{Option}
 use Rattle.std.specs.Prelude.{IfErr, OnOk}
 use Rattle.std.specs.declared.result.Result.{Result}
-use Rattle.std.proofs.Math.Seq.{take-add}
-use Rattle.std.proofs.lemmas.List.{append_cancel_right, take-take}
+use Rattle.std.proofs.Math.Seq.{take-add, take-length}
+use Rattle.std.proofs.lemmas.List.{append_cancel_right, take-append-le, take-take}
 use Rattle.mg_dev.specs.Faults.{ReadStops}
 use Rattle.mg_dev.specs.Files.{AfterAppend, AfterReset, Files, bytes_at, file_at, grown, written}
-use Rattle.mg_dev.specs.Laws.{append-others, append-told, file_at-other, file_at-written, read_count, reset-others, reset-told, told-written}
+use Rattle.mg_dev.specs.Laws.{append-others, append-told, file_at-written, reset-others, reset-told}
 use Rattle.mg_dev.specs.Names.{ending, full_name}
 use Rattle.mg_dev.specs.declared.part.Part.{Part}
 use Rattle.mg_dev.specs.declared.fault.Fault.{Fault}
@@ -28,12 +28,21 @@ reset_alone before old new name r same after = record {
   others = λ n apart. reset-others old new name n r after apart ∙ ap (λ f. file_at f n) same;
 }
 
+-- nothing changed before
+pub alone_since : (name : List ℕ) (before old now : Option Files) → old ≡ before → ChangedAlone name old now → ChangedAlone name before now
+alone_since name before old now same alone = subst (λ f. ChangedAlone name f now) same alone
+
 pub alone_more : (name : List ℕ) (f g h : Option Files) → ChangedAlone name f g → ChangedAlone name g h → ChangedAlone name f h
 alone_more name f g h one two = record { told = two.told ∙ one.told; others = λ n apart. two.others n apart ∙ one.others n apart }
 
 -- the first bytes of the buffer are those of the file
 pub first_of_read : (buf bytes : List ℕ) (n m at : ℕ) → take n buf ≡ take (length buf) (drop at bytes) → m ≤ n → n ≤ length buf → take m buf ≡ take m (drop at bytes)
 first_of_read buf bytes n m at is low within = sym (take-take m n buf low) ∙ ap (take m) is ∙ take-take m (length buf) (drop at bytes) (omega (arith, low, within))
+
+-- a vector all of whose places were written holds what was written
+pub written_whole : (n : ℕ) (held buf items : List ℕ) → held ≡ take n (buf ++ drop (length buf) items) → n ≡ length buf → held ≡ buf
+written_whole n held buf items is whole = is ∙ ap (λ k. take k (buf ++ drop (length buf) items)) whole
+    ∙ take-append-le (length buf) buf (drop (length buf) items) (omega arith) ∙ take-length buf
 
 -- what an append of bytes that were read leaves
 pub appended_here : (before read now : Option Files) (to piece more : List ℕ) → read ≡ before → IsSome before → now ≡ grown read to piece → piece ≡ more →
@@ -96,9 +105,10 @@ stops_more fault.InputTooLong rose rose_since whole whole_since up down stops = 
 stops_more fault.SameName rose rose_since whole whole_since up down stops = stops
 stops_more (fault.TooManyRotations count) rose rose_since whole whole_since up down stops = stops
 
-pub refused_more : (r : Result (Unit {0}) Fault) (rose whole whole_since : Type 0) → (whole_since → whole) → IfErr r (ReadStops rose whole) → IfErr r (ReadStops rose whole_since)
-refused_more (Ok done) rose whole whole_since down stops = tt
-refused_more (Err refusal) rose whole whole_since down stops = stops_more refusal rose rose whole whole_since (λ up. up) down stops
+pub refused_more : {T : Type 0} (r : Result T Fault) {rose rose_since whole whole_since : Type 0} → (rose → rose_since) → (whole_since → whole) →
+    IfErr r (ReadStops rose whole) → IfErr r (ReadStops rose_since whole_since)
+refused_more (Ok done) up down stops = tt
+refused_more (Err refusal) up down stops = stops_more refusal _ _ _ _ up down stops
 
 -- what follows from what holds at `Ok`
 pub ok_more : (r : Result (Unit {0}) Fault) (one two : Type 0) → (one → two) → OnOk r one → OnOk r two

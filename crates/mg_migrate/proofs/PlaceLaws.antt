@@ -1,16 +1,15 @@
 -- The places of a set of version 1.
-use Rattle.std.proofs.Common.{arith, ◌≡◌, ◌≤◌, ◌<◌, ◌^◌, ◌+◌, ◌==◌, ◌∙◌, if◌then◌else◌, ℕ, List, length, take, map, sum_by, refl, sym, ap, subst, Option}
-use Rattle.std.specs.List.{All, flat_map}
+use Rattle.std.proofs.Common.{arith, ◌≡◌, ◌<◌, ◌^◌, ◌+◌, ◌==◌, ◌∙◌, if◌then◌else◌, ℕ, List, length, sum_by, sym, ap, subst, Option}
+use Rattle.std.specs.List.{All}
 use Rattle.std.proofs.Math.Seq.{take-length}
 use Rattle.std.proofs.lemmas.List.Elements.{All-from_get_or}
 use Rattle.std.proofs.lemmas.List.Sums.{sum_by-take-le}
 use Rattle.mg_dev.specs.Files.{Files, bytes_at}
 use Rattle.mg_dev.specs.Names.{full_name}
 use Rattle.mg_dev.specs.declared.part.Part.TheVariants.{Places}
-use Rattle.mg_defs.specs.CodedText.{TextCode, coded_size, place_after, places, places_part, text_part}
+use Rattle.mg_defs.specs.CodedText.{TextCode, coded_size, places, places_part, text_part}
 use Rattle.mg_defs.specs.Heads as defs
 use Rattle.mg_defs.specs.Heads.{IsWithin}
-use Rattle.mg_defs.specs.Numbers.{four}
 use Rattle.mg_defs.specs.Split.{documents}
 use Rattle.mg_defs.proofs.CodedTextLaws.{places-at, places-long, text-long}
 use Rattle.mg_layout.specs.HeadAnswers.{fields_of}

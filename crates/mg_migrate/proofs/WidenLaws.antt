@@ -1,10 +1,10 @@
 -- Numbers in four bytes and in eight.
-use Rattle.std.proofs.Common.{arith, ◌≡◌, ◌≢◌, ◌≤◌, ◌<◌, ◌^◌, ◌+◌, ◌*◌, ◌∙◌, ◌++◌, min, ℕ, zero, suc, Bool, true, false, List, [], ◌∷◌, length, take, drop, get_or, append-nil, append_assoc, length-take, length-append, refl, sym, ap, subst, Err}
-use Rattle.std.specs.List.{All, flat_map}
+use Rattle.std.proofs.Common.{arith, ◌≡◌, ◌<◌, ◌^◌, ◌+◌, ◌*◌, ◌∙◌, ◌++◌, min, ℕ, zero, suc, Bool, true, false, List, [], ◌∷◌, length, take, drop, get_or, append-nil, append_assoc, length-take, length-append, refl, sym, ap, Err}
+use Rattle.std.specs.List.{flat_map}
 use Rattle.std.proofs.Math.Seq.{drop-append-add}
 use Rattle.std.proofs.lemmas.List.Elements.{All-get_or}
 use Rattle.mg_bits.specs.Pages.{IsFilled}
-use Rattle.mg_defs.specs.Numbers.{eight, four, four_at}
+use Rattle.mg_defs.specs.Numbers.{four, four_at}
 use Rattle.mg_defs.proofs.NumberLaws.{four_back}
 use Rattle.mg_dev.specs.Causes.{Rose}
 use Rattle.mg_dev.specs.Faults.{ReadStops, fault_of_part}

@@ -1,4 +1,5 @@
 pub mod Copying
+pub mod Writing
 pub mod Sizes
 pub mod Migrating
 pub mod MadeFrom

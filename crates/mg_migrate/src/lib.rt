@@ -4,6 +4,7 @@
 //! widened, and the head is written last. Nothing that the files hold is trusted.
 #![tactic(auto)]
 
+mod bases;
 mod copying;
 mod migrating;
 mod sizes;

@@ -2,7 +2,7 @@
 //!
 //! Every part but the head and the places is the same in both versions and is copied. The head of the new set is
 //! emptied first and appended last, so that what is left in between stands for no collection.
-ghost use Rattle.std.specs.Prelude.{◌≡◌, ◌≢◌, ◌≤◌, ◌+◌, ℕ, List, IfErr, IfOk, OnOk, IsSome, length};
+ghost use Rattle.std.specs.Prelude.{◌≡◌, ◌≤◌, ℕ, List, IfErr, IfOk, OnOk, IsSome, length};
 ghost use Rattle.mg_dev.specs.Causes.{Rose};
 ghost use Rattle.mg_dev.specs.Faults.{ReadStops};
 ghost use Rattle.mg_dev.specs.Files.{file_at};
@@ -14,23 +14,21 @@ ghost use Rattle.mg_defs.specs.Heads.{IsWithin};
 ghost use Rattle.mg_defs.specs.Split.{documents};
 ghost use Rattle.mg_layout.specs.HeadAnswers.{fields_of};
 ghost use Rattle.mg_layout.specs.Stands.{ForSetBy, IsSetBy, Stands};
-ghost use Rattle.mg_make.specs.Putting.{IsUnbuilt, OthersSame};
+ghost use Rattle.mg_make.specs.Putting.{IsUnbuilt};
 ghost use Rattle.mg_make.specs.Outcomes.{BetweenMoments};
-ghost use Rattle.mg_migrate.specs.Copying.{ChangedAlone};
 ghost use Rattle.mg_migrate.specs.MadeAnew.{MadeAnew};
 ghost use Rattle.mg_migrate.specs.MadeFrom.{MadeFrom};
 ghost use Rattle.mg_migrate.specs.Migrating.{AreCopied, AreEmptied, HasWidePlaces, IsCopied, IsMadeAnew, LacksHead, ReadyForHead};
+ghost use Rattle.mg_migrate.specs.Writing.{WritesFile, WritesSet};
 
-use crate::copying::copy_part;
+use crate::bases::Bases;
+use crate::copying::{Block, copy_part, empty_part};
 use crate::sizes::load_sized;
 use crate::widening::widen_places;
-use mg_dev::{Fault, FileRef, Part, Store, names_apart};
+use mg_dev::{Fault, Part, Store, names_apart};
 use mg_layout::{BUILT, Head, sets_stand};
 use mg_make::{empty_heads_stand_for_none, heads_make_sets};
 use std::alloc::Global;
-
-// Bytes that are copied at a time.
-const BLOCK: usize = 1 << 16;
 
 /// The parts that are the same in both versions.
 const COPIED: [Part; 9] = [
@@ -69,31 +67,29 @@ pub fn migrate<S: Store>(alloc: Global, store: &mut S, name: &str, new: &str) ->
         Ok(head) => head,
         Err(fault) => return Err(fault),
     };
-    match make_set(alloc, store, name, new, &head) {
+    let bases = Bases { name, new };
+    match make_set(alloc, store, &bases, &head) {
         Ok(()) => Ok(head.documents),
         Err(fault) => Err(fault),
     }
 }
 
 // Copies the parts that are the same in both versions.
-fn copy_parts<S: Store>(store: &mut S, name: &str, new: &str, block: &mut [u8]) -> Result<(), Fault>
-    requires apart { new.now ≢ name.now }
-    requires room { 1 ≤ length block.old }
+fn copy_parts<S: Store>(store: &mut S, bases: &Bases<'_>, block: &mut Block) -> Result<(), Fault>
     ensures copied { IsSome (S.files store.old) →
-        OnOk result (AreCopied name.now new.now (S.files store.old) (S.files store.new)) }
-    ensures others { OthersSame new.now (S.files store.old) (S.files store.new) }
-    ensures kept { (p : AnyPart) → IsMadeAnew p → file_at (S.files store.new) (full_name new.now p)
-        ≡ file_at (S.files store.old) (full_name new.now p) }
-    ensures room { length block.new ≡ length block.old }
-    ensures refused { IfErr result (ReadStops (Rose (S.faults store.old) (S.faults store.new))
-        (IsSome (S.files store.old))) }
-    ensures later { S.faults store.old ≤ S.faults store.new }
+        OnOk result (AreCopied bases.now.name.now bases.now.new.now (S.files store.old)
+        (S.files store.new)) }
+    ensures kept { (p : AnyPart) → IsMadeAnew p →
+        file_at (S.files store.new) (full_name bases.now.new.now p)
+        ≡ file_at (S.files store.old) (full_name bases.now.new.now p) }
+    ensures writes { WritesSet bases.now.new.now (IsSome (S.files store.old)) result S.Store
+        store.old store.new }
 {
     // By this law no part of one base is a part of the other.
     names_apart();
     let mut index = 0;
     while index < COPIED.len() {
-        match copy_part(store, name, new, COPIED[index], block) {
+        match copy_part(store, bases, COPIED[index], block) {
             Ok(()) => {}
             Err(refusal) => return Err(refusal),
         }
@@ -106,31 +102,25 @@ fn copy_parts<S: Store>(store: &mut S, name: &str, new: &str, block: &mut [u8]) 
 fn copy_places<S: Store>(
     alloc: Global,
     store: &mut S,
-    name: &str,
-    new: &str,
+    bases: &Bases<'_>,
     head: &Head,
-    block: &mut [u8],
+    block: &mut Block,
 ) -> Result<(), Fault>
-    requires apart { new.now ≢ name.now }
-    requires within { IsWithin (fields_of head.now) }
-    requires room { 1 ≤ length block.old }
-    ensures places { ForSetBy head.now (S.files store.old) name.now
+    requires { IsWithin (fields_of head.now) }
+    ensures places { ForSetBy head.now (S.files store.old) bases.now.name.now
         (λ code collection. OnOk result
-        (HasWidePlaces (S.files store.new) new.now code collection)) }
+        (HasWidePlaces (S.files store.new) bases.now.new.now code collection)) }
     ensures copied { IsSome (S.files store.old) → head.now.version ≡ 2 →
-        OnOk result (IsCopied name.now new.now (S.files store.old) (S.files store.new)
-        part.Places) }
-    ensures alone { ChangedAlone (full_name new.now part.Places) (S.files store.old)
-        (S.files store.new) }
-    ensures room { length block.new ≡ length block.old }
-    ensures refused { IfErr result (ReadStops (Rose (S.faults store.old) (S.faults store.new))
-        (IsSetBy head.now (S.files store.old) name.now)) }
-    ensures later { S.faults store.old ≤ S.faults store.new }
+        OnOk result (IsCopied bases.now.name.now bases.now.new.now (S.files store.old)
+        (S.files store.new) part.Places) }
+    ensures writes { WritesFile (full_name bases.now.new.now part.Places)
+        (IsSetBy head.now (S.files store.old) bases.now.name.now) result S.Store store.old
+        store.new }
 {
     if head.version == 1 {
-        return widen_places(alloc, store, name, new, head.documents + 1);
+        return widen_places(alloc, store, bases, head.documents + 1);
     }
-    copy_part(store, name, new, Part::Places, block)
+    copy_part(store, bases, Part::Places, block)
 }
 
 // Empties the head first, and the working parts.
@@ -139,98 +129,74 @@ fn empty_parts<S: Store>(store: &mut S, new: &str) -> Result<(), Fault>
     ensures emptied { IsSome (S.files store.old) →
         OnOk result (AreEmptied (S.files store.new) new.now) }
     ensures unbuilt { IsUnbuilt new.now (S.files store.old) (S.files store.new) }
-    ensures others { OthersSame new.now (S.files store.old) (S.files store.new) }
-    ensures refused { IfErr result (ReadStops (Rose (S.faults store.old) (S.faults store.new))
-        (Unit {0})) }
-    ensures later { S.faults store.old ≤ S.faults store.new }
+    ensures writes { WritesSet new.now (Unit {0}) result S.Store store.old store.new }
 {
-    let head = FileRef {
-        base: new,
-        part: Part::Head,
-    };
-    let merge_a = FileRef {
-        base: new,
-        part: Part::MergeA,
-    };
-    let merge_b = FileRef {
-        base: new,
-        part: Part::MergeB,
-    };
-    match store.reset(&head) {
+    match empty_part(store, new, Part::Head) {
         Ok(()) => {}
-        Err(refusal) => return Err(Fault::of_store(refusal)),
+        Err(refusal) => return Err(refusal),
     }
-    match store.reset(&merge_a) {
+    match empty_part(store, new, Part::MergeA) {
         Ok(()) => {}
-        Err(refusal) => return Err(Fault::of_store(refusal)),
+        Err(refusal) => return Err(refusal),
     }
-    match store.reset(&merge_b) {
-        Ok(()) => Ok(()),
-        Err(refusal) => Err(Fault::of_store(refusal)),
-    }
+    empty_part(store, new, Part::MergeB)
 }
 
 // Makes every part but the head, which is emptied first.
 fn make_parts<S: Store>(
     alloc: Global,
     store: &mut S,
-    name: &str,
-    new: &str,
+    bases: &Bases<'_>,
     head: &Head,
-    block: &mut [u8],
+    block: &mut Block,
 ) -> Result<(), Fault>
-    requires apart { new.now ≢ name.now }
-    requires within { IsWithin (fields_of head.now) }
-    requires room { 1 ≤ length block.old }
-    ensures ready { ForSetBy head.now (S.files store.old) name.now
-        (ReadyForHead new.now head.now.cap (S.files store.new) result) }
+    requires { IsWithin (fields_of head.now) }
+    ensures ready { ForSetBy head.now (S.files store.old) bases.now.name.now
+        (ReadyForHead bases.now.new.now head.now.cap (S.files store.new) result) }
     ensures lacks { IsSome (S.files store.old) →
-        OnOk result (LacksHead (fields_of head.now) name.now new.now (S.files store.old)
-        (S.files store.new)) }
-    ensures unbuilt { IsUnbuilt new.now (S.files store.old) (S.files store.new) }
-    ensures others { OthersSame new.now (S.files store.old) (S.files store.new) }
-    ensures refused { IfErr result (ReadStops (Rose (S.faults store.old) (S.faults store.new))
-        (IsSetBy head.now (S.files store.old) name.now)) }
-    ensures later { S.faults store.old ≤ S.faults store.new }
+        OnOk result (LacksHead (fields_of head.now) bases.now.name.now bases.now.new.now
+        (S.files store.old) (S.files store.new)) }
+    ensures unbuilt { IsUnbuilt bases.now.new.now (S.files store.old) (S.files store.new) }
+    ensures writes { WritesSet bases.now.new.now
+        (IsSetBy head.now (S.files store.old) bases.now.name.now) result S.Store store.old
+        store.new }
 {
     // By these laws the set under the other base stays as it is.
     names_apart();
     sets_stand();
-    match empty_parts(store, new) {
+    match empty_parts(store, bases.new) {
         Ok(()) => {}
         Err(refusal) => return Err(refusal),
     }
-    match copy_places(alloc, store, name, new, head, block) {
+    match copy_places(alloc, store, bases, head, block) {
         Ok(()) => {}
         Err(refusal) => return Err(refusal),
     }
-    copy_parts(store, name, new, block)
+    copy_parts(store, bases, block)
 }
 
 // Makes a set under a base from one with this head.
 fn make_set<S: Store>(
     alloc: Global,
     store: &mut S,
-    name: &str,
-    new: &str,
+    bases: &Bases<'_>,
     head: &Head,
 ) -> Result<(), Fault>
-    requires apart { new.now ≢ name.now }
-    requires within { IsWithin (fields_of head.now) }
-    ensures made { MadeFrom head.now name.now new.now (S.files store.old) (S.files store.new)
-        (status_of result) }
+    requires { IsWithin (fields_of head.now) }
+    ensures made { MadeFrom head.now bases.now.name.now bases.now.new.now (S.files store.old)
+        (S.files store.new) (status_of result) }
     ensures refused { IfErr result (ReadStops (Rose (S.faults store.old) (S.faults store.new))
-        (IsSetBy head.now (S.files store.old) name.now)) }
+        (IsSetBy head.now (S.files store.old) bases.now.name.now)) }
     ensures later { S.faults store.old ≤ S.faults store.new }
 {
     // By these laws a set stands with its whole head, and with an empty one for no collection.
     empty_heads_stand_for_none();
     heads_make_sets();
-    let mut block = match vec![in alloc; 0; BLOCK] {
+    let mut block = match Block::new(alloc) {
         Ok(block) => block,
         Err(_) => return Err(Fault::Memory),
     };
-    match make_parts(alloc, store, name, new, head, &mut block) {
+    match make_parts(alloc, store, bases, head, &mut block) {
         Ok(()) => {}
         Err(refusal) => return Err(refusal),
     }
@@ -238,7 +204,7 @@ fn make_set<S: Store>(
         version: BUILT,
         ..*head
     };
-    match wide.write(store, new) {
+    match wide.write(store, bases.new) {
         Ok(()) => Ok(()),
         Err(refusal) => Err(Fault::of_store(refusal)),
     }

@@ -1,12 +1,12 @@
 //! Numbers of four bytes as numbers of eight.
-ghost use Rattle.std.specs.Prelude.{◌≡◌, ◌≢◌, ◌≤◌, ◌<◌, ◌*◌, IfErr, OnOk};
-ghost use Rattle.mg_dev.specs.Faults.{ReadStops};
+ghost use Rattle.std.specs.Prelude.{◌≡◌, ◌≢◌, OnOk};
 ghost use Rattle.mg_dev.specs.Names.{full_name};
 ghost use Rattle.mg_dev.specs.declared.part.Part.TheVariants.{Places};
 ghost use Rattle.mg_bits.specs.Pages.{Fits, SameFile};
-ghost use Rattle.mg_make.specs.Outcomes.{Fails};
-ghost use Rattle.mg_migrate.specs.Copying.{AreSomeNarrow, AreWide, ChangedAlone, ForNumberAt, ForNarrow, HasSomeFour, PutsEight};
+ghost use Rattle.mg_migrate.specs.Copying.{AreSomeNarrow, AreWide, ForNumberAt, ForNarrow, HasSomeFour, PutsEight};
+ghost use Rattle.mg_migrate.specs.Writing.{WritesFile};
 
+use crate::bases::Bases;
 use mg_bits::{PageFeed, PageWriter};
 use mg_dev::{Bad, Fault, FileRef, Part, Store};
 use mg_fields::{eight_bytes, four_at};
@@ -27,10 +27,9 @@ fn widen_one<S: Store>(
     ensures fits { Fits places.new (S.files store.new) }
     ensures file { SameFile places.old places.new }
     ensures name { wide.new.name ≡ wide.old.name }
-    ensures alone { ChangedAlone wide.old.name (S.files store.old) (S.files store.new) }
-    ensures refused { IfErr result (ReadStops (Fails S.faults store.old store.new)
-        (HasSomeFour (S.files store.old) places.old.name index)) }
-    ensures later { S.faults store.old ≤ S.faults store.new }
+    ensures writes { WritesFile wide.old.name
+        (HasSomeFour (S.files store.old) places.old.name index) result S.Store store.old
+        store.new }
 {
     let mut bytes = [0u8; 4];
     let place = 4 * u64::from(index);
@@ -58,25 +57,21 @@ fn widen_one<S: Store>(
 pub(crate) fn widen_places<S: Store>(
     alloc: Global,
     store: &mut S,
-    name: &str,
-    new: &str,
+    bases: &Bases<'_>,
     count: u32,
 ) -> Result<(), Fault>
-    requires apart { new.now ≢ name.now }
-    ensures widened { ForNarrow (S.files store.old) name.now count
-        (λ numbers. OnOk result (AreWide (S.files store.new) new.now numbers)) }
-    ensures alone { ChangedAlone (full_name new.now Places) (S.files store.old)
-        (S.files store.new) }
-    ensures refused { IfErr result (ReadStops (Fails S.faults store.old store.new)
-        (AreSomeNarrow (S.files store.old) name.now count)) }
-    ensures later { S.faults store.old ≤ S.faults store.new }
+    ensures widened { ForNarrow (S.files store.old) bases.now.name.now count
+        (λ numbers. OnOk result (AreWide (S.files store.new) bases.now.new.now numbers)) }
+    ensures writes { WritesFile (full_name bases.now.new.now Places)
+        (AreSomeNarrow (S.files store.old) bases.now.name.now count) result S.Store store.old
+        store.new }
 {
     let from = FileRef {
-        base: name,
+        base: bases.name,
         part: Part::Places,
     };
     let to = FileRef {
-        base: new,
+        base: bases.new,
         part: Part::Places,
     };
     match expect_size(store, from, 4 * u64::from(count)) {
