@@ -1,8 +1,9 @@
 -- Entries as 8 bytes each.
-use Rattle.std.specs.Prelude.{◌≡◌, ◌≤◌, ◌<◌, ◌+◌, ◌*◌, ◌^◌, ◌++◌, ℕ, List, [], ◌∷◌, length, map, slice_index}
+use Rattle.std.specs.Prelude.{◌≡◌, ◌≤◌, ◌+◌, ◌*◌, ◌++◌, ℕ, List, [], ◌∷◌, length, map, slice_index}
 use Rattle.std.specs.Int.{w32, to_be_bytes, from_be_bytes}
 use Rattle.std.specs.List.{AllByRecursion}
 use Rattle.std.specs.Simd.{first_chunks}
+use Rattle.mg_defs.specs.Limits.{greatest_cap}
 use Rattle.mg_defs.specs.declared.TermPosting.{TermPosting}
 
 -- the number of four bytes from this place on
@@ -26,9 +27,9 @@ entries_in count bytes = map entry_in (first_chunks 8 count bytes)
 abbrev pub AreEntries : List TermPosting → Type 0
 AreEntries xs = AllByRecursion (λ x. (x.count ≡ 1) × (1 ≤ x.doc)) xs
 
--- the bytes begin with so many entries, at least one and fewer than a pool has room for, and there are four more for each
+-- the bytes begin with so many entries, at least one and no more than the greatest pool has room for, and there are four more for each
 pub record AreTaken (count : ℕ) (bytes : List ℕ) : Type 0 where
   pub some : 1 ≤ count
-  pub few : count < 2 ^ 27
+  pub few : count ≤ greatest_cap
   pub room : 12 * count ≤ length bytes
   pub are : AreEntries (entries_in count bytes)

@@ -3,6 +3,7 @@ use Rattle.std.specs.Prelude.{◌≡◌, ◌≤◌, ◌<◌, ◌+◌, ◌-◌, �
 use Rattle.std.specs.Option.{IsSome}
 use Rattle.std.specs.List.{AllByRecursion}
 use Rattle.std.specs.declared.option.Option.{Option}
+use Rattle.mg_defs.specs.Limits.{least_budget, greatest_budget}
 use Rattle.mg_dev.specs.Files.{Files, bytes_at}
 use Rattle.mg_dev.specs.Names.{full_name}
 use Rattle.mg_dev.specs.declared.part.Part.TheVariants.{Run}
@@ -43,8 +44,8 @@ AreOccurrences fed = AllByRecursion (λ (o : ℕ × ℕ). IsOccurrence o) fed
 
 -- These occurrences were taken: the finished runs are written, and the pool has the rest.
 pub record IsFed (runs : Inverting) (files : Option Files) (fed : List (ℕ × ℕ)) : Type 0 where
-  pub least : 4096 ≤ runs.pool.limit
-  pub most : runs.pool.limit ≤ 2 ^ 30
+  pub least : least_budget ≤ runs.pool.limit
+  pub most : runs.pool.limit ≤ greatest_budget
   pub slots : runs.pool.slots ≡ []
   pub entries : runs.pool.entries ≡ map once (drop (finished (cap_of runs.pool) (length fed) * cap_of runs.pool) fed)
   pub peak : runs.pool.peak ≡ 12 * min (length fed) (cap_of runs.pool)

@@ -1,6 +1,7 @@
 -- A group of like entries.
-use Rattle.std.specs.Prelude.{◌≡◌, ◌-◌, ◌^◌, ◌<◌, ◌≤◌, ℕ, List, [], ◌∷◌, map, length, drop, slice_index_or}
+use Rattle.std.specs.Prelude.{◌≡◌, ◌-◌, ◌<◌, ◌≤◌, ℕ, List, [], ◌∷◌, map, length, drop, slice_index_or}
 use Rattle.std.specs.List.{All}
+use Rattle.mg_defs.specs.Limits.{greatest_cap}
 use Rattle.mg_defs.specs.declared.TermPosting.{TermPosting}
 use Rattle.mg_defs.specs.Postings.{gathered, with_count}
 use Rattle.mg_runs.specs.PostingOrder.{NotFalling, added_times}
@@ -8,7 +9,7 @@ use Rattle.mg_runs.specs.Bytes.{entry_in, number_in}
 
 -- entries in order of term and document, of which each has a document
 pub record InOrder (entries : List (List ℕ)) : Type 0 where
-  pub few : length entries < 2 ^ 27
+  pub few : length entries ≤ greatest_cap
   pub order : NotFalling (map entry_in entries)
   pub docs : All (λ e. 1 ≤ number_in 4 e) entries
 

@@ -1,5 +1,6 @@
 -- What contracts see of a pool.
-use Rattle.std.specs.Prelude.{◌≤◌, ◌+◌, ◌*◌, ◌^◌, ◌≡◌, ℕ, List, [], length, slice_index_or}
+use Rattle.std.specs.Prelude.{◌≤◌, ◌+◌, ◌*◌, ◌≡◌, ℕ, List, [], length, slice_index_or}
+use Rattle.mg_defs.specs.Limits.{least_budget, greatest_budget}
 use Rattle.mg_defs.specs.declared.TermPosting.{TermPosting}
 
 -- the entries, the bytes of the slots in use, the greatest use so far, and the budget
@@ -17,8 +18,8 @@ used pool = 12 * length pool.entries + 64 * length pool.slots
 pub record IsWithin (entries slots peak limit : ℕ) : Type 0 where
   pub in_peak : 12 * entries + 64 * slots ≤ peak
   pub in_limit : peak ≤ limit
-  pub least : 4096 ≤ limit
-  pub most : limit ≤ 2 ^ 30
+  pub least : least_budget ≤ limit
+  pub most : limit ≤ greatest_budget
 
 -- all but what the slots hold is as before
 pub record SamePool (old new : Pooled) : Type 0 where

@@ -2,6 +2,7 @@
 use Rattle.std.specs.Prelude.{◌≡◌, ◌≢◌, ◌<◌, ◌≤◌, ◌+◌, ◌-◌, ◌*◌, ◌/◌, ◌%◌, ◌^◌, ℕ, List, [], length, max, slice_index_or, OnOk, IfOk, IfErr}
 use Rattle.std.specs.declared.option.Option.{Option}
 use Rattle.std.specs.declared.result.Result.{Result}
+use Rattle.mg_defs.specs.Limits.{greatest_budget}
 use Rattle.mg_dev.specs.Files.{Files, Reads, bytes_at}
 use Rattle.mg_dev.specs.Names.{full_name}
 use Rattle.mg_dev.specs.PartCauses.{HasPartCause, IsCaused}
@@ -30,7 +31,7 @@ use Rattle.mg_runs.specs.declared.round.Round.{Round}
 pub record HasSlots (pool : Pooled) (count : ℕ) : Type 0 where
   pub some : 1 ≤ count
   pub room : count ≤ pool.limit / 64
-  pub limit : pool.limit ≤ 2 ^ 30
+  pub limit : pool.limit ≤ greatest_budget
   pub entries : pool.entries ≡ []
 
 -- more runs begin at these places than this width, and the pool has so many slots

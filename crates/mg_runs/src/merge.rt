@@ -1,5 +1,6 @@
 //! The postings of all runs.
 ghost use Rattle.std.specs.Prelude.{◌≡◌, ◌≤◌, ◌<◌, ◌*◌, ◌/◌, ◌^◌, List, [], IfErr, IfOk, IfSome, OnOk, OnSome, IsSome, length, drop, max};
+ghost use Rattle.mg_defs.specs.Limits.{greatest_budget};
 ghost use Rattle.mg_dev.specs.PartCauses.{HasPartCause};
 ghost use Rattle.mg_defs.specs.declared.TermPosting.{TermPosting};
 ghost use Rattle.mg_runs.specs.Cursors.{NoDamage, NoMemory};
@@ -47,7 +48,7 @@ impl<'a> Merge<'a> {
         runs: u32,
     ) -> Result<Self, PartErr>
         requires room { length round.places.items ≤ round.pool.limit / 64 }
-        requires limit { round.pool.limit ≤ 2 ^ 30 }
+        requires limit { round.pool.limit ≤ greatest_budget }
         requires entries { round.pool.entries ≡ [] }
         requires part { IsRunPart round.file.part }
         ensures opened { Between S.files S.reads S.faults store.old store.new

@@ -1,5 +1,6 @@
 //! Memory of fixed size.
 ghost use Rattle.std.specs.Prelude.{◌≡◌, ◌≤◌, ◌<◌, ◌+◌, ◌*◌, ◌/◌, ◌^◌, ◌++◌, ◌↔◌, [], ◌∷◌, IfOk, IsTrue, length, max, slice_index_or};
+ghost use Rattle.mg_defs.specs.Limits.{least_budget, greatest_budget};
 ghost use Rattle.mg_runs.specs.Pooled.{SamePool, used, slot_bytes};
 ghost use Rattle.mg_runs.specs.Slots.{FillLook, FillsFrom, ChangesOneSlot};
 ghost use Rattle.mg_runs.specs.Steps.{PoolBack};
@@ -49,8 +50,8 @@ impl Model for Pool {
 impl Pool {
     /// A pool of so many bytes, from 4,096 to 2^30.
     pub fn new(alloc: Global, budget: u64) -> Result<Self, AllocError>
-        requires least { 4096 ≤ budget }
-        requires most { budget ≤ 2 ^ 30 }
+        requires least { least_budget ≤ budget }
+        requires most { budget ≤ greatest_budget }
         ensures { IfOk result (λ p. p
             ≡ record { entries = []; slots = []; peak = 0; limit = budget }) }
     {
@@ -104,8 +105,8 @@ impl Pool {
     /// The budget, in bytes.
     pub fn limit(&self) -> u64
         ensures value { result ≡ self.now.limit }
-        ensures least { 4096 ≤ result }
-        ensures most { result ≤ 2 ^ 30 }
+        ensures least { least_budget ≤ result }
+        ensures most { result ≤ greatest_budget }
     {
         self.bytes.len() as u64
     }

@@ -1,5 +1,6 @@
 //! The entries of a pool as a run.
 ghost use Rattle.std.specs.Prelude.{◌≡◌, ◌+◌, ◌*◌, ◌%◌, ◌≤◌, ◌<◌, ◌^◌, ℕ, OnOk, length, map, slice_index};
+ghost use Rattle.mg_defs.specs.Limits.{greatest_cap};
 ghost use Rattle.mg_defs.specs.Bits.{filled};
 ghost use Rattle.mg_defs.specs.Postings.{gathered};
 ghost use Rattle.mg_defs.specs.RunBits.{run_bits};
@@ -25,7 +26,7 @@ fn bytes_fit(bytes: &[u8])
 fn distinct(entries: &[[u8; 8]]) -> u32
     requires { InOrder entries.now }
     ensures value { result ≡ length (gathered (map entry_in entries.now)) }
-    ensures few { result < 2 ^ 27 }
+    ensures few { result ≤ greatest_cap }
 {
     let mut count = 0u32;
     let mut from = 0;
