@@ -27,7 +27,7 @@ use Rattle.mg_make.proofs.CallerLemmas.{others_none, rose_behind}
 use Rattle.mg_build.specs.Building.{BuildStops, HasItsSize, IsPlanAt, IsPlanFor, PassStops, TellsRead, TellsTwoReadings}
 use Rattle.mg_build.specs.Made.{AreMade, Made}
 use Rattle.mg_build.specs.Sources.{AreRead, OpenStops, ReadsPages, Sourcing}
-use Rattle.mg_build.specs.Steps.{BuildsSet, CountsSource, WritesSet}
+use Rattle.mg_build.specs.Steps.{BuildsSet, CountsSource, WritesSource}
 use Rattle.mg_build.proofs.BuildLaws.{cause_all, done_all, done_or_lacks, early_all, is_told, its_bytes, pass_documents, pass_only, pass_pieces, text_all, within_passes}
 use Rattle.mg_build.proofs.MadeLaws.{made_by}
 use Rattle.mg_build.proofs.ReadLaws.{whole_read}
@@ -187,14 +187,14 @@ module _ {P : Type 0} {made : P} (plan : Plan) (limit budget : ℕ) (base : List
   limits : (bytes : List ℕ) → file_at store.files source.feed.name ≡ Some bytes → IsWithinLimits 2 bytes
   limits bytes there = subst (λ b. IsWithinLimits 2 b) (same ∙ its_bytes store.files source.feed.name bytes there) (planned (is_told store.files source.feed.name bytes there)).counted.limits
 
-  pub built : WritesSet plan limit base read middle store_now r → BuildsSet source.feed.name base budget store store_now r
+  pub built : WritesSource plan limit base read middle store_now r → BuildsSet source.feed.name base budget store store_now r
   built wrote = record {
     made = made_by source.feed.name base budget store store_now r
         stands (λ told. text_all r (run_cap budget) store_now.files base (bytes_at store.files source.feed.name) (stands told))
-        (λ told. wrote.merge_a (planned told)) (λ told. wrote.merge_b (planned told))
-        (subst (λ f. OthersSame base f store_now.files) counts.looked.files wrote.others)
+        (λ told. wrote.written.merge_a (bytes_at store.files source.feed.name) (planned told, same)) (λ told. wrote.written.merge_b (bytes_at store.files source.feed.name) (planned told, same))
+        (subst (λ f. OthersSame base f store_now.files) counts.looked.files wrote.written.others)
         (λ told. subst (λ f. Left base f store_now.files (bytes_at store.files source.feed.name)) counts.looked.files
-        (subst (λ bytes. Left base middle.files store_now.files bytes) same (wrote.left (planned told))))
+        (wrote.written.left (bytes_at store.files source.feed.name) (planned told, same)))
         (early_all r (StoreRose middle store_now) (IsPlanAt plan middle.files read) (KeptFiles store store_now) wrote.refused)
         (λ differ. whole_read store.files source.feed.name source.size (store.reads Plain) (middle.reads Plain) (store_now.reads Plain) has (counts.whole unread) wrote.plain)
         (cause_all r (StoreRose middle store_now) (StoreRose store store_now) (IsPlanAt plan middle.files read) store.files source.feed.name base rises planned wrote.refused)
@@ -205,10 +205,10 @@ module _ {P : Type 0} {made : P} (plan : Plan) (limit budget : ℕ) (base : List
         (λ bytes stream word there a few first. absurd (within_passes bytes (piece stream word) (limits bytes there) first))
         (λ bytes there a within never. done_all r (StoreRose middle store_now) (StoreRose store store_now) (IsPlanAt plan middle.files read) rises never
         (planned (is_told store.files source.feed.name bytes there)) wrote.refused);
-    summary = λ told. subst (λ n. HasSummaryOf n r (bytes_at store.files source.feed.name)) pool (subst (λ bytes. HasSummaryOf limit r bytes) same (wrote.summary (planned told)));
+    summary = λ told. subst (λ n. HasSummaryOf n r (bytes_at store.files source.feed.name)) pool (wrote.written.summary (bytes_at store.files source.feed.name) (planned told, same));
     tells = IfErr-weaker r (TellsRead plan middle.files read.feed.name read.size) (TellsTwoReadings store.files source.feed.name)
         (λ fault tells. tells_both plan store.files source.feed.name source.size first.0 fault first.1 first.2 (of_source fault tells)) wrote.tells;
-    later = omega (arith, counts.looked.faults, wrote.later);
+    later = omega (arith, counts.looked.faults, wrote.written.later);
   }
     where
       of_source : (fault : Fault) → TellsRead plan middle.files read.feed.name read.size fault → TellsRead plan store.files source.feed.name source.size fault
@@ -218,7 +218,7 @@ module _ {P : Type 0} {made : P} (plan : Plan) (limit budget : ℕ) (base : List
 
       stands : IsSome store.files → MakesSet budget store_now.files base r (bytes_at store.files source.feed.name)
       stands told = subst (λ n. MakesSet n store_now.files base r (bytes_at store.files source.feed.name)) pool
-          (subst (λ bytes. MakesSet limit store_now.files base r bytes) same (wrote.stands (planned told)))
+          (wrote.written.stands (bytes_at store.files source.feed.name) (planned told, same))
 
       rises : StoreRose middle store_now → StoreRose store store_now
       rises rose = rose_behind store.faults middle.faults store_now.faults counts.looked.faults rose

@@ -306,10 +306,6 @@ plan_later plan before now name size told same is = record {
     bytes : bytes_at now name ≡ bytes_at before name
     bytes = same_bytes before now name name refl same
 
--- a plan of the file's bytes is one of the bytes that were read
-pub plan_of_read : (plan : Plan) (files : Option Files) (name : List ℕ) (size : ℕ) (fed : List ℕ) → AreRead files name size fed → IsPlanFor plan files name size → IsPlanOf plan fed
-plan_of_read plan files name size fed are is = subst (λ bytes. IsPlanOf plan bytes) (sym (read_all files name size fed are is.told is.whole)) is.counted
-
 -- a cause still is one where failures still rose and less is the same
 pub write_wider : (rose now same less : Type 0) (fault : Fault) → (rose → now) → (less → same) → WriteStops rose same fault → WriteStops now less fault
 write_wider rose now same less cause.StoreFault grows back stop = grows stop

@@ -1,8 +1,9 @@
 -- What the second pass made, from what its writer tells.
-use Rattle.std.proofs.Common.{arith, ◌≡◌, ◌≤◌, ℕ, List, Option, Err, IsSome, refl, sym, subst, inl, inr}
+use Rattle.std.proofs.Common.{arith, ◌≡◌, ◌≤◌, ◌∙◌, ℕ, List, Option, Err, IsSome, refl, sym, subst, inl}
 use Rattle.std.specs.Prelude.{IfErr, OnOk, Result}
 use Rattle.std.proofs.lemmas.Result.{IfErr-weaker}
 use Rattle.mg_dev.specs.Causes.{HasPutCause, Rose}
+use Rattle.mg_dev.specs.Each.{ForEach}
 use Rattle.mg_dev.specs.Faults.{fault_of_store}
 use Rattle.mg_dev.specs.Files.{Files, bytes_at}
 use Rattle.mg_dev.specs.Moments.{StoreAt, StoreRose}
@@ -16,30 +17,21 @@ use Rattle.mg_make.specs.Outcomes.{HasSummaryOf, Left, MakesSet}
 use Rattle.mg_make.specs.Plans.{IsPlanOf, Plan}
 use Rattle.mg_make.specs.Putting.{ForPut, HasPut, IsApart, IsEmptied, OthersSame, PlanStops, Putting, StandsForNoOther}
 use Rattle.mg_make.specs.declared.summary.Summary.{Summary}
-use Rattle.mg_build.specs.Building.{IfPlanned, IsPlanAt, IsPlanFor, TellsRead, WriteStops}
+use Rattle.mg_build.specs.Building.{IsPlanAt, IsPlanFor, IsPlanned, TellsRead, WriteStops}
 use Rattle.mg_build.specs.Sources.{AreRead, Sourcing}
-use Rattle.mg_build.specs.Steps.{WritesOn, WritesSet}
-use Rattle.mg_build.proofs.PassLaws.{others_more, plan_later, plan_of_read, read_all, rose_behind, same_bytes, still_told, tells_end_put, tells_still, write_end_all, write_wider}
+use Rattle.mg_build.specs.Steps.{WritesOn, WritesSource}
+use Rattle.mg_make.proofs.CallerLemmas.{HasAll, set_before, set_ended, set_not_written}
+use Rattle.mg_build.proofs.PassLaws.{plan_later, read_all, rose_behind, same_bytes, still_told, tells_end_put, tells_still, write_end_all, write_wider}
 
 -- ---- nothing was made
 
 pub not_written : {plan : Plan} {limit : ℕ} {base : List ℕ} {source : Sourcing} {store store_now : StoreAt} {fault : Fault} →
-    (IsPlanAt plan store.files source → Left base store.files store_now.files (bytes_at store.files source.feed.name)) →
+    ForEach (IsPlanned plan store.files source) (Left base store.files store_now.files) →
     OthersSame base store.files store_now.files → store.reads part.Plain ≤ store_now.reads part.Plain → store.faults ≤ store_now.faults →
     WriteStops (StoreRose store store_now) (IsPlanAt plan store.files source) fault → TellsRead plan store.files source.feed.name source.size fault →
-    WritesSet plan limit base source store store_now (Err fault)
-not_written left others plain later refused tells = record {
-  stands = λ is. tt;
-  summary = λ is. tt;
-  merge_a = λ is. tt;
-  merge_b = λ is. tt;
-  left = left;
-  others = others;
-  plain = plain;
-  later = later;
-  refused = refused;
-  tells = tells;
-}
+    WritesSource plan limit base source store store_now (Err fault)
+not_written left others plain later refused tells =
+    record { written = set_not_written left others later; plain = plain; refused = refused; tells = tells }
 
 -- a writer that was not started
 pub start_stops : {T : Type 0} (s t : ℕ) (same : Type 0) (refusal : PutErr) (told : Fault) → told ≡ fault_of_store refusal → HasPutCause {T = T} s t (Err refusal) → WriteStops (Rose s t) same told
@@ -56,12 +48,17 @@ start_tells plan files name size put.Memory told is = rw is (inl tt)
 -- all bytes were put
 module _ (w now : Putting) (source : Sourcing) (store middle store_now : StoreAt) (r : Result Summary Fault) (fed : List ℕ)
     (goes : WritesOn w now store middle) (are : AreRead store.files source.feed.name source.size fed) (has : HasPut now middle.files fed) where
-  -- what is so of the bytes that were put is so of those of the collection
-  for_planned : (P : List ℕ → Type 0) → ForPut now middle.files P → IfPlanned w.plan store.files source P
-  for_planned P holds = λ is.
-      let planned : IsPlanOf now.plan fed
-      = subst (λ p. IsPlanOf p fed) (sym goes.plan) (plan_of_read w.plan store.files source.feed.name source.size fed are is) in
-      subst P (read_all store.files source.feed.name source.size fed are is.told is.whole) (holds fed (still_told store.files middle.files goes.others.told is.told) has planned)
+  -- they are those of the collection, where it is planned
+  all_put : HasAll (IsPlanned w.plan store.files source) w now store middle
+  all_put = record {
+    base = goes.base;
+    limit = goes.limit;
+    told = λ bytes is. still_told store.files middle.files goes.others.told is.0.told;
+    put = λ bytes is. subst (HasPut now middle.files) (read_all store.files source.feed.name source.size fed are is.0.told is.0.whole ∙ is.1) has;
+    plan = λ bytes is. subst (λ p. IsPlanOf p bytes) (sym goes.plan) (subst (IsPlanOf w.plan) is.1 is.0.counted);
+    others = goes.others;
+    later = goes.later;
+  }
 
   -- and then the writer was ended
   pub was_ended : ForPut now middle.files (MakesSet now.limit store_now.files now.base r) → ForPut now middle.files (HasSummaryOf now.limit r) →
@@ -69,27 +66,17 @@ module _ (w now : Putting) (source : Sourcing) (store middle store_now : StoreAt
       ForPut now middle.files (StandsForNoOther store_now.files now.base) → OthersSame now.base middle.files store_now.files →
       middle.reads part.Plain ≤ store_now.reads part.Plain → middle.faults ≤ store_now.faults →
       IfErr r (λ fault. (bytes : List ℕ) → HasPut now middle.files bytes → PlanStops (StoreRose middle store_now) now.plan middle.files fault bytes) →
-      IfErr r (λ fault. (bytes : List ℕ) → HasPut now middle.files bytes → TellsAtEnd now.plan bytes fault) → WritesSet w.plan w.limit w.base source store store_now r
-  was_ended stands summary merge_a merge_b left others plain later refused tells =
-      subst (λ b. WritesSet w.plan w.limit b source store store_now r) goes.base (subst (λ n. WritesSet w.plan n now.base source store store_now r) goes.limit wrote)
-    where
-      wrote : WritesSet w.plan now.limit now.base source store store_now r
-      wrote = record {
-        stands = for_planned (λ bytes. MakesSet now.limit store_now.files now.base r bytes) stands;
-        summary = for_planned (λ bytes. HasSummaryOf now.limit r bytes) summary;
-        merge_a = for_planned (λ bytes. OnOk r (IsEmptied store_now.files now.base part.MergeA)) merge_a;
-        merge_b = for_planned (λ bytes. OnOk r (IsEmptied store_now.files now.base part.MergeB)) merge_b;
-        left = λ is. inr (for_planned (λ bytes. StandsForNoOther store_now.files now.base bytes) left is);
-        others = others_more now.base store.files middle.files store_now.files (subst (λ b. OthersSame b store.files middle.files) (sym goes.base) goes.others) others;
-        plain = omega (arith, goes.plain, plain);
-        later = omega (arith, goes.later, later);
-        refused = subst (λ p. IfErr r (WriteStops (StoreRose store store_now) (IsPlanFor p store.files source.feed.name source.size))) goes.plan
-            (write_end_all r (λ bytes. HasPut now middle.files bytes) (StoreRose middle store_now) (StoreRose store store_now) now.plan store.files middle.files
-            source.feed.name fed source.size (λ rose. rose_behind store.faults middle.faults store_now.faults goes.later rose)
-            (λ told. still_told store.files middle.files goes.others.told told) are has refused);
-        tells = subst (λ p. IfErr r (TellsRead p store.files source.feed.name source.size)) goes.plan
-            (tells_end_put r (λ bytes. HasPut now middle.files bytes) now.plan store.files source.feed.name fed source.size are has tells);
-      }
+      IfErr r (λ fault. (bytes : List ℕ) → HasPut now middle.files bytes → TellsAtEnd now.plan bytes fault) → WritesSource w.plan w.limit w.base source store store_now r
+  was_ended stands summary merge_a merge_b left others plain later refused tells = record {
+    written = set_ended all_put stands summary merge_a merge_b left others later;
+    plain = omega (arith, goes.plain, plain);
+    refused = subst (λ p. IfErr r (WriteStops (StoreRose store store_now) (IsPlanFor p store.files source.feed.name source.size))) goes.plan
+        (write_end_all r (λ bytes. HasPut now middle.files bytes) (StoreRose middle store_now) (StoreRose store store_now) now.plan store.files middle.files
+        source.feed.name fed source.size (λ rose. rose_behind store.faults middle.faults store_now.faults goes.later rose)
+        (λ told. still_told store.files middle.files goes.others.told told) are has refused);
+    tells = subst (λ p. IfErr r (TellsRead p store.files source.feed.name source.size)) goes.plan
+        (tells_end_put r (λ bytes. HasPut now middle.files bytes) now.plan store.files source.feed.name fed source.size are has tells);
+  }
 
 -- ---- from before it on
 
@@ -103,19 +90,10 @@ module _ (plan : Plan) (limit : ℕ) (base : List ℕ) (source : Sourcing) (stor
   same : bytes_at middle.files source.feed.name ≡ bytes_at store.files source.feed.name
   same = same_bytes store.files middle.files source.feed.name source.feed.name refl (others.others source.feed.name apart)
 
-  pub written_before : WritesSet plan limit base source middle store_now r → WritesSet plan limit base source store store_now r
+  pub written_before : WritesSource plan limit base source middle store_now r → WritesSource plan limit base source store store_now r
   written_before wrote = record {
-    stands = λ is. subst (λ bytes. MakesSet limit store_now.files base r bytes) same (wrote.stands (planned_still is));
-    summary = λ is. subst (λ bytes. HasSummaryOf limit r bytes) same (wrote.summary (planned_still is));
-    merge_a = λ is. wrote.merge_a (planned_still is);
-    merge_b = λ is. wrote.merge_b (planned_still is);
-    left = λ is. elim (wrote.left (planned_still is)) [
-      | inl kept ↦ inr (inl (subst (λ f. StandsForNone f base) (sym kept) (none (still_told store.files middle.files others.told is.told))))
-      | inr made ↦ inr (subst (λ bytes. StandsForNoOther store_now.files base bytes) same made)
-    ];
-    others = others_more base store.files middle.files store_now.files others wrote.others;
+    written = set_before others later none (λ bytes is. (still_told store.files middle.files others.told is.0.told, (planned_still is.0, same ∙ is.1))) wrote.written;
     plain = omega (arith, plain, wrote.plain);
-    later = omega (arith, later, wrote.later);
     refused = IfErr-weaker r (WriteStops (StoreRose middle store_now) (IsPlanAt plan middle.files source)) (WriteStops (StoreRose store store_now) (IsPlanAt plan store.files source))
         (λ fault stop. write_wider (StoreRose middle store_now) (StoreRose store store_now) (IsPlanAt plan middle.files source) (IsPlanAt plan store.files source) fault
         (λ rose. rose_behind store.faults middle.faults store_now.faults later rose) planned_still stop) wrote.refused;
@@ -125,7 +103,7 @@ module _ (plan : Plan) (limit : ℕ) (base : List ℕ) (source : Sourcing) (stor
 
 -- by the plan, the pool and the base of a writer
 pub by_writer : (w : Putting) {plan : Plan} {limit : ℕ} {base : List ℕ} {source : Sourcing} {store store_now : StoreAt} {r : Result Summary Fault} →
-    w.plan ≡ plan → w.limit ≡ limit → w.base ≡ base → WritesSet w.plan w.limit w.base source store store_now r → WritesSet plan limit base source store store_now r
+    w.plan ≡ plan → w.limit ≡ limit → w.base ≡ base → WritesSource w.plan w.limit w.base source store store_now r → WritesSource plan limit base source store store_now r
 by_writer w {plan} {limit} {base} {source} {store} {store_now} {r} plan_is limit_is base_is wrote =
-    subst (λ p. WritesSet p limit base source store store_now r) plan_is
-    (subst (λ n. WritesSet w.plan n base source store store_now r) limit_is (subst (λ b. WritesSet w.plan w.limit b source store store_now r) base_is wrote))
+    subst (λ p. WritesSource p limit base source store store_now r) plan_is
+    (subst (λ n. WritesSource w.plan n base source store store_now r) limit_is (subst (λ b. WritesSource w.plan w.limit b source store store_now r) base_is wrote))

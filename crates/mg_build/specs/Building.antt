@@ -111,9 +111,9 @@ ForFileAndPiece files name base holds = (bytes : List ℕ) (stream : Stream) (wo
 abbrev pub IsPlanAt : Plan → Option Files → Sourcing → Type 0
 IsPlanAt plan files source = IsPlanFor plan files source.feed.name source.size
 
--- if the plan is that of the bytes of a source, this is so of them
-abbrev pub IfPlanned : Plan → Option Files → Sourcing → (List ℕ → Type 0) → Type 0
-IfPlanned plan files source holds = IsPlanAt plan files source → holds (bytes_at files source.feed.name)
+-- these are the bytes of a source, and it is their plan
+abbrev pub IsPlanned : Plan → Option Files → Sourcing → List ℕ → Type 0
+IsPlanned plan files source bytes = IsPlanAt plan files source × (bytes_at files source.feed.name ≡ bytes)
 
 -- the file of a source has as many bytes as when it was opened
 abbrev pub HasItsSize : Option Files → Sourcing → Type 0

@@ -9,11 +9,12 @@ use Rattle.mg_dev.specs.Names.{full_name}
 use Rattle.mg_dev.specs.Runs.{status_of}
 use Rattle.mg_dev.specs.declared.fault.Fault.{Fault}
 use Rattle.mg_dev.specs.declared.part.Part.TheVariants as part
-use Rattle.mg_make.specs.Outcomes.{HasSummaryOf, Left, MakesSet}
+use Rattle.mg_make.specs.Outcomes.{HasSummaryOf}
 use Rattle.mg_make.specs.Plans.{Plan}
-use Rattle.mg_make.specs.Putting.{IsEmptied, OthersSame, Putting}
+use Rattle.mg_make.specs.Putting.{OthersSame, Putting}
+use Rattle.mg_make.specs.Sets.{WritesSet}
 use Rattle.mg_make.specs.declared.summary.Summary.{Summary}
-use Rattle.mg_build.specs.Building.{IfPlanned, IsPlanAt, PassStops, TellsRead, TellsTwoReadings, WriteStops}
+use Rattle.mg_build.specs.Building.{IsPlanAt, IsPlanned, PassStops, TellsRead, TellsTwoReadings, WriteStops}
 use Rattle.mg_build.specs.Made.{Made}
 use Rattle.mg_build.specs.Sources.{ByteStops, ReadsPages, Sourcing, TellsSize, TurnsTo}
 
@@ -70,22 +71,12 @@ pub record WritesOn (writer writer_now : Putting) (store store_now : StoreAt) : 
   pub later : store.faults ≤ store_now.faults
 
 -- The second pass writes the set of a collection, by a plan and with a pool of so many bytes.
-pub record WritesSet (plan : Plan) (limit : ℕ) (base : List ℕ) (source : Sourcing) (store store_now : StoreAt)
+pub record WritesSource (plan : Plan) (limit : ℕ) (base : List ℕ) (source : Sourcing) (store store_now : StoreAt)
     (result : Result Summary Fault) : Type 0 where
-  -- at `Ok` the set stands for the bytes whose plan it is, with their summary, and its working
-  -- parts are empty
-  pub stands : IfPlanned plan store.files source (MakesSet limit store_now.files base result)
-  pub summary : IfPlanned plan store.files source (HasSummaryOf limit result)
-  pub merge_a : IfPlanned plan store.files source
-      (λ bytes. OnOk result (IsEmptied store_now.files base part.MergeA))
-  pub merge_b : IfPlanned plan store.files source
-      (λ bytes. OnOk result (IsEmptied store_now.files base part.MergeB))
-  -- whatever the answer: what the files stand for, and that files which are no part of the set stay
-  pub left : IfPlanned plan store.files source (Left base store.files store_now.files)
-  pub others : OthersSame base store.files store_now.files
-  -- the counts of reads and of failures never fall
+  -- it is the set of the bytes whose plan it is
+  pub written : WritesSet (IsPlanned plan store.files source) limit base store store_now result
+  -- the count of reads never falls
   pub plain : store.reads part.Plain ≤ store_now.reads part.Plain
-  pub later : store.faults ≤ store_now.faults
   -- the cause of each refusal
   pub refused : IfErr result
       (WriteStops (StoreRose store store_now) (IsPlanAt plan store.files source))

@@ -9,7 +9,7 @@ ghost use Rattle.mg_make.specs.Plans.{IsPlan, IsRoomFor};
 ghost use Rattle.mg_make.specs.Putting.{IsApart};
 ghost use Rattle.mg_build.specs.Building.{TellsTwoReadings};
 ghost use Rattle.mg_build.specs.Made.{Made};
-ghost use Rattle.mg_build.specs.Steps.{BuildsSet, WritesSet};
+ghost use Rattle.mg_build.specs.Steps.{BuildsSet, WritesSource};
 
 use crate::names::part_named;
 use crate::passes::{count_all, write_set};
@@ -88,7 +88,7 @@ fn write_planned<S: Store>(
     requires fits { Fits source.old.feed (S.files store.old) }
     requires apart { IsApart base.now source.old.feed.name }
     ensures writes { BetweenMoments S.files S.reads S.faults store.old store.new
-        (λ before now. WritesSet plan room.pool.limit base.now source.old before now result) }
+        (λ before now. WritesSource plan room.pool.limit base.now source.old before now result) }
 {
     let answer = write_set(alloc, store, source, base, &plan, room);
     drop(plan);

@@ -8,7 +8,7 @@ ghost use Rattle.mg_make.specs.Plans.{IsPlan, IsPlanOf, IsRoomFor};
 ghost use Rattle.mg_make.specs.Putting.{HasPut, IsApart};
 ghost use Rattle.mg_build.specs.Building.{HasItsSize, IsPlanAt, TellsRead, WriteStops};
 ghost use Rattle.mg_build.specs.Sources.{AreRead};
-ghost use Rattle.mg_build.specs.Steps.{CountsSource, WritesOn, WritesSet};
+ghost use Rattle.mg_build.specs.Steps.{CountsSource, WritesOn, WritesSource};
 
 use crate::source::Source;
 use mg_dev::{Fault, Store};
@@ -123,7 +123,7 @@ pub(crate) fn write_set<'a, S: Store>(
     requires fits { Fits source.old.feed (S.files store.old) }
     requires apart { IsApart base.now source.old.feed.name }
     ensures writes { BetweenMoments S.files S.reads S.faults store.old store.new
-        (λ before now. WritesSet plan.entry.now room.pool.limit base.entry.now source.old
+        (λ before now. WritesSource plan.entry.now room.pool.limit base.entry.now source.old
         before now result) }
 {
     empty_heads_stand_for_none();
@@ -144,7 +144,7 @@ fn write_started<S: Store>(
     requires apart { IsApart writer.base source.old.feed.name }
     requires nothing { HasPut writer (S.files store.old) [] }
     ensures writes { BetweenMoments S.files S.reads S.faults store.old store.new
-        (λ before now. WritesSet writer.entry.plan writer.entry.limit writer.entry.base source.old
+        (λ before now. WritesSource writer.entry.plan writer.entry.limit writer.entry.base source.old
         before now result) }
 {
     empty_heads_stand_for_none();

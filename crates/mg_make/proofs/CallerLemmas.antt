@@ -1,14 +1,10 @@
 -- What the proofs of crates above cite of this crate's. No other module of them can be named from there.
-use Rattle.std.proofs.Common.{◌≡◌, ℕ, List, Option, ap, is_some, ◌∙◌}
-use Rattle.mg_dev.specs.Files.{Files, file_at}
-use Rattle.mg_make.specs.Putting.{OthersSame}
+
 -- failures that rose later rose
 pub use Rattle.mg_index.proofs.CallerLemmas.{rose_behind}
-
--- ---- files that no call of a set may touch
-
-pub others_more : (base : List ℕ) (f g h : Option Files) → OthersSame base f g → OthersSame base g h → OthersSame base f h
-others_more base f g h one two = record { told = two.told ∙ one.told; others = λ name apart. two.others name apart ∙ one.others name apart }
-
-pub others_none : (base : List ℕ) (f g : Option Files) → g ≡ f → OthersSame base f g
-others_none base f g same = record { told = ap is_some same; others = λ name apart. ap (λ files. file_at files name) same }
+-- why a reader stops, where more or less is known
+pub use Rattle.mg_index.proofs.CallerLemmas.{read_for}
+-- files that no call of a set may touch
+pub use Rattle.mg_make.proofs.OthersLaws.{others_more, others_none}
+-- a set that is written of something that is read: the ways out
+pub use Rattle.mg_make.proofs.SetLaws.{HasAll, set_before, set_ended, set_not_written, set_since}

@@ -19,4 +19,6 @@ pub mod HeadLaws
 pub mod ReadySteps
 pub mod HeadSteps
 pub mod SortLaws
+pub mod OthersLaws
+pub mod SetLaws
 pub mod CallerLemmas

@@ -13,3 +13,4 @@ pub mod Counting
 pub mod Summaries
 pub mod Putting
 pub mod SetSteps
+pub mod Sets

@@ -142,25 +142,6 @@ read_cause rose now whole files first second new cause.InputTooLong grows is sto
 read_cause rose now whole files first second new cause.SameName grows is stop = absurd stop
 read_cause rose now whole files first second new (cause.TooManyRotations count) grows is stop = absurd stop
 
--- a cause still is one where failures still rose and what stands stood before
-pub read_wider : (rose now whole less : Type 0) (fault : Fault) → (rose → now) → (less → whole) → ReadStops rose whole fault → ReadStops now less fault
-read_wider rose now whole less cause.Usage grows back stop = absurd stop
-read_wider rose now whole less cause.StoreFault grows back stop = grows stop
-read_wider rose now whole less cause.ReadFault grows back stop = absurd stop
-read_wider rose now whole less cause.WriteFault grows back stop = absurd stop
-read_wider rose now whole less cause.NotBuilt grows back stop = absurd stop
-read_wider rose now whole less (cause.Damaged bad) grows back stop = λ is. stop (back is)
-read_wider rose now whole less cause.NoCollection grows back stop = absurd stop
-read_wider rose now whole less (cause.TooLarge bytes most) grows back stop = absurd stop
-read_wider rose now whole less cause.TooManyDocuments grows back stop = absurd stop
-read_wider rose now whole less (cause.TooManyPieces kind) grows back stop = absurd stop
-read_wider rose now whole less (cause.Changed what one two) grows back stop = absurd stop
-read_wider rose now whole less cause.Memory grows back stop = tt
-read_wider rose now whole less (cause.NameClash part) grows back stop = absurd stop
-read_wider rose now whole less cause.InputTooLong grows back stop = absurd stop
-read_wider rose now whole less cause.SameName grows back stop = absurd stop
-read_wider rose now whole less (cause.TooManyRotations count) grows back stop = absurd stop
-
 -- it was not before the first write
 pub read_late : (rose whole : Type 0) (fault : Fault) → ReadStops rose whole fault → IsEarly fault → ⊥
 read_late rose whole cause.Usage stop early = early

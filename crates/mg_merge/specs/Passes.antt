@@ -23,11 +23,10 @@ pub record AreApart (base : List ℕ) (t : TwoTexts) : Type 0 where
   pub second_text : IsApart base t.second.text.name
   pub second_places : IsApart base t.second.places.name
 
--- The texts stand for a collection of which this is the plan.
-abbrev pub ArePlanned : Plan → TwoTexts → Option Files → Type 0
-ArePlanned plan t files = (collection : List ℕ) × TextsStand t files collection × IsPlanOf plan collection
+-- the texts stand for a collection, and this is its plan
+abbrev pub IsPlanned : Plan → TwoTexts → Option Files → List ℕ → Type 0
+IsPlanned plan t files collection = TextsStand t files collection × IsPlanOf plan collection
 
--- this is so of each collection that the texts stand for and whose plan this is
-abbrev pub ForPlanned : Plan → TwoTexts → Option Files → (List ℕ → Type 0) → Type 0
-ForPlanned plan t files holds = (collection : List ℕ) → TextsStand t files collection → IsPlanOf plan collection →
-    holds collection
+-- the texts stand for some collection of which this is the plan
+abbrev pub ArePlanned : Plan → TwoTexts → Option Files → Type 0
+ArePlanned plan t files = (collection : List ℕ) × IsPlanned plan t files collection

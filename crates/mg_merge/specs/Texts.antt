@@ -49,10 +49,6 @@ pub record TextsStand (t : TwoTexts) (files : Option Files) (collection : List �
   pub joins : collection ≡ join a b
   pub size : t.size ≡ length collection
 
--- they stand for some collection
-abbrev pub AreTexts : TwoTexts → Option Files → Type 0
-AreTexts t files = (collection : List ℕ) × TextsStand t files collection
-
 -- the files of two bases stand for these collections, by these heads
 pub record AreSetsBy (one other : layout.Head) (files : Option Files) (first second a b : List ℕ) : Type 0 where
   pub first_code : TextCode

@@ -7,7 +7,7 @@ ghost use Rattle.mg_make.specs.Plans.{IsPlan, IsRoomFor};
 ghost use Rattle.mg_merge.specs.Merging.{ForBoth, budget_of};
 ghost use Rattle.mg_merge.specs.Passes.{AreApart};
 ghost use Rattle.mg_merge.specs.Texts.{TextsFit};
-ghost use Rattle.mg_merge.specs.Written.{MergesTexts, WritesSet};
+ghost use Rattle.mg_merge.specs.Written.{MergesTexts, WritesTexts};
 
 use crate::counting::count_all;
 use crate::documents::Documents;
@@ -132,7 +132,7 @@ fn write_planned<'a, S: Store, D: Documents<'a, S>>(
     requires fits { TextsFit (D.texts texts.old) (S.files store.old) }
     requires apart { AreApart new.now (D.texts texts.old) }
     ensures written { BetweenMoments S.files S.reads S.faults store.old store.new
-        (λ before now. WritesSet plan room.pool.limit new.now (D.texts texts.old) before now
+        (λ before now. WritesTexts plan room.pool.limit new.now (D.texts texts.old) before now
         result) }
 {
     let answer = write_set(alloc, store, texts, new, &plan, room);

@@ -12,7 +12,7 @@ ghost use Rattle.mg_make.specs.Putting.{HasPut, OthersSame};
 ghost use Rattle.mg_merge.specs.Looks.{reads_index};
 ghost use Rattle.mg_merge.specs.Passes.{AreAllGiven, AreApart, ArePlanned};
 ghost use Rattle.mg_merge.specs.Texts.{TextsFit};
-ghost use Rattle.mg_merge.specs.Written.{WritesSet};
+ghost use Rattle.mg_merge.specs.Written.{WritesTexts};
 
 use crate::documents::Documents;
 use crate::dropping::without;
@@ -78,7 +78,7 @@ pub(crate) fn write_set<'a, 'b, S: Store, D: Documents<'b, S>>(
     requires fits { TextsFit (D.texts texts.old) (S.files store.old) }
     requires apart { AreApart base.now (D.texts texts.old) }
     ensures written { BetweenMoments S.files S.reads S.faults store.old store.new
-        (λ before now. WritesSet plan.entry.now room.pool.limit base.entry.now
+        (λ before now. WritesTexts plan.entry.now room.pool.limit base.entry.now
         (D.texts texts.old) before now result) }
 {
     empty_heads_stand_for_none();
@@ -99,7 +99,7 @@ fn write_started<'b, S: Store, D: Documents<'b, S>>(
     requires apart { AreApart writer.base (D.texts texts.old) }
     requires nothing { HasPut writer (S.files store.old) [] }
     ensures written { BetweenMoments S.files S.reads S.faults store.old store.new
-        (λ before now. WritesSet writer.entry.plan writer.entry.limit writer.entry.base
+        (λ before now. WritesTexts writer.entry.plan writer.entry.limit writer.entry.base
         (D.texts texts.old) before now result) }
 {
     empty_heads_stand_for_none();

@@ -13,7 +13,7 @@ use Rattle.mg_build.proofs.passes.write_set.Goals as goal
 
 pub returns-in-Err : goal.returns-in-Err
 returns-in-Err g c = record {
-  writes = not_written (λ is. left_by_start c.args.base.now _ _ _ is.told (c.empty_heads_stand_for_none.ensures c.args.base.now _) c.in-Err.ensures.unbuilt)
+  writes = not_written (λ bytes is. left_by_start c.args.base.now bytes _ _ is.0.told (c.empty_heads_stand_for_none.ensures c.args.base.now _) c.in-Err.ensures.unbuilt)
       c.in-Err.ensures.others c.in-Err.ensures.plain c.in-Err.ensures.cause.later
       (start_stops _ _ _ c.in-Err.refusal _ c.of_store.ensures c.in-Err.ensures.cause) (start_tells _ _ _ _ c.in-Err.refusal _ c.of_store.ensures);
 }

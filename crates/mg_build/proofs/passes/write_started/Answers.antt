@@ -7,7 +7,7 @@ use Rattle.mg_build.proofs.passes.write_started.Goals as goal
 
 pub returns-in-Err : goal.returns-in-Err
 returns-in-Err g c = record {
-  writes = not_written (λ is. inr (inl (c.empty_heads_stand_for_none.ensures c.args.writer.base _ (c.in-Err.ensures.goes.head is.told))))
+  writes = not_written (λ bytes is. inr (inl (c.empty_heads_stand_for_none.ensures c.args.writer.base _ (c.in-Err.ensures.goes.head is.0.told))))
       c.in-Err.ensures.goes.others c.in-Err.ensures.goes.plain c.in-Err.ensures.goes.later c.in-Err.ensures.refused c.in-Err.ensures.tells;
 }
 

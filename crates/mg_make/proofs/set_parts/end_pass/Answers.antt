@@ -70,7 +70,8 @@ returns-in-Err-clause-tells g c = λ fed met scanned written few.
     let next = marks_of c.met.result.now in
     let whole : ((fed : List ℕ) (met : List Mark) → HasMet c.args.scanner.now fed met → marks fed ≡ met ++ next)
     = λ fed met h. subst (λ (m : Meeting). marks fed ≡ met ++ marks_of m) (sym c.met.ensures) (c.finish.ensures.met fed met h) in
-    tells_before (g.W.MarkWriter.pass c.args.writer) (g.S.Store.files c.args.store.now) fed met next _ c.in-Err.refusal written (whole fed met scanned) few c.in-Err.ensures.refused
+    tells_before (g.W.MarkWriter.pass c.args.writer) (g.S.Store.files c.args.store.now) fed met next
+    (Rose (g.S.Store.faults c.args.store.now) (g.S.Store.faults c.put_marks.new.store)) c.in-Err.refusal written (whole fed met scanned) few c.in-Err.ensures.refused
 
 pub returns-clause-tells : goal.returns-clause-tells
 returns-clause-tells g c =

@@ -124,12 +124,12 @@ returns-clause-joined g c =
     let both = both_in version cap files first second a b is two in
     let pool = cap_of version cap c.budget_of-budget.result files first second a one other is (c.in-Ok.ensures.heads is.told) c.budget_of-budget.ensures in
     subst (λ r. OnOk r (StandsIn 2 cap now new (join a b))) (sym (told a b both))
-    (subst (λ n. OnOk answer (StandsIn 2 n now new (join a b))) pool.1 (made.stands (join a b) (stands a b both))))
-    (λ a b both. subst (λ r. OnOk r (IsEmptied now new MergeA)) (sym (told a b both)) (made.merge_a (join a b, stands a b both)))
-    (λ a b both. subst (λ r. OnOk r (IsEmptied now new MergeB)) (sym (told a b both)) (made.merge_b (join a b, stands a b both)))
-    (subst (λ f. OthersSame new f now) same made.others)
+    (subst (λ n. OnOk answer (StandsIn 2 n now new (join a b))) pool.1 (made.written.stands (join a b) (stands a b both))))
+    (λ a b both. subst (λ r. OnOk r (IsEmptied now new MergeA)) (sym (told a b both)) (made.written.merge_a (join a b) (stands a b both)))
+    (λ a b both. subst (λ r. OnOk r (IsEmptied now new MergeB)) (sym (told a b both)) (made.written.merge_b (join a b) (stands a b both)))
+    (subst (λ f. OthersSame new f now) same made.written.others)
     (made.index ∙ outside_index _ _ unread)
-    (λ a b both. subst (λ f. Left new f now (join a b)) same (made.left (join a b) (stands a b both)))
+    (λ a b both. subst (λ f. Left new f now (join a b)) same (made.written.left (join a b) (stands a b both)))
     (early_by_heads (fields_of one) (fields_of other) answer result _ c.answer_by_heads.ensures (early_at answer _ _ (λ untouched. record { files = untouched.files ∙ same; unread = untouched.unread ∙ unread }) made.early))
     (cause_by_heads answer result _ _ stand files loaded first second new one other rises stands sets c.in-Ok.ensures.heads made.refused c.answer_by_heads.ensures)
     (λ is. elim is [ inl is ↦ absurd (c.requires.one is) | inr is ↦ absurd (c.requires.other is) ])
@@ -161,7 +161,7 @@ returns-clause-summary g c = λ version cap a b is two.
     let pool = cap_of version cap c.budget_of-budget.result files first second a one other is (c.in-Ok.ensures.heads is.told) c.budget_of-budget.ensures in
     subst (λ r. IfOk r (λ (summary : Summary). summary ≡ summary_of (budget_of cap) (join a b)))
     (sym (same_by_heads loaded first second a b one other sets answer c.answer_by_heads.result _ stand stands made.refused c.answer_by_heads.ensures))
-    (subst (λ n. IfOk answer (λ (summary : Summary). summary ≡ summary_of n (join a b))) pool.0 (made.summary (join a b) stands))
+    (subst (λ n. IfOk answer (λ (summary : Summary). summary ≡ summary_of n (join a b))) pool.0 (made.written.summary (join a b) stands))
 
 pub merge_texts-answer-requires : goal.merge_texts-answer-requires
 merge_texts-answer-requires g c =

@@ -2,15 +2,15 @@ use Rattle.std.proofs.Common.{sym, subst}
 use Rattle.mg_layout.specs.Stands.{StandsBy}
 use Rattle.mg_make.proofs.CallerLemmas.{rose_behind}
 use Rattle.mg_merge.proofs.LookLaws.{looks_more}
-use Rattle.mg_merge.proofs.StopLaws.{read_wider}
+use Rattle.mg_make.proofs.CallerLemmas.{read_for}
 use Rattle.mg_merge.proofs.TextLaws.{fits_on, same_text, stands_on}
 use Rattle.mg_merge.proofs.texts.load_both.Goals as goal
 
 pub returns-in-Err-clause-refused : goal.returns-in-Err-clause-refused
-returns-in-Err-clause-refused g c = read_wider _ _ _ _ c.in-Err.refusal (λ rose. rose) (λ some. (some.2.first_code, some.0, some.2.first_stands)) c.in-Err.ensures.refused
+returns-in-Err-clause-refused g c = read_for c.in-Err.refusal (λ rose. rose) (λ some. (some.2.first_code, some.0, some.2.first_stands)) c.in-Err.ensures.refused
 
 pub returns-in-Err-load_text-clause-refused : goal.returns-in-Err-load_text-clause-refused
-returns-in-Err-load_text-clause-refused g c = rw c.without.ensures (read_wider _ _ _ _ c.in-Err-load_text.refusal (λ rose. rose_behind _ _ _ c.in-Ok.ensures.looks.later rose)
+returns-in-Err-load_text-clause-refused g c = rw c.without.ensures (read_for c.in-Err-load_text.refusal (λ rose. rose_behind _ _ _ c.in-Ok.ensures.looks.later rose)
     (λ some. (
       some.2.second_code,
       some.1,

@@ -8,14 +8,13 @@ use Rattle.mg_defs.specs.Split.{documents, has_open_end, joined}
 use Rattle.mg_make.specs.Plans.{IsPlanOf}
 use Rattle.mg_make.specs.Putting.{HasPut, OthersSame}
 use Rattle.mg_make.specs.Written.{SecondStops}
-use Rattle.mg_make.proofs.CallerLemmas.{others_more, others_none, rose_behind}
+use Rattle.mg_make.proofs.CallerLemmas.{others_more, others_none, read_for, rose_behind}
 use Rattle.mg_merge.specs.Passes.{AreGiven}
 use Rattle.mg_merge.specs.Texts.{TextsStand, closed_document}
 use Rattle.mg_merge.proofs.GivenLaws.{all_behind, first_next, given_each, given_nothing, given_one_more, short_next, too_much}
 use Rattle.mg_merge.proofs.LookLaws.{none_index, outside_index}
 use Rattle.mg_merge.proofs.PassLaws.{put_stops, second_differs, still_put, still_told}
 use Rattle.mg_merge.proofs.StayLaws.{apart_still, fits_stay, texts_stay}
-use Rattle.mg_merge.proofs.StopLaws.{read_wider}
 use Rattle.mg_merge.proofs.TextLaws.{texts_more, texts_none}
 use Rattle.mg_merge.proofs.writing.put_documents.Goals as goal
 
@@ -40,14 +39,14 @@ returns-in-Err-clause-refused g c =
     let so_far = c.loop-index.invariant in
     let before = g.S.Store.files c.args.store.now in
     let middle = g.S.Store.files c.loop-index.store in
-    read_wider _ _ _ _ c.in-Err.refusal (λ rose. rose_behind _ _ _ so_far.later rose)
+    read_for c.in-Err.refusal (λ rose. rose_behind _ _ _ so_far.later rose)
     (λ some. (
       some.0,
       record {
         stands = texts_stay c.args.writer.now.base (g.D.Documents.texts c.args.texts.now) (g.D.Documents.texts c.loop-index.texts) before middle some.0
-            c.requires.apart so_far.same so_far.others some.1;
+            c.requires.apart so_far.same so_far.others some.1.0;
         short = short_next (g.D.Documents.texts c.args.texts.now) before some.0 so_far.put.0 c.loop-index.index c.loop-index.left c.requires.fits
-            (omega (arith, c.loop-index-test.true, c.documents-index-end.ensures)) so_far.put.1 some.1;
+            (omega (arith, c.loop-index-test.true, c.documents-index-end.ensures)) so_far.put.1 some.1.0;
       },
     ))
     c.in-Err.ensures.refused
@@ -82,7 +81,7 @@ returns-then-found-left-clause-refused g c = λ some.
           stand;
       short = short_next texts before collection fed c.loop-index.index c.loop-index.left c.requires.fits more given stand;
     }) in
-    too_much texts before some.0 fed held c.loop-index.index c.loop-index.left c.requires.fits more given some.1 (is some.0 some.1) (omega (arith, c.if-found-left.true))
+    too_much texts before some.0 fed held c.loop-index.index c.loop-index.left c.requires.fits more given some.1.0 (is some.0 some.1.0) (omega (arith, c.if-found-left.true))
 
 pub returns-then-found-left-clause-others : goal.returns-then-found-left-clause-others
 returns-then-found-left-clause-others g c = subst (λ f. OthersSame c.args.writer.now.base (g.S.Store.files c.args.store.now) f) (sym c.in-Ok.ensures.looks.files) c.loop-index.invariant.others
@@ -180,8 +179,8 @@ returns-in-Err-take_all-clause-refused g c =
     let rest = joined (drop (c.loop-index.index + 1) (documents some.0)) (has_open_end some.0) in
     let behind = drop (stop.taken + 1) held ++ rest in
     let whole : fed ++ (run ++ behind) ≡ some.0
-    = all_behind fed held rest (stop.taken + 1) ∙ sym (append_assoc fed held rest) ∙ first_next texts before some.0 fed held c.loop-index.index c.loop-index.left c.requires.fits more given some.1 (is some.0 some.1) in
-    (behind, subst (λ n. n < 2 ^ 32) (some.1.size ∙ sym (ap length whole)) c.requires.fits.few, subst (IsPlanOf c.args.writer.now.plan) (sym whole) some.2))
+    = all_behind fed held rest (stop.taken + 1) ∙ sym (append_assoc fed held rest) ∙ first_next texts before some.0 fed held c.loop-index.index c.loop-index.left c.requires.fits more given some.1.0 (is some.0 some.1.0) in
+    (behind, subst (λ n. n < 2 ^ 32) (some.1.0.size ∙ sym (ap length whole)) c.requires.fits.few, subst (IsPlanOf c.args.writer.now.plan) (sym whole) some.1.1))
     c.retold.ensures
     (λ more few. subst (λ plan. SecondStops rose (IsPlanOf plan (fed ++ (run ++ more))) c.in-Err-take_all.refusal) so_far.plan (stop.stops fed more has few))
 

@@ -32,9 +32,9 @@ returns-in-Ok-finish g c =
     record {
       written = was_ended c.args.writer c.put_documents.new.writer (g.D.Documents.texts c.args.texts.now) _
           (store_at g.S.Store.files g.S.Store.reads g.S.Store.faults c.put_documents.new.store) put.0 c.in-Ok.ensures.plan put.1 put.2 c.in-Ok.ensures.others _ _
-          c.in-Ok.ensures.base c.in-Ok.ensures.limit
+          c.in-Ok.ensures.base c.in-Ok.ensures.limit c.in-Ok.ensures.later
           c.in-Ok-finish.ensures.stands c.in-Ok-finish.ensures.summary c.in-Ok-finish.ensures.merge_a c.in-Ok-finish.ensures.merge_b c.in-Ok-finish.ensures.left
-          c.in-Ok-finish.ensures.others (runs_index _ _ c.in-Ok-finish.ensures.reads ∙ c.in-Ok.ensures.index) (omega (arith, c.in-Ok.ensures.later, c.in-Ok-finish.ensures.later)) tt;
+          c.in-Ok-finish.ensures.others (runs_index _ _ c.in-Ok-finish.ensures.reads ∙ c.in-Ok.ensures.index) c.in-Ok-finish.ensures.later tt;
     }
 
 pub retold-requires : goal.retold-requires
@@ -48,11 +48,11 @@ returns-in-Err-finish g c =
     let middle = store_at g.S.Store.files g.S.Store.reads g.S.Store.faults c.put_documents.new.store in
     record {
       written = was_ended c.args.writer c.put_documents.new.writer texts before middle put.0 c.in-Ok.ensures.plan put.1 put.2 c.in-Ok.ensures.others _ _
-          c.in-Ok.ensures.base c.in-Ok.ensures.limit
+          c.in-Ok.ensures.base c.in-Ok.ensures.limit c.in-Ok.ensures.later
           (λ bytes told has is. tt) (λ bytes told has is. tt) (λ bytes told has is. tt) (λ bytes told has is. tt) c.in-Err-finish.ensures.left
-          c.in-Err-finish.ensures.others (runs_index _ _ c.in-Err-finish.ensures.reads ∙ c.in-Ok.ensures.index) (omega (arith, c.in-Ok.ensures.later, c.in-Err-finish.ensures.later))
+          c.in-Err-finish.ensures.others (runs_index _ _ c.in-Err-finish.ensures.reads ∙ c.in-Ok.ensures.index) c.in-Err-finish.ensures.later
           (finish_stops (Rose (g.S.Store.faults c.put_documents.new.store) (g.S.Store.faults c.finish.new.store)) _ _ _ c.in-Err-finish.refusal c.retold.result
           (λ rose. rose_behind _ _ _ c.in-Ok.ensures.later rose)
-          (λ some. put_plan c.args.writer c.put_documents.new.writer texts before middle put.0 c.in-Ok.ensures.plan put.1 put.2 c.in-Ok.ensures.others some.0 some.1 some.2)
+          (λ some. put_plan c.args.writer c.put_documents.new.writer texts before middle put.0 c.in-Ok.ensures.plan put.1 put.2 c.in-Ok.ensures.others some.0 some.1)
           c.retold.ensures (c.in-Err-finish.ensures.refused put.0 put.2));
     }
