@@ -87,13 +87,6 @@ counted-one code p s old now is there size now_is =
 
 -- ---- one after the other
 
-pub counted-none : (code : StreamCode) (now : List ℕ) → Counted code [] now now
-counted-none code now = record {
-  size = refl;
-  sum_is = sym (add-zero (sum now));
-  counts = λ before are. are ∙ ap (λ (ps : List (List ℕ)). map (count_in ps) code.pieces) (sym (append-nil before));
-}
-
 pub counted-more : (code : StreamCode) (xs ys : List (List ℕ)) (a b c : List ℕ) → Counted code xs a b → Counted code ys b c → Counted code (xs ++ ys) a c
 counted-more code xs ys a b c x y = record {
   size = y.size ∙ x.size;
@@ -118,20 +111,6 @@ all-of P xs ys x all is each = inner xs (subst (AllByRecursion P) (sym is) each)
     inner : (zs : List _) → AllByRecursion P (zs ++ x ∷ ys) → P x
     inner [] each = each.0
     inner (z ∷ zs) each = inner zs each.1
-
-pub pairs-none : (code : TextCode) (w : TextWriting) (f : Option Files) (uses : Uses) → PutPairs code [] w w f f uses uses
-pairs-none code w f uses = record {
-  took = λ bits on. subst (λ (b : Bits). IsOnText w f [] b) (sym (append-nil bits)) on;
-  left = omega arith;
-  docs = refl;
-  pairs_are = refl;
-  is_open = refl;
-  base = refl;
-  told = refl;
-  known = tt;
-  words = counted-none code.words uses.words.items;
-  others = counted-none code.others uses.others.items;
-}
 
 pub pairs-more : (code : TextCode) (xs ys : List Pair) (w0 w1 w2 : TextWriting) (f0 f1 f2 : Option Files) (u0 u1 u2 : Uses) →
     PutPairs code xs w0 w1 f0 f1 u0 u1 → PutPairs code ys w1 w2 f1 f2 u1 u2 → PutPairs code (xs ++ ys) w0 w2 f0 f2 u0 u2
@@ -212,11 +191,6 @@ unknown-there o A is h = inner (subst (λ (x : Option (Unit {0})). WhereUnknown 
 
 pub room-less : (code : StreamCode) (counts : List ℕ) (more less : ℕ) → HasRoom code counts more → less ≤ more → HasRoom code counts less
 room-less code counts more less room fewer = record { size = room.size; few = omega (arith, room.few, fewer) }
-
-pub are-put-all : (code : TextCode) (all pairs : List Pair) (w0 w1 : TextWriting) (f0 f1 : Option Files) (u0 u1 : Uses) → pairs ≡ [] →
-    ArePut code all pairs w0 w1 f0 f1 u0 u1 → PutPairs code all w0 w1 f0 f1 u0 u1
-are-put-all code all pairs w0 w1 f0 f1 u0 u1 none so = subst (λ (ps : List Pair). PutPairs code ps w0 w1 f0 f1 u0 u1)
-    (sym (append-nil so.done) ∙ ap (λ (ps : List Pair). so.done ++ ps) (sym none) ∙ so.whole) so.put
 
 -- a document that was ended is all of the text
 pub text-closed : (w now : TextWriting) (bits : Bits) (f : Option Files) (text : List ℕ) → IsOnText now f (bits ∷ []) [] → Ended w now →

@@ -4,31 +4,14 @@ use Rattle.std.specs.Prelude.{IfErr}
 use Rattle.std.specs.declared.option.Option.{Option}
 use Rattle.std.specs.declared.result.Result.{Result}
 use Rattle.mg_dev.specs.Files.{Files, Reads}
-use Rattle.mg_dev.specs.PartCauses.{HasPartCause, IsCaused}
+use Rattle.mg_dev.specs.PartCauses.{HasPartCause}
 use Rattle.mg_dev.specs.declared.part_err.PartErr.{PartErr}
 use Rattle.mg_dev.specs.declared.part_err.PartErr.TheVariants.{Device, Memory, Bad}
+use Rattle.mg_dev.proofs.CallerLemmas.{cause_err, cause_ok, cause_then}
 use Rattle.mg_check_parts.specs.Looks.{LooksAtSet}
 use Rattle.mg_check_parts.specs.Refusals.{IsNotDevice}
 
 -- ---- causes
-
-caused_as : (T U : Type 0) (l m n : ℕ) (e : PartErr) → l ≤ m → IsCaused {T = T} m n (Err e) → IsCaused {T = U} l n (Err e)
-caused_as T U l m n Device le rose = omega arith
-caused_as T U l m n Memory le rose = tt
-caused_as T U l m n (Bad bad) le rose = tt
-
-cause_ok : {T : Type 0} {x : T} {m n : ℕ} → m ≤ n → HasPartCause m n (Ok x)
-cause_ok le = record { later = le; device = tt }
-
-cause_err : {T U : Type 0} {e : PartErr} {l m n : ℕ} → l ≤ m → HasPartCause {T = T} m n (Err e) → HasPartCause {T = U} l n (Err e)
-cause_err {T} {U} {e} {l} {m} {n} le cause = record {
-  later = omega (arith, le, cause.later);
-  device = caused_as T U l m n e le cause.device;
-}
-
-cause_then : {T : Type 0} (result : Result T PartErr) {l m n : ℕ} → l ≤ m → HasPartCause m n result → HasPartCause l n result
-cause_then (Ok x) le cause = cause_ok (omega (arith, le, cause.later))
-cause_then (Err e) le cause = cause_err le cause
 
 pub cause_own : {T : Type 0} (e : PartErr) {m n : ℕ} → m ≤ n → IsNotDevice e → HasPartCause {T = T} m n (Err e)
 cause_own Device le own = absurd own
