@@ -1,15 +1,20 @@
 -- Laws of loading.
-use Rattle.std.proofs.Common.{◌≡◌, ℕ, ◌≤◌, List, [], ◌++◌, length, take, drop, Some, None, IsSome, unwrap_or, refl, sym, ◌∙◌, ap, subst, arith}
+use Rattle.std.proofs.Common.{◌≡◌, ℕ, ◌≤◌, List, [], ◌++◌, length, take, drop, Some, None, Err, IsSome, unwrap_or, refl, sym, ◌∙◌, ap, subst, arith}
 use Rattle.std.specs.Option.{option_map}
 use Rattle.std.specs.declared.option.Option.{Option}
+use Rattle.std.specs.declared.result.Result.{Result}
 use Rattle.std.proofs.Math.Seq.{take-length}
 use Rattle.std.proofs.lemmas.List.{take_all, take-append-le}
 use Rattle.mg_dev.specs.Files.{Files, file_at, bytes_at, HasSize}
 use Rattle.mg_dev.specs.Laws.{read_count, size_is}
+use Rattle.mg_dev.specs.declared.fault.Fault.{Fault}
+use Rattle.mg_dev.specs.declared.fault.Fault.TheVariants.{ReadFault}
 use Rattle.mg_defs.specs.Replies.{session, reply}
 use Rattle.mg_defs.specs.Session.{session_of}
 use Rattle.mg_defs.specs.declared.session.Hearing.{Hearing}
+use Rattle.mg_reply.specs.PrintedLines.{RepliedBroken}
 use Rattle.mg_reply.specs.Served.{PrintedInTurn}
+use Rattle.mg_plain.specs.Stops.{LoadStops}
 
 -- a file that is told to have a size is there
 there : (o : Option (List ℕ)) (size : ℕ) → ◌≡◌ {A = Option ℕ} (Some size) (option_map length o) → (b : List ℕ) × (o ≡ Some b)
@@ -65,3 +70,15 @@ pub turns_over : (hearing : Hearing) (files : Option Files) (name text : List �
     PrintedInTurn hearing (reply (bytes_at files name)) input input_now before now
 turns_over hearing files name text {input} {input_now} {before} {now} there turns =
     subst (λ o. PrintedInTurn hearing (reply (unwrap_or o [])) input input_now before now) (sym there) turns
+
+-- and what an input that failed was replied to
+pub broken_over : (hearing : Hearing) (files : Option Files) (name text given : List ℕ) (left before now : Option (List ℕ)) →
+    file_at files name ≡ Some text → RepliedBroken hearing (reply text) before now left given →
+    RepliedBroken hearing (reply (bytes_at files name)) before now left given
+broken_over hearing files name text given left before now there broken =
+    subst (λ o. RepliedBroken hearing (reply (unwrap_or o [])) before now left given) (sym there) broken
+
+-- a collection is not loaded for another cause than a failed input
+pub not_read : (rose : Type 0) (files : Option Files) (name : List ℕ) (f : Fault) (X : Type 0) → LoadStops rose files name f →
+    ◌≡◌ {A = Result (Unit {0}) Fault} (Err f) (Err ReadFault) → X
+not_read rose files name f X stops is = let same : f ≡ ReadFault = cc in absurd (subst (LoadStops rose files name) same stops)

@@ -7,13 +7,14 @@ use Rattle.mg_dev.specs.Streams.{appended, GrewByPrefix}
 use Rattle.mg_dev.specs.declared.part.Part.{Part}
 use Rattle.mg_dev.specs.declared.part.Part.TheVariants.{Plain}
 use Rattle.mg_dev.specs.declared.fault.Fault.{Fault}
-use Rattle.mg_dev.specs.declared.fault.Fault.TheVariants.{StoreFault, NoCollection, TooLarge, Memory}
+use Rattle.mg_dev.specs.declared.fault.Fault.TheVariants.{StoreFault, NoCollection, ReadFault, TooLarge, Memory}
 use Rattle.mg_dev.specs.declared.status.Status.{Status}
 use Rattle.mg_dev.specs.declared.status.Status.TheVariants.{Done, Stopped}
 use Rattle.mg_defs.specs.Replies.{reply, session}
 use Rattle.mg_defs.specs.declared.session.Hearing.TheVariants.{Commands}
 use Rattle.mg_defs.specs.InputLimit.{is_too_much}
 use Rattle.mg_defs.specs.Limits.{input_limit}
+use Rattle.mg_reply.specs.PrintedLines.{RepliedBroken}
 use Rattle.mg_reply.specs.Served.{LeftEnough, PrintedInTurn}
 use Rattle.mg_plain.specs.Stops.{ScanStops}
 use Rattle.mg_dev.specs.Runs.{IfStopped, Run, StoreFailed, InputFailed, OutputFailed, Stops, status_of}
@@ -35,6 +36,8 @@ module _ (name : List ℕ) (run : Run) (r : Result (Unit {0}) Fault) (is : run.s
     (within : ForSome run.input.left (λ given. OnOk r (is_too_much input_limit given ≡ false)))
     (prefix : IsSome run.store.files → ForSome run.input.left (λ given. GrewByPrefix run.out.written run.out_now.written (session (bytes_at run.store.files name) given)))
     (in_turn : IsSome run.store.files → PrintedInTurn Commands (reply (bytes_at run.store.files name)) run.input.left run.input_now.left run.out.written run.out_now.written)
+    (broken : IsSome run.store.files → IsErrOf r ReadFault →
+    ForSome run.input.left (RepliedBroken Commands (reply (bytes_at run.store.files name)) run.out.written run.out_now.written run.input_now.left))
     (silent : IsErrOf r NoCollection → run.out_now.written ≡ run.out.written)
     (silent_large : (size most : ℕ) → IsErrOf r (TooLarge size most) → run.out_now.written ≡ run.out.written)
     (cause : IfErr r (ScanStops name (StoreFailed run) (InputFailed run) (OutputFailed run) run.store.files run.input.left))
@@ -49,6 +52,7 @@ module _ (name : List ℕ) (run : Run) (r : Result (Unit {0}) Fault) (is : run.s
     within = λ given some end. when_ok _ r (sym is ∙ end) (within given some);
     prefix = λ told given some. prefix told given some;
     in_turn = in_turn;
+    broken = λ told end given some. broken told (err_by r _ (sym is ∙ end)) given some;
     silent = λ end. silent (err_by r _ (sym is ∙ end));
     silent_large = λ size most end. silent_large size most (err_by r _ (sym is ∙ end));
     cause = subst (λ (s : Status). IfStopped s (ScanStops name (StoreFailed run) (InputFailed run) (OutputFailed run) run.store.files run.input.left)) (sym is) (stopped_by _ r cause);

@@ -4,12 +4,13 @@ use Rattle.mg_dev.specs.Files.{file_at, bytes_at}
 use Rattle.mg_dev.specs.Streams.{appended, GrewByPrefix}
 use Rattle.mg_dev.specs.declared.part.Part.{Part}
 use Rattle.mg_dev.specs.declared.part.Part.TheVariants.{Plain}
-use Rattle.mg_dev.specs.declared.fault.Fault.TheVariants.{NoCollection, TooLarge, Memory}
+use Rattle.mg_dev.specs.declared.fault.Fault.TheVariants.{NoCollection, ReadFault, TooLarge, Memory}
 use Rattle.mg_dev.specs.declared.status.Status.TheVariants.{Done}
 use Rattle.mg_defs.specs.Replies.{reply, session}
 use Rattle.mg_defs.specs.declared.session.Hearing.TheVariants.{Commands}
 use Rattle.mg_defs.specs.InputLimit.{is_too_much}
 use Rattle.mg_defs.specs.Limits.{input_limit, held_bytes}
+use Rattle.mg_reply.specs.PrintedLines.{RepliedBroken}
 use Rattle.mg_reply.specs.Served.{LeftEnough, PrintedInTurn}
 use Rattle.mg_plain.specs.Stops.{ScanStops}
 use Rattle.mg_dev.specs.Runs.{IfStopped, Run, StoreFailed, InputFailed, OutputFailed, SaysNothing, KeepsFiles, Stops, StopsUnless}
@@ -28,6 +29,10 @@ pub record Scanned (name : List ℕ) (run : Run) : Type 0 where
   -- every status: no reply is held back; it is printed before more of the input is taken than a piece behind its line
   pub in_turn : IsSome run.store.files → PrintedInTurn Commands (reply (bytes_at run.store.files name))
       run.input.left run.input_now.left run.out.written run.out_now.written
+  -- status 3: all whole lines that were taken of the input were replied to
+  pub broken : IsSome run.store.files → Stops run ReadFault → (given : List ℕ) → run.input.left ≡ Some given →
+      RepliedBroken Commands (reply (bytes_at run.store.files name)) run.out.written run.out_now.written
+      run.input_now.left given
   pub silent : Stops run NoCollection → SaysNothing run
   pub silent_large : (size most : ℕ) → Stops run (TooLarge size most) → SaysNothing run
   -- the cause of every other status; 7 and 8 come exactly where they have it, unless the store fails or memory is wanting

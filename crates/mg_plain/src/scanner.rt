@@ -5,14 +5,16 @@ ghost use Rattle.std.proofs.Common.{◌∙◌, ap, sym};
 ghost use Rattle.mg_dev.specs.Files.{file_at, bytes_at};
 ghost use Rattle.mg_dev.specs.declared.part.Part.{Part};
 ghost use Rattle.mg_dev.specs.declared.part.Part.TheVariants.{Plain};
-ghost use Rattle.mg_dev.specs.declared.fault.Fault.TheVariants.{NoCollection, TooLarge};
+ghost use Rattle.mg_dev.specs.declared.fault.Fault.TheVariants.{NoCollection, ReadFault, TooLarge};
 ghost use Rattle.mg_dev.specs.declared.part_err.PartErr.TheVariants as part;
 ghost use Rattle.mg_defs.specs.declared.session.Hearing.TheVariants.{Commands};
 ghost use Rattle.mg_defs.specs.Replies.{session, reply as reply_spec};
 ghost use Rattle.mg_defs.specs.InputLimit.{is_too_much};
 ghost use Rattle.mg_defs.specs.Limits.{input_limit};
 ghost use Rattle.mg_dev.specs.Runs.{RefusedFor};
+ghost use Rattle.mg_dev.specs.Streams.{appended};
 ghost use Rattle.mg_reply.specs.Printed.{PrintsAll, PrintsPrefix, Runs, StopsBy};
+ghost use Rattle.mg_reply.specs.PrintedLines.{RepliedBroken};
 ghost use Rattle.mg_reply.specs.Served.{LeftEnough, PrintedInTurn};
 ghost use Rattle.mg_plain.specs.Scanned.{Scanned};
 ghost use Rattle.mg_plain.specs.Stops.{RefusesLarge, ScanStops};
@@ -47,6 +49,8 @@ impl Answerer for Scanner {
 
     ghost after = { λ s t _. t ≡ s };
 
+    ghost prints = { λ s question before now. now ≡ appended before (reply_spec s question.now question.line) };
+
     ghost may_stop = { λ _ _ error. error ≡ part.Memory };
 
     fn answer_line<O: Sink>(
@@ -64,6 +68,8 @@ impl Answerer for Scanner {
     ghost after_more = { λ _ _ _ _ _ first more. more ∙ first };
 
     ghost same_reply = { λ _ _ _ _ same answers. answers ∙ sym (ap reply_spec same) };
+
+    ghost same_prints = { λ _ _ _ question before _ same printed. printed ∙ ap (λ t. appended before (reply_spec t question.now question.line)) same };
 
     ghost stops_later = { λ _ _ _ _ _ _ stops. stops };
 }
@@ -91,6 +97,10 @@ fn scan_text<S: Store, I: Source, O: Sink>(
     ensures in_turn { IsSome (S.files store.old) →
         PrintedInTurn Commands (reply_spec (bytes_at (S.files store.old) name.now))
         (I.left input.old) (I.left input.new) (O.written out.old) (O.written out.new) }
+    ensures broken { IsSome (S.files store.old) → IsErrOf result ReadFault →
+        ForSome (I.left input.old)
+        (RepliedBroken Commands (reply_spec (bytes_at (S.files store.old) name.now))
+        (O.written out.old) (O.written out.new) (I.left input.new)) }
     ensures silent { IsErrOf result NoCollection → O.written out.new ≡ O.written out.old }
     ensures silent_large { (size most : ℕ) → IsErrOf result (TooLarge size most) →
         O.written out.new ≡ O.written out.old }
@@ -116,7 +126,8 @@ fn scan_text<S: Store, I: Source, O: Sink>(
 /// Prints the session that the input asks of the collection of this name.
 ///
 /// The collection is read once, before the first line; nothing is printed where that is refused. No
-/// reply is held back: it is printed before more than 4,096 bytes behind its line are taken.
+/// reply is held back: it is printed before more than 4,096 bytes behind its line are taken, and where
+/// the input fails, all whole lines that were taken were replied to.
 ///
 /// # Errors
 ///

@@ -4,3 +4,5 @@
 pub use Rattle.mg_reply.proofs.PendingLaws.{pass_nothing, pass_both, pass_more, pass_put, pass_part, pass_cut, pass_refused}
 -- replies in turn: what is told of them by the input and the output alone, and where nothing was taken and nothing printed
 pub use Rattle.mg_reply.proofs.ServedLaws.{printed_in_turn, none_in_turn}
+-- an input that failed: it alone is told so, and what is so of the lines that were taken of it; what lines print by a rule that follows from another
+pub use Rattle.mg_reply.proofs.PrintedLaws.{read_failed, taken_too, none_broken, none_answered, rule_of_lines}

@@ -3,3 +3,4 @@ mod ReadingLaws
 mod PendingLaws
 mod CommandLaws
 mod ServedLaws
+mod PrintedLaws

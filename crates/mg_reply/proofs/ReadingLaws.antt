@@ -178,6 +178,11 @@ unfolding prepended
 left_now None bytes all e = cc
 left_now (Some rest) bytes all e = (rest, refl, cc)
 
+-- a line without its end is the only one
+pub alone : (line : List ℕ) → 0 < length line → HasNoEnd line → lines line ≡ line ∷ []
+alone [] some plain = absurd (omega arith)
+alone (b ∷ line) some plain = lines-open b line plain
+
 pub first_line : (line all : List ℕ) (size : ℕ) (before after : Option (List ℕ)) → IsFirst line size before after → before ≡ Some all →
     (rest : List ℕ) × (after ≡ Some rest) × (lines all ≡ line ∷ lines rest)
 first_line line all size before after f told =
@@ -191,7 +196,3 @@ first_line line all size before after f told =
           let none : now.0 ≡ [] = let z = sym now.1 ∙ e.3 is_told in cc in
           (now.0, now.1, ap lines (now.2 ∙ ap (λ (r : List ℕ). line ++ r) none ∙ append-nil line) ∙ alone line e.1 f.plain ∙ ap (λ (r : List ℕ). line ∷ lines r) (sym none))
     ]
-  where
-    alone : (line : List ℕ) → 0 < length line → HasNoEnd line → lines line ≡ line ∷ []
-    alone [] some plain = absurd (omega arith)
-    alone (b ∷ line) some plain = lines-open b line plain

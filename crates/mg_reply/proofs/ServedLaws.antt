@@ -16,16 +16,119 @@ use Rattle.mg_defs.specs.Texts.{bad_command, line_too_long}
 use Rattle.mg_defs.specs.Lines.{lines, HasNoEnd, without_return}
 use Rattle.mg_defs.specs.declared.session.Hearing.{Hearing}
 use Rattle.mg_defs.specs.declared.session.Hearing.TheVariants.{Commands, Questions}
-use Rattle.mg_defs.specs.Session.{hears, replies, heard_session, read, Question, questions, heard_questions, asked, asked_by, line_text}
+use Rattle.mg_defs.specs.Session.{hears, replies, heard_session, read, Question, questions, asked, asked_by, line_text}
 use Rattle.mg_defs.specs.InputLimit.{is_quit, ended_lines, has_quit, is_too_much}
 use Rattle.mg_defs.specs.Limits.{input_limit}
 use Rattle.mg_defs.proofs.SessionLaws.{Gives, gives_end, gives_line, ends_long, ends_short}
+use Rattle.mg_defs.proofs.LinesLaws.{lines-closed}
 use Rattle.mg_defs.proofs.LimitLaws.{ends_always, ended-line, ended-none}
 use Rattle.mg_reply.specs.Reading.{IsFirst, RunsOn, buffer_bytes}
-use Rattle.mg_reply.specs.Served.{Served, Counted, AnsweredSome, LeftEnough, PrintedInTurn, RepliedInTurn, TakenAhead}
-use Rattle.mg_reply.proofs.ReadingLaws.{first_line, left_now, empty}
+use Rattle.mg_reply.specs.PrintedLines.{TakenWhole}
+use Rattle.mg_reply.specs.Served.{Counted, LeftEnough, LinesTaken, PrintedInTurn, RepliedInTurn, Rests, Served, TakenAhead}
+use Rattle.mg_reply.proofs.ReadingLaws.{alone, first_line, left_now, empty}
+
+-- ---- the lines that were taken up
+
+abbrev pub taken_none : (all : List ℕ) (left : Option (List ℕ)) → left ≡ Some all → LinesTaken all left
+taken_none all left told = record { front = []; rest = all; told = told; whole = refl; closed = λ some more. refl }
+
+-- the lines are those of the front and those of the rest
+pub taken_lines : {all : List ℕ} {left : Option (List ℕ)} (t : LinesTaken all left) → lines all ≡ lines t.front ++ lines t.rest
+taken_lines t = ap lines t.whole ∙ behind t.front t.rest t.closed
+  where
+    behind : (front rest : List ℕ) → (0 < length rest → (more : List ℕ) → lines (front ++ more) ≡ lines front ++ lines more) →
+        lines (front ++ rest) ≡ lines front ++ lines rest
+    behind front [] closed = ap lines (append-nil front) ∙ sym (append-nil (lines front))
+    behind front (b ∷ rest) closed = closed (omega arith) (b ∷ rest)
+
+-- nothing is left of a told input at its end
+pub nothing : (left : Option (List ℕ)) (rest : List ℕ) → left ≡ Some rest → IsAtEnd left → rest ≡ []
+nothing left rest told end =
+    let is_told : IsSome left = rw told in
+    let e = sym told ∙ end is_told in cc
+
+-- something is left where a line is
+some_left : (line rest all : List ℕ) → all ≡ (line ++ 10 ∷ []) ++ rest → 0 < length all
+some_left line rest all e = omega (arith, ap length e, length-append (line ++ 10 ∷ []) rest, length-append line (10 ∷ []))
+
+more_lines : (front line more : List ℕ) → HasNoEnd line → ((more : List ℕ) → lines (front ++ more) ≡ lines front ++ lines more) →
+    lines ((front ++ (line ++ 10 ∷ [])) ++ more) ≡ lines front ++ (line ∷ lines more)
+more_lines front line more plain closed =
+    ap lines (append_assoc front (line ++ 10 ∷ []) more ∙ ap (λ t. front ++ t) (append_assoc line (10 ∷ []) more))
+    ∙ closed (line ++ (10 ∷ more)) ∙ ap (λ ls. lines front ++ ls) (lines-closed line more plain)
+
+-- a line more
+pub taken_line : {all line : List ℕ} {size : ℕ} {left left2 : Option (List ℕ)} (t : LinesTaken all left) → IsFirst line size left left2 →
+    (t2 : LinesTaken all left2) × (lines t2.front ≡ lines t.front ++ line ∷ [])
+taken_line {line} {left2} t first =
+    elim first.ends [
+      | inl f ↦
+          let now = left_now left2 (line ++ 10 ∷ []) t.rest (sym t.told ∙ f.1) in
+          let front = t.front ++ (line ++ 10 ∷ []) in
+          let on : (more : List ℕ) → lines (front ++ more) ≡ lines t.front ++ (line ∷ lines more) =
+          λ more. more_lines t.front line more first.plain (t.closed (some_left line now.0 t.rest now.2)) in
+          let last : lines front ≡ lines t.front ++ line ∷ [] = ap lines (sym (append-nil front)) ∙ on [] in (
+            record {
+              front = front;
+              rest = now.0;
+              told = now.1;
+              whole = t.whole ∙ ap (λ x. t.front ++ x) now.2 ∙ sym (append_assoc t.front (line ++ 10 ∷ []) now.0);
+              closed = λ some more. on more ∙ sym (append_assoc (lines t.front) (line ∷ []) (lines more)) ∙ ap (λ ls. ls ++ lines more) (sym last);
+            },
+            last,
+          )
+      | inr f ↦
+          let now = left_now left2 line t.rest (sym t.told ∙ f.2) in
+          let none : now.0 ≡ [] = nothing left2 now.0 now.1 f.3 in
+          let some : 0 < length t.rest = omega (arith, f.1, ap length now.2, length-append line now.0) in (
+            record {
+              front = t.front ++ line;
+              rest = now.0;
+              told = now.1;
+              whole = t.whole ∙ ap (λ x. t.front ++ x) now.2 ∙ sym (append_assoc t.front line now.0);
+              closed = λ some more. absurd (omega (arith, some, ap length none));
+            },
+            t.closed some line ∙ ap (λ ls. lines t.front ++ ls) (alone line f.1 first.plain),
+          )
+    ]
+
+-- a line in which the input failed, and nothing was held
+pub broken_taken : (IsSo : List ℕ → Type 0) {all : List ℕ} {left : Option (List ℕ)} (held : List ℕ) (input : Option (List ℕ)) (t : LinesTaken all left) →
+    ((part : List ℕ) × HasNoEnd part × (left ≡ prepended part (prepended held input))) → held ≡ [] → IsSo t.front → TakenWhole IsSo all input
+broken_taken IsSo {all} {left} held input t broken none so =
+    let is : left ≡ prepended broken.0 input = broken.2 ∙ ap (λ h. prepended broken.0 (prepended h input)) none ∙ ap (prepended broken.0) (prepended-nil input) in
+    let now = left_now input broken.0 t.rest (sym t.told ∙ is) in
+    record {
+      front = t.front;
+      part = broken.0;
+      rest = now.0;
+      whole = t.whole ∙ ap (λ x. t.front ++ x) now.2;
+      plain = broken.1;
+      told = now.1;
+      so = so;
+    }
 
 -- ---- what was printed and answered
+
+-- what was told prints this, and the rest of it goes on
+rests_on : {hearing : Hearing} {reply : Settings → List ℕ → List ℕ} {now : Settings} {done all : List ℕ} {answered : List Question} {left : Option (List ℕ)}
+    (r : Rests hearing reply now done answered all left) → replies hearing reply first_settings (lines all) ≡ done ++ replies hearing reply now (lines r.taken.rest)
+rests_on {hearing} {reply} r = ap (replies hearing reply first_settings) (taken_lines r.taken) ∙ r.goes_on (lines r.taken.rest)
+
+rests_line : {hearing : Hearing} {reply : Settings → List ℕ → List ℕ} {now after : Settings} {done line text all : List ℕ} {answered asking : List Question}
+    {left left2 : Option (List ℕ)} {size : ℕ} → Rests hearing reply now done answered all left → IsFirst line size left left2 →
+    Gives hearing reply now line text asking after → Rests hearing reply after (done ++ text) (answered ++ asking) all left2
+rests_line {hearing} {reply} {after} {done} {line} {text} {answered} {asking} r first gives =
+    let t = taken_line r.taken first in
+    let split : (more : List (List ℕ)) → lines t.0.front ++ more ≡ lines r.taken.front ++ (line ∷ more) =
+    λ more. ap (λ ls. ls ++ more) t.1 ∙ append_assoc (lines r.taken.front) (line ∷ []) more in
+    record {
+      taken = t.0;
+      goes_on = λ more. ap (replies hearing reply first_settings) (split more) ∙ r.goes_on (line ∷ more) ∙ ap (λ x. done ++ x) (gives.goes_on more)
+          ∙ sym (append_assoc done text (replies hearing reply after more));
+      asks = λ more. ap (questions hearing first_settings) (split more) ∙ r.asks (line ∷ more) ∙ ap (λ x. answered ++ x) (gives.asks more)
+          ∙ sym (append_assoc answered asking (questions hearing after more));
+    }
 
 pub served_start : {A : Type 0} (hearing : Hearing) (After : A → A → List Question → Type 0) (a : A) (reply : Settings → List ℕ → List ℕ)
     (left written : Option (List ℕ)) → After a a [] → Served hearing After a a reply left left written written first_settings
@@ -34,13 +137,8 @@ served_start hearing After a reply left written none = record {
   answered = [];
   given = sym (appended-nil written);
   after = none;
-  goes_on = λ all told. record { rest = all; told = told; goes_on = refl; asks = refl };
+  goes_on = λ all told. record { taken = taken_none all left told; goes_on = λ more. refl; asks = λ more. refl };
 }
-
--- where nothing is told, nothing is told after
-pub none_appended : (text : List ℕ) → None ≡ appended None text
-unfolding appended
-none_appended text = refl
 
 -- answers between two states, and then between the second and a third
 abbrev pub Joins : {A : Type 0} → (A → A → List Question → Type 0) → Type 0
@@ -56,17 +154,7 @@ served_line {hearing} {old} {new} {next} {reply} {left} {left2} {w0} {now} {afte
   answered = s.answered ++ asking;
   given = given ∙ ap (λ w. appended w text) s.given ∙ appended-appended w0 s.done text;
   after = joins old new next s.answered asking s.after step;
-  goes_on = λ all told.
-      let r = s.goes_on all told in
-      let f = first_line line r.rest size left left2 first r.told in
-      record {
-        rest = f.0;
-        told = f.1;
-        goes_on = r.goes_on ∙ ap (λ ls. s.done ++ replies hearing reply now ls) f.2 ∙ ap (λ t. s.done ++ t) (gives.goes_on (lines f.0))
-            ∙ sym (append_assoc s.done text (replies hearing reply after (lines f.0)));
-        asks = r.asks ∙ ap (λ ls. s.answered ++ questions hearing now ls) f.2 ∙ ap (λ t. s.answered ++ t) (gives.asks (lines f.0))
-            ∙ sym (append_assoc s.answered asking (questions hearing after (lines f.0)));
-      };
+  goes_on = λ all told. rests_line (s.goes_on all told) first gives;
 }
 
 -- a part of a line's text
@@ -77,9 +165,9 @@ pub served_part : {A : Type 0} {hearing : Hearing} {After : A → A → List Que
 unfolding heard_session
 served_part {hearing} {reply} {left} {next} {w0} {w1} {w2} {now} {after} {line} {text} {size} s first gives grew all told =
     let r = s.goes_on all told in
-    let f = first_line line r.rest size left next first r.told in
+    let f = first_line line r.taken.rest size left next first r.taken.told in
     let e : replies hearing reply first_settings (lines all) ≡ s.done ++ (text ++ replies hearing reply after (lines f.0)) =
-    r.goes_on ∙ ap (λ ls. s.done ++ replies hearing reply now ls) f.2 ∙ ap (λ t. s.done ++ t) (gives.goes_on (lines f.0)) in
+    rests_on r ∙ ap (λ ls. s.done ++ replies hearing reply now ls) f.2 ∙ ap (λ t. s.done ++ t) (gives.goes_on (lines f.0)) in
     subst (GrewByPrefix w0 w2) (sym e) (grew_second w0 w1 w2 s.done (text ++ replies hearing reply after (lines f.0)) s.given (grew_first w1 w2 text (replies hearing reply after (lines f.0)) grew))
 
 -- what was printed so far
@@ -89,24 +177,8 @@ pub served_some : {A : Type 0} {hearing : Hearing} {After : A → A → List Que
 unfolding heard_session
 served_some {hearing} {reply} {w0} {w1} {now} s all told =
     let r = s.goes_on all told in
-    subst (GrewByPrefix w0 w1) (sym r.goes_on) (grew_second w0 w1 w1 s.done (replies hearing reply now (lines r.rest)) s.given (grew_nothing w1 (replies hearing reply now (lines r.rest))))
-
--- the queries answered so far
-pub served_asked : {A : Type 0} {hearing : Hearing} {After : A → A → List Question → Type 0} {old new : A} {reply : Settings → List ℕ → List ℕ}
-    {before left w0 w1 : Option (List ℕ)} {now : Settings} → Served hearing After old new reply before left w0 w1 now →
-    AnsweredSome hearing After old new before
-unfolding heard_questions
-served_asked {hearing} {now} s = record {
-  answered = s.answered;
-  after = s.after;
-  first = λ all told. let r = s.goes_on all told in (questions hearing now (lines r.rest), r.asks);
-}
-
--- nothing is left of a told input at its end
-nothing : (left : Option (List ℕ)) (rest : List ℕ) → left ≡ Some rest → IsAtEnd left → rest ≡ []
-nothing left rest told end =
-    let is_told : IsSome left = rw told in
-    let e = sym told ∙ end is_told in cc
+    subst (GrewByPrefix w0 w1) (sym (rests_on r))
+    (grew_second w0 w1 w1 s.done (replies hearing reply now (lines r.taken.rest)) s.given (grew_nothing w1 (replies hearing reply now (lines r.taken.rest))))
 
 -- the input is at its end
 pub served_all : {A : Type 0} {hearing : Hearing} {After : A → A → List Question → Type 0} {old new : A} {reply : Settings → List ℕ → List ℕ}
@@ -115,8 +187,8 @@ pub served_all : {A : Type 0} {hearing : Hearing} {After : A → A → List Ques
 unfolding heard_session replies
 served_all {hearing} {reply} {left} {w0} {now} s end all told =
     let r = s.goes_on all told in
-    let none = nothing left r.rest r.told end in
-    s.given ∙ ap (appended w0) (sym (r.goes_on ∙ ap (λ x. s.done ++ replies hearing reply now (lines x)) none ∙ append-nil s.done))
+    let none = nothing left r.taken.rest r.taken.told end in
+    s.given ∙ ap (appended w0) (sym (rests_on r ∙ ap (λ x. s.done ++ replies hearing reply now (lines x)) none ∙ append-nil s.done))
 
 -- a line ends it
 pub served_quit : {A : Type 0} {hearing : Hearing} {After : A → A → List Question → Type 0} {old new : A} {reply : Settings → List ℕ → List ℕ}
@@ -126,22 +198,28 @@ pub served_quit : {A : Type 0} {hearing : Hearing} {After : A → A → List Que
 unfolding heard_session
 served_quit {hearing} {reply} {left} {next} {w0} {now} {line} {size} s first short quits all told =
     let r = s.goes_on all told in
-    let f = first_line line r.rest size left next first r.told in
+    let f = first_line line r.taken.rest size left next first r.taken.told in
     let none = gives_end hearing reply now line (lines f.0) short quits in
-    s.given ∙ ap (appended w0) (sym (r.goes_on ∙ ap (λ ls. s.done ++ replies hearing reply now ls) f.2 ∙ ap (λ t. s.done ++ t) none.0 ∙ append-nil s.done))
+    s.given ∙ ap (appended w0) (sym (rests_on r ∙ ap (λ ls. s.done ++ replies hearing reply now ls) f.2 ∙ ap (λ t. s.done ++ t) none.0 ∙ append-nil s.done))
 
 -- ---- what is said of a line's answer
 
-no_text : (reply : Settings → List ℕ → List ℕ) (wrong : List ℕ) (now : Settings) (line : List ℕ) (c : Command) → stops c ≡ true →
-    (command_text reply wrong now line c ≡ []) × (asked_by now line c ≡ [])
-no_text reply wrong now line Skip h = (refl, refl)
+no_text : (reply : Settings → List ℕ → List ℕ) (wrong : List ℕ) (now : Settings) (line : List ℕ) (c : Command) → stops c ≡ true → command_text reply wrong now line c ≡ []
+no_text reply wrong now line Skip h = refl
 no_text reply wrong now line Ask h = absurd (false≢true h)
-no_text reply wrong now line Quit h = (refl, refl)
+no_text reply wrong now line Quit h = refl
 no_text reply wrong now line Wrong h = absurd (false≢true h)
-no_text reply wrong now line (Set changed) h = (refl, refl)
+no_text reply wrong now line (Set changed) h = refl
+
+pub none_asked : (now : Settings) (line : List ℕ) (c : Command) → stops c ≡ true → asked_by now line c ≡ []
+none_asked now line Skip h = refl
+none_asked now line Ask h = absurd (false≢true h)
+none_asked now line Quit h = refl
+none_asked now line Wrong h = refl
+none_asked now line (Set changed) h = refl
 
 -- how lines are heard does not change which of them ends the session
-stops_heard : (hearing : Hearing) (c : Command) → stops (hears hearing c) ≡ stops c
+pub stops_heard : (hearing : Hearing) (c : Command) → stops (hears hearing c) ≡ stops c
 stops_heard Commands c = refl
 stops_heard Questions Skip = refl
 stops_heard Questions Ask = refl
@@ -178,7 +256,7 @@ pub answered_quits : {A : Type 0} {hearing : Hearing} {After : A → A → List 
     w2 ≡ appended w0 (heard_session hearing reply all)
 answered_quits {hearing} {answering} {w1} {now} {line} {cut} s first a quits given all told =
     let quits2 : stops (read now line) ≡ true = ap (λ l. stops (command l now)) (sym a.cut_is) ∙ quits in
-    given ∙ ap (appended w1) ((no_text answering bad_command now cut (heard hearing now cut) (stops_heard hearing (command cut now) ∙ quits)).0)
+    given ∙ ap (appended w1) (no_text answering bad_command now cut (heard hearing now cut) (stops_heard hearing (command cut now) ∙ quits))
     ∙ appended-nil w1 ∙ served_quit s first a.short quits2 all told
 
 -- all of it is a prefix of it
@@ -193,7 +271,7 @@ pub answered_part : {A : Type 0} {hearing : Hearing} {After : A → A → List Q
 answered_part {hearing} {reply} {answering} {w0} {w1} {w2} {now} {line} {cut} s first a grew all told =
     elim (cases_Bool (stops (command cut now))) [
       | inl quits ↦
-          let none : answer hearing answering now cut ≡ [] = (no_text answering bad_command now cut (heard hearing now cut) (stops_heard hearing (command cut now) ∙ quits)).0 in
+          let none : answer hearing answering now cut ≡ [] = no_text answering bad_command now cut (heard hearing now cut) (stops_heard hearing (command cut now) ∙ quits) in
           let g : GrewByPrefix w1 w2 [] = subst (GrewByPrefix w1 w2) none grew in
           let same : w2 ≡ w1 = g.is ∙ ap (appended w1) (take-none g.count) ∙ appended-nil w1 in
           subst (λ w. GrewByPrefix w0 w (heard_session hearing reply all)) (sym same) (served_some s all told)
@@ -205,32 +283,18 @@ answered_part {hearing} {reply} {answering} {w0} {w1} {w2} {now} {line} {cut} s 
     take-none zero = refl
     take-none (suc n) = refl
 
--- the queries answered, those of the line that was answered last among them
-pub answered_asked : {A : Type 0} {hearing : Hearing} {After : A → A → List Question → Type 0} {old new next : A}
-    {reply answering : Settings → List ℕ → List ℕ} {before left left2 w0 w1 : Option (List ℕ)} {now : Settings} {line cut : List ℕ} {size : ℕ} →
-    Joins After → Served hearing After old new reply before left w0 w1 now → IsFirst line size left left2 → Answered reply answering now line cut →
-    After new next (asked_by now cut (heard hearing now cut)) → AnsweredSome hearing After old next before
-unfolding heard_questions
-answered_asked {hearing} {old} {new} {next} {reply} {answering} {left} {left2} {now} {line} {cut} {size} joins s first a step = record {
-  answered = s.answered ++ asked_by now cut (heard hearing now cut);
-  after = joins old new next s.answered (asked_by now cut (heard hearing now cut)) s.after step;
-  first = λ all told.
-      let r = s.goes_on all told in
-      let f = first_line line r.rest size left left2 first r.told in
-      let whole : questions hearing first_settings (lines all) ≡ s.answered ++ questions hearing now (line ∷ lines f.0) = r.asks ∙ ap (λ ls. s.answered ++ questions hearing now ls) f.2 in
-      elim (cases_Bool (stops (command cut now))) [
-        | inl quits ↦
-            let none : asked_by now cut (heard hearing now cut) ≡ [] = (no_text answering bad_command now cut (heard hearing now cut) (stops_heard hearing (command cut now) ∙ quits)).1 in
-            (questions hearing now (line ∷ lines f.0), whole ∙ ap (λ x. x ++ questions hearing now (line ∷ lines f.0)) (sym (append-nil s.answered) ∙ ap (λ x. s.answered ++ x) (sym none)))
-        | inr goes ↦
-            let gives = answered_gives hearing reply answering now line cut a goes in (
-              questions hearing (settings_after now (heard hearing now cut)) (lines f.0),
-              whole ∙ ap (λ x. s.answered ++ x) (gives.asks (lines f.0))
-                  ∙ sym (append_assoc s.answered (asked_by now cut (heard hearing now cut))
-                  (questions hearing (settings_after now (heard hearing now cut)) (lines f.0))),
-            )
-      ];
-}
+-- a line in which the input failed: the session of the lines before it was printed whole
+pub served_broken : {A : Type 0} {hearing : Hearing} {After : A → A → List Question → Type 0} {old new : A} {reply : Settings → List ℕ → List ℕ}
+    {before left w0 w1 : Option (List ℕ)} {now : Settings} (held : List ℕ) (input : Option (List ℕ)) → Served hearing After old new reply before left w0 w1 now →
+    ((part : List ℕ) × HasNoEnd part × (left ≡ prepended part (prepended held input))) → held ≡ [] → (all : List ℕ) → before ≡ Some all →
+    TakenWhole (λ front. w1 ≡ appended w0 (heard_session hearing reply front)) all input
+unfolding heard_session replies
+served_broken {hearing} {reply} {w0} {w1} held input s broken none all told =
+    let r = s.goes_on all told in
+    let is : replies hearing reply first_settings (lines r.taken.front) ≡ s.done =
+    ap (replies hearing reply first_settings) (sym (append-nil (lines r.taken.front))) ∙ r.goes_on [] ∙ append-nil s.done in
+    broken_taken (λ front. w1 ≡ appended w0 (replies hearing reply first_settings (lines front))) held input r.taken broken none
+    (s.given ∙ ap (appended w0) (sym is))
 
 -- ---- replies are written in turn
 
@@ -365,7 +429,7 @@ printed_in_turn {hearing} {reply} {w0} {w1} turn =
       left = turn.left;
       done = done;
       some = some.0;
-      goes_on = λ all told. let r = turn.whole.goes_on all told in (r.rest, r.told, r.goes_on);
+      goes_on = λ all told. let r = turn.whole.goes_on all told in (r.taken.rest, r.taken.told, rests_on r);
       printed = some.1;
       ahead = turn.ahead;
     }
@@ -406,9 +470,6 @@ more_ended front line more passed plain ended =
     ap ended_lines (append_assoc front (line ++ 10 ∷ []) more ∙ ap (λ t. front ++ t) (append_assoc line (10 ∷ []) more))
     ∙ ended (line ++ (10 ∷ more))
     ∙ ap (λ t. passed ++ t) (ended-line line more plain)
-
-some_left : (line rest all : List ℕ) → all ≡ (line ++ 10 ∷ []) ++ rest → 0 < length all
-some_left line rest all e = omega (arith, ap length e, length-append (line ++ 10 ∷ []) rest, length-append line (10 ∷ []))
 
 pub counted_line : (before left next : Option (List ℕ)) (line : List ℕ) (size used used2 : ℕ) → Counted before left used → IsFirst line size left next →
     is_quit line ≡ false → used2 ≡ used + size → Counted before next used2
@@ -558,8 +619,8 @@ left_at_quit before left input held line size used c first quits all told =
 
 -- ---- whether a line ends the session
 
-pub goes_long : (line : List ℕ) → 1024 < length line → is_quit line ≡ false
-goes_long line long = ends_long first_settings line long
+pub long_stays : (line : List ℕ) → 1024 < length line → is_quit line ≡ false
+long_stays line long = ends_long first_settings line long
 
 pub quit_is : (now : Settings) (line cut : List ℕ) (b : Bool) → length line ≤ 1024 → cut ≡ without_return line → b ≡ stops (command cut now) → is_quit line ≡ b
 quit_is now line cut b short cut_is e = sym (ends_always now line) ∙ ends_short now line short ∙ ap (λ l. stops (command l now)) (sym cut_is) ∙ sym e

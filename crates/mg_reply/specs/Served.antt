@@ -49,13 +49,22 @@ EndsFor Read Write TooMuch Stops (serve.Show show.Memory) = Unit {0}
 
 -- ---- what holds from line to line
 
--- Of what was told to be left there is this left; the session prints what was printed and then the replies to that, and answers what was answered and then the queries of that.
-pub record Rests (hearing : Hearing) (reply : Settings → List ℕ → List ℕ) (now : Settings) (done : List ℕ)
-    (answered : List Question) (all : List ℕ) (left : Option (List ℕ)) : Type 0 where
+-- The lines of a front of what was told were taken up, and the rest is left. Unless none is left, a line begins there.
+pub record LinesTaken (all : List ℕ) (left : Option (List ℕ)) : Type 0 where
+  pub front : List ℕ
   pub rest : List ℕ
   pub told : left ≡ Some rest
-  pub goes_on : replies hearing reply first_settings (lines all) ≡ done ++ replies hearing reply now (lines rest)
-  pub asks : questions hearing first_settings (lines all) ≡ answered ++ questions hearing now (lines rest)
+  pub whole : all ≡ front ++ rest
+  pub closed : 0 < length rest → (more : List ℕ) → lines (front ++ more) ≡ lines front ++ lines more
+
+-- The lines that were taken up print what was printed and ask what was answered, and the session goes on with these settings.
+pub record Rests (hearing : Hearing) (reply : Settings → List ℕ → List ℕ) (now : Settings) (done : List ℕ)
+    (answered : List Question) (all : List ℕ) (left : Option (List ℕ)) : Type 0 where
+  pub taken : LinesTaken all left
+  pub goes_on : (more : List (List ℕ)) → replies hearing reply first_settings (lines taken.front ++ more)
+      ≡ done ++ replies hearing reply now more
+  pub asks : (more : List (List ℕ)) → questions hearing first_settings (lines taken.front ++ more)
+      ≡ answered ++ questions hearing now more
 
 -- So much was printed and answered, whatever was told.
 pub record Served {A : Type 0} (hearing : Hearing) (After : A → A → List Question → Type 0) (old new : A)
@@ -122,10 +131,6 @@ pub record Used (left : Option (List ℕ)) (used : ℕ) (all : List ℕ) : Type 
 
 pub record Counted (before left : Option (List ℕ)) (used : ℕ) : Type 0 where
   pub goes_on : (all : List ℕ) → before ≡ Some all → Used left used all
-
--- the replies of one who says nothing: what is asked is known whatever is printed
-abbrev pub silent : Settings → List ℕ → List ℕ
-silent now line = []
 
 -- the fault of a session that stopped
 abbrev pub fault_of_serve : ServeErr → Fault

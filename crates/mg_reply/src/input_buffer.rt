@@ -1,5 +1,5 @@
 //! The buffer of an input: filled at once, given byte by byte.
-ghost use Rattle.std.specs.Prelude.{◌≡◌, ℕ, ◌+◌, ◌-◌, ◌<◌, ◌≤◌, List, [], ◌∷◌, length, take, drop, IsTrue, ◌↔◌};
+ghost use Rattle.std.specs.Prelude.{◌≡◌, ℕ, ◌+◌, ◌-◌, ◌<◌, ◌≤◌, List, [], ◌∷◌, length, take, drop, IsTrue, OnErr, ◌↔◌};
 ghost use Rattle.mg_dev.specs.Causes.{HasCause};
 ghost use Rattle.mg_dev.specs.Streams.{prepended};
 ghost use Rattle.mg_reply.specs.Reading.{AfterByte, AfterFill, buffer_bytes};
@@ -70,6 +70,7 @@ impl InputBuffer {
     pub fn byte<I: Source>(&mut self, input: &mut I) -> Result<Option<u8>, Failed>
         ensures took { AfterByte (prepended self.old (I.left input.old))
             (prepended self.new (I.left input.new)) result }
+        ensures broken { OnErr result (self.new ≡ []) }
         ensures few { length self.new ≤ buffer_bytes }
         ensures cause { HasCause (I.faults input.old) (I.faults input.new) result }
     {

@@ -92,6 +92,7 @@ impl LineReader {
         ensures line { AfterLine self.old self.new (prepended self.old.held (I.left input.old))
             (prepended self.new.held (I.left input.new)) result }
         ensures few { length self.new.held ≤ buffer_bytes }
+        ensures broken { IsErrOf result LineErr.Read → self.new.held ≡ [] }
         ensures later { I.faults input.old ≤ I.faults input.new }
         ensures read { IsErrOf result LineErr.Read →
             Rose (I.faults input.old) (I.faults input.new) }

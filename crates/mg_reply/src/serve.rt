@@ -1,6 +1,7 @@
 //! A session: a reply to each line of an input.
 ghost use Rattle.std.specs.Prelude.{◌≡◌, ℕ, ◌≤◌, List, [], ◌∷◌, ◌++◌, length, OnOk, IfOk, IfErr, IsErrOf, false};
 ghost use Rattle.std.specs.Option.{ForSome};
+ghost use Rattle.std.specs.declared.option.Option.{Option};
 ghost use Rattle.mg_dev.specs.Causes.{Rose};
 ghost use Rattle.mg_dev.specs.Each.{ForEach};
 ghost use Rattle.mg_dev.specs.declared.part_err.PartErr.{PartErr};
@@ -12,6 +13,8 @@ ghost use Rattle.mg_defs.specs.InputLimit.{is_too_much};
 ghost use Rattle.mg_defs.specs.Limits.{input_limit};
 ghost use Rattle.mg_reply.specs.Served.{AnsweredSome, LeftEnough, PartStops, RepliedInTurn, fault_of_serve};
 ghost use Rattle.mg_reply.specs.Printed.{EndsWhere, PrintsAll, PrintsPrefix, Puts, heard_text};
+ghost use Rattle.mg_reply.specs.PrintedLines.{AnsweredBroken, CommandPrints, InputPrints, RepliedBroken};
+ghost use Rattle.mg_reply.specs.declared.serve.ServeErr.TheVariants as serve;
 
 use crate::{LineErr, LineEvent, LineReader, put_too_long, put_wrong, read_command};
 use mg_defs::{Command, Hearing, Settings};
@@ -37,6 +40,10 @@ pub trait Answerer {
     /// What holds between two states where these queries were answered in between.
     ghost after: { State → State → List Question → Type 0 };
 
+    /// What is told of the output before a query line and after it, where a state answered it with
+    /// `Ok`, whatever there is to answer from.
+    ghost prints: { State → Question → (before now : Option (List ℕ)) → Type 0 };
+
     /// Why a part may be refused between two states.
     ghost may_stop: { State → State → PartErr → Type 0 };
 
@@ -55,6 +62,8 @@ pub trait Answerer {
             (λ reply. Puts O.written out.old out.new result (reply now.now line.now)) }
         ensures after { after (state self.old dev.old) (state self.new dev.new)
             (record { now = now.now; line = line.now } ∷ []) }
+        ensures printed { OnOk result (prints (state self.old dev.old)
+            (record { now = now.now; line = line.now }) (O.written out.old) (O.written out.new)) }
         ensures later { O.faults out.old ≤ O.faults out.new }
         ensures write { IsErrOf result Write → Rose (O.faults out.old) (O.faults out.new) }
         ensures part { IfErr result (PartStops
@@ -65,6 +74,8 @@ pub trait Answerer {
     ghost after_more: { (s t u : State) (xs ys : List Question) → after s t xs → after t u ys → after s u (xs ++ ys) };
 
     ghost same_reply: { (s t : State) (xs : List Question) (reply : Settings → List ℕ → List ℕ) → after s t xs → answers s reply → answers t reply };
+
+    ghost same_prints: { (s t : State) (xs : List Question) (question : Question) (before now : Option (List ℕ)) → after s t xs → prints t question before now → prints s question before now };
 
     ghost stops_later: { (s t u : State) (xs : List Question) (error : PartErr) → after s t xs → may_stop t u error → may_stop s u error };
 }
@@ -108,6 +119,9 @@ fn serve_line<O: Sink, A: Answerer>(
     ensures text { ForEach (A.answers (A.state answerer.old dev.old))
         (λ reply. Puts O.written out.old out.new result
         (heard_text hearing now.old line.now reply)) }
+    ensures printed { OnOk result (CommandPrints (A.prints (A.state answerer.old dev.old))
+        now.old line.now (hears hearing (command line.now now.old))
+        (O.written out.old) (O.written out.new)) }
     ensures settings { OnOk result (now.new ≡ settings_after now.old
         (hears hearing (command line.now now.old))) }
     ensures stops { IfOk result (λ stop. stop ≡ stops_spec (command line.now now.old)) }
@@ -141,7 +155,10 @@ fn serve_line<O: Sink, A: Answerer>(
 /// the first 2^32; the lines up to there are answered. Nothing else ends a session, however its
 /// lines are heard. No reply is held back: whatever ends the session, the replies to the lines
 /// before the last that was taken up were written whole, and of what stands behind that line at
-/// most 4,096 bytes were taken.
+/// most 4,096 bytes were taken. Where the input failed, all whole lines that were taken were replied
+/// to before: a line whose end was read does not wait for what is behind it.
+///
+/// At `Ok` each line was answered with `Ok`, whatever there is to answer from.
 pub fn serve_lines<I: Source, O: Sink, A: Answerer>(
     hearing: Hearing,
     answerer: &mut A,
@@ -154,6 +171,10 @@ pub fn serve_lines<I: Source, O: Sink, A: Answerer>(
         (PrintsAll I.left O.written input.old out.old out.new result (heard_session hearing)) }
     ensures prefix { ForEach (A.answers (A.state answerer.old dev.old))
         (PrintsPrefix I.left O.written input.old out.old out.new (heard_session hearing)) }
+    // Whatever the state answers by, each line was answered.
+    ensures printed { ForSome (I.left input.old) (λ bytes. OnOk result
+        (InputPrints hearing (A.prints (A.state answerer.old dev.old))
+        (O.written out.old) (O.written out.new) bytes)) }
     ensures left { ForSome (I.left input.old)
         (λ bytes. OnOk result (LeftEnough bytes (I.left input.new))) }
     ensures within { ForSome (I.left input.old) (λ bytes.
@@ -164,6 +185,13 @@ pub fn serve_lines<I: Source, O: Sink, A: Answerer>(
         (λ reply. RepliedInTurn hearing A.after (A.state answerer.old dev.old)
         (A.state answerer.new dev.new)
         reply (I.left input.old) (I.left input.new) (O.written out.old) (O.written out.new)) }
+    // Where the input failed, no whole line was left without its reply.
+    ensures broken { ForEach (A.answers (A.state answerer.old dev.old)) (λ reply.
+        IsErrOf result serve.Read → ForSome (I.left input.old) (RepliedBroken hearing reply
+        (O.written out.old) (O.written out.new) (I.left input.new))) }
+    ensures answered_broken { IsErrOf result serve.Read → ForSome (I.left input.old)
+        (AnsweredBroken hearing (A.prints (A.state answerer.old dev.old))
+        (O.written out.old) (O.written out.new) (I.left input.new)) }
     ensures read_later { I.faults input.old ≤ I.faults input.new }
     ensures write_later { O.faults out.old ≤ O.faults out.new }
     ensures cause { EndsWhere I.left I.faults O.faults A.state A.may_stop input.old input.new

@@ -1,5 +1,6 @@
 //! Lines, commands, texts and sessions, on whole examples.
 ghost use Rattle.std.specs.Prelude.{◌≡◌, ℕ, List, ⊤};
+ghost use Rattle.mg_dev.specs.Streams.{appended};
 ghost use Rattle.mg_defs.specs.declared.session.Settings.{Settings};
 
 use mg_dev::{ShowErr, Sink, Source};
@@ -34,6 +35,8 @@ impl Answerer for Echo {
 
     ghost after = { λ _ _ _. ⊤ };
 
+    ghost prints = { λ _ question before now. now ≡ appended before question.line };
+
     ghost may_stop = { λ _ _ _. ⊥ };
 
     fn answer_line<O: Sink>(
@@ -54,6 +57,8 @@ impl Answerer for Echo {
     ghost after_more = { λ _ _ _ _ _ _ _. tt };
 
     ghost same_reply = { λ _ _ _ _ _ answers. answers };
+
+    ghost same_prints = { λ _ _ _ _ _ _ _ printed. printed };
 
     ghost stops_later = { λ _ _ _ _ _ _ stops. stops };
 }

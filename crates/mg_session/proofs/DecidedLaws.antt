@@ -13,6 +13,7 @@ use Rattle.mg_defs.specs.Refusals.{Reading, Refusal, reads, refused}
 use Rattle.mg_defs.specs.Replies.{refusal}
 use Rattle.mg_defs.specs.Sat.{Query}
 use Rattle.mg_defs.specs.Texts.{count}
+use Rattle.mg_defs.specs.declared.session.Settings.{Settings}
 use Rattle.mg_post.specs.Cursor.{Cursoring, SameList}
 use Rattle.mg_post.proofs.CallerLemmas.{first_same}
 use Rattle.mg_bool.specs.Leads.{NeedsPlace}
@@ -28,7 +29,7 @@ use Rattle.mg_rank.specs.Ranked.{Ranking}
 use Rattle.mg_reply.specs.Pending.{Passed}
 use Rattle.mg_reply.proofs.CallerLemmas.{pass_both, pass_nothing}
 use Rattle.mg_session.specs.Answering.{known_infos}
-use Rattle.mg_session.specs.Decided.{PrintsShown, QueryPrinted, QueryPrinting, QueryToldPrinted, RowRule, TermsPrinted, TermsToldPrinted}
+use Rattle.mg_session.specs.Decided.{PrintsLine, PrintsPhrase, PrintsShown, QueryPrinted, QueryPrinting, QueryToldPrinted, RowRule, TermsPrinted, TermsToldPrinted}
 use Rattle.mg_session.specs.Searching.{Opened}
 use Rattle.mg_session.proofs.TotalLaws.{put_rest, put_rows}
 
@@ -281,3 +282,15 @@ joined_words words t us query joined is = subst (λ ws. IsAllOf ws (Some query))
 
 pub no_words : {P : Type 0} (words : List (List ℕ)) (t : List ℕ) (us : List (List ℕ)) → IsAllOf words None → words ≡ t ∷ us → P
 no_words words t us none is = absurd (subst (λ ws. IsAllOf ws None) is none)
+
+-- ---- where a line was answered
+
+pub line_ok : (w0 w1 : Option (List ℕ)) (files : Option Files) (opened : Opened) (is_ranked : Bool) (now : Settings) (line : List ℕ) (r : Result (Unit {0}) ShowErr) →
+    PrintsLine w0 w1 r files opened is_ranked now line → OnOk r (PrintsLine w0 w1 (Ok tt) files opened is_ranked now line)
+line_ok w0 w1 files opened is_ranked now line (Ok done) printed = printed
+line_ok w0 w1 files opened is_ranked now line (Err error) printed = tt
+
+pub phrase_ok : (w0 w1 : Option (List ℕ)) (files : Option Files) (opened : Opened) (line : List ℕ) (r : Result (Unit {0}) ShowErr) →
+    PrintsPhrase w0 w1 r files opened line → OnOk r (PrintsPhrase w0 w1 (Ok tt) files opened line)
+phrase_ok w0 w1 files opened line (Ok done) printed = printed
+phrase_ok w0 w1 files opened line (Err error) printed = tt

@@ -26,6 +26,7 @@ pub mod MarkLaws
 pub mod WildListLaws
 pub mod WildTextLaws
 pub mod WildPageLaws
+mod PrintedOverLaws
 mod QueriedLaws
 mod PhrasedLaws
 mod MatchedLaws

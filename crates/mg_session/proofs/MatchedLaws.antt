@@ -27,7 +27,7 @@ use Rattle.mg_session.specs.Matched.{Matched}
 use Rattle.mg_session.specs.Opening.{HeadOpened, IsLack, KeptByPatterns, SetOpened}
 use Rattle.mg_session.specs.Served.{LinesServed}
 use Rattle.mg_session.specs.WildAnswers.{NeverReadByPatterns, ReadsPatterns}
-use Rattle.mg_session.specs.WildSearching.{PartsAreBy, WildAsked, WildBy, WildMayStop, WildParts, WildState}
+use Rattle.mg_session.specs.WildSearching.{PartsAreBy, WildAsked, WildBy, WildMayStop, WildParts, WildPrints, WildState}
 use Rattle.mg_session.specs.WildServes.{CountedBy, CountsTooMany, HasTooManyTerms, TooManyBy}
 use Rattle.mg_session.proofs.ServedLaws.{Kind, ServedAs, done_or, head_stopped, lines_served, refused_as, run_of, set_stopped, stands_opened}
 use Rattle.mg_session.proofs.WildPageLaws.{patterns_within}
@@ -84,6 +84,7 @@ patterns = record {
   at = λ (s : WildState). record { files = s.files; reads = s.reads; faults = s.faults };
   Answers = WildBy;
   After = WildAsked;
+  Prints = WildPrints;
   MayStop = WildMayStop;
   IsOver = λ (s : WildState). PartsAreBy s.files s.parts;
   reply = λ collection now. wild_reply collection;
@@ -175,7 +176,7 @@ no_set base s0 s1 s2 i o e e1 head f h set many =
 pub matched : (base : List ℕ) (s0 s1 : StoreAt) (old new : WildState) (i i1 : SourceAt) (o o1 e e1 : SinkAt) (head : Head) (r : Result (Unit {0}) Fault) → HeadOpened base s0 s1 (Ok head) →
     SetOpened (PartsAreBy old.files) KeptByPatterns (CountedBy head s1.files base) head base s1 (patterns.at old) (Ok old.parts) →
     (IsSome s1.files → (count : ℕ) → TooManyBy head s1.files base count → RefusedFor {T = WildParts} (Ok old.parts) (TooManyRotations count)) →
-    LinesServed Questions WildBy WildAsked WildMayStop old new i i1 o o1 r →
+    LinesServed Questions WildBy WildAsked WildPrints WildMayStop old new i i1 o o1 r →
     Matched base (run_of s0 (patterns.at new) i i1 o o1 e e1 r)
 matched base s0 s1 old new i i1 o o1 e e1 head r h set many lines =
     matched_as base (run_of s0 (patterns.at new) i i1 o o1 e e1 r) r refl

@@ -27,8 +27,9 @@ use Rattle.mg_defs.specs.declared.session.Settings.{Settings}
 use Rattle.mg_layout.proofs.CallerLemmas.{loaded_set, no_empty_head}
 use Rattle.mg_layout.specs.Stands.{HasNoHead, Stands, StandsBy, StandsForNone}
 use Rattle.mg_layout.specs.declared.head.Head.{Head}
-use Rattle.mg_reply.proofs.CallerLemmas.{none_in_turn}
+use Rattle.mg_reply.proofs.CallerLemmas.{none_broken, none_in_turn}
 use Rattle.mg_reply.specs.Printed.{IsTooLong}
+use Rattle.mg_reply.specs.PrintedLines.{PrintRule}
 use Rattle.mg_session.specs.Opening.{HeadOpened, SetOpened}
 use Rattle.mg_session.specs.Served.{LineStops, LinesServed, Served}
 use Rattle.mg_session.specs.Serves.{IsFirst, ServeStops, StandsByNone}
@@ -66,6 +67,7 @@ pub record Kind : Type 1 where
   pub at : State → StoreAt
   pub Answers : State → (Settings → List ℕ → List ℕ) → Type 0
   pub After : State → State → List Question → Type 0
+  pub Prints : State → PrintRule
   pub MayStop : State → State → PartErr → Type 0
   pub IsOver : State → TextCode → List ℕ → Type 0
   pub reply : List ℕ → Settings → List ℕ → List ℕ
@@ -144,6 +146,7 @@ stopped k base s0 s1 i o e e1 f files pages unread cause not_built = record {
   within = λ given some end. when_ok {T = Unit {0}} _ (Err f) end tt;
   prefix = λ collection given stands some. grew_nothing _ _;
   in_turn = λ collection stands. none_in_turn k.hearing (k.reply collection) refl refl;
+  broken = λ collection given stands some end. none_broken k.hearing (k.reply collection) given refl refl some;
   silent = λ fault first is. refl;
   untouched = λ fault first is. refl;
   cause = cause;
@@ -196,7 +199,7 @@ pub lines_served : {T : Type 0} (k : Kind) (IsOver : T → TextCode → List ℕ
     (old new : k.State) (i i1 : SourceAt) (o o1 e e1 : SinkAt) (head : Head) (opened : T) (r : Result (Unit {0}) Fault) →
     HeadOpened base s0 s1 (Ok head) → SetOpened IsOver k.IsKept counted head base s1 (k.at old) (Ok opened) →
     ((code : TextCode) (collection : List ℕ) → IsOver opened code collection → k.IsOver old code collection) →
-    LinesServed k.hearing k.Answers k.After k.MayStop old new i i1 o o1 r →
+    LinesServed k.hearing k.Answers k.After k.Prints k.MayStop old new i i1 o o1 r →
     ServedAs k base (run_of s0 (k.at new) i i1 o o1 e e1 r)
 lines_served k IsOver counted base s0 s1 old new i i1 o o1 e e1 head opened r h set is_over lines =
     let over : (collection : List ℕ) → Stands s0.files base collection → (code : TextCode) × k.IsOver old code collection =
@@ -212,6 +215,8 @@ lines_served k IsOver counted base s0 s1 old new i i1 o o1 e e1 head opened r h 
           let is = over collection stands in
           subst (λ (t : List ℕ). GrewByPrefix o.written o1.written t) (sym (k.text_is collection given)) (lines.prefix (k.reply collection) given (k.answers old is.0 collection is.1) some);
       in_turn = λ collection stands. let is = over collection stands in lines.in_turn (k.reply collection) (k.answers old is.0 collection is.1);
+      broken = λ collection given stands some end.
+          let is = over collection stands in lines.broken (k.reply collection) given (k.answers old is.0 collection is.1) some (err_by r _ end);
       silent = λ fault first is. lines_first r (SourceRose i i1) (SinkRose o o1) (IsTooLong i.left) _ (k.MayStop old new) fault is first lines.cause;
       untouched = λ fault first is. lines_first r (SourceRose i i1) (SinkRose o o1) (IsTooLong i.left) _ (k.MayStop old new) fault is first lines.cause;
       cause = stopped_by _ r (lines_cause k base s0 old new i i1 o o1 r (omega (arith, h.faults, set.faults)) over lines.cause);

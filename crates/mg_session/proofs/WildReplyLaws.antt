@@ -1,9 +1,9 @@
 -- The reply to a pattern, and a session of them.
 use Rattle.std.proofs.Common.{◌≡◌, ℕ, List, Ok, Err, refl, sym, subst}
-use Rattle.std.specs.Prelude.{IfErr}
+use Rattle.std.specs.Prelude.{IfErr, OnOk}
 use Rattle.std.specs.declared.option.Option.{Option}
 use Rattle.std.specs.declared.result.Result.{Result}
-use Rattle.mg_dev.specs.Streams.{AfterPut}
+use Rattle.mg_dev.specs.Streams.{AfterPut, appended}
 use Rattle.mg_dev.specs.StreamLaws.{grew_nothing}
 use Rattle.mg_dev.specs.declared.part_err.PartErr.TheVariants.{Device, Memory, Bad}
 use Rattle.mg_dev.specs.declared.show_err.ShowErr.{ShowErr}
@@ -63,3 +63,9 @@ pub line_part : (s t : WildState) (f g : ℕ) (r : Result (Unit {0}) ShowErr) �
     ((collection : List ℕ) → WildOver s collection → ShowIsNotBad r) → IfErr r (PartStops (WildMayStop s t))
 line_part s t f g (Ok value) cause sound = tt
 line_part s t f g (Err error) cause sound = line_stops s t f g error cause sound
+
+-- a line that was answered
+pub line_told : {Over : List ℕ → Type 0} {line : List ℕ} {w0 w1 : Option (List ℕ)} (r : Result (Unit {0}) ShowErr) →
+    ((collection : List ℕ) → Over collection → WildReplied collection line w0 w1 r) → OnOk r ((collection : List ℕ) → Over collection → w1 ≡ appended w0 (wild_reply collection line))
+line_told (Ok done) replied = λ collection over. (replied collection over).put
+line_told (Err error) replied = tt

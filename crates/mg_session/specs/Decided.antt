@@ -1,5 +1,5 @@
 -- By what an answer is decided, and what is printed of it, whatever the parts have.
-use Rattle.std.specs.Prelude.{◌≡◌, ◌⊎◌, ℕ, zero, suc, ◌+◌, Bool, true, false, List, [], ◌∷◌, ◌++◌, length, None, IfSome, IsSome, OnOk}
+use Rattle.std.specs.Prelude.{◌≡◌, ◌⊎◌, ℕ, zero, suc, ◌+◌, Bool, true, false, List, [], ◌∷◌, ◌++◌, length, None, Ok, IfSome, IsSome, OnOk}
 use Rattle.std.specs.declared.option.Option.{Option}
 use Rattle.std.specs.declared.result.Result.{Result}
 use Rattle.mg_dev.specs.Files.{Files}
@@ -10,6 +10,7 @@ use Rattle.mg_defs.specs.QueryTerms.{query_terms}
 use Rattle.mg_defs.specs.Read.{boolean, ranked}
 use Rattle.mg_defs.specs.Refusals.{reads}
 use Rattle.mg_defs.specs.Sat.{Query}
+use Rattle.mg_defs.specs.Session.{Question}
 use Rattle.mg_defs.specs.ShownAnswers.{shown_as}
 use Rattle.mg_defs.specs.Texts.{count}
 use Rattle.mg_defs.specs.declared.session.Mode.{Mode}
@@ -18,15 +19,20 @@ use Rattle.mg_bool.specs.Leads.{NeedsPlace}
 use Rattle.mg_bool.specs.Matches.{Matching}
 use Rattle.mg_bool.specs.Places.{AreInfos, Place}
 use Rattle.mg_bool.specs.Shown.{AreLists, IsPassed, IsShown, MatchesStand, SameLists}
+use Rattle.mg_front.specs.Reading.{Fronted}
+use Rattle.mg_layout.specs.Stands.{HasHead}
+use Rattle.mg_layout.specs.declared.head.Head.{Head}
 use Rattle.mg_layout.specs.declared.term_info.TermInfo.{TermInfo}
+use Rattle.mg_lex.specs.Reading.{IsLexiconReader}
 use Rattle.mg_query.specs.QueryOf.{query_of}
 use Rattle.mg_rank.specs.Added.{CountsWhole}
 use Rattle.mg_rank.specs.Ranked.{Ranking}
 use Rattle.mg_reply.specs.Pending.{Passed}
 use Rattle.mg_reply.specs.Printed.{at_score, hit_by}
+use Rattle.mg_reply.specs.PrintedLines.{PrintRule}
 use Rattle.mg_session.specs.Answering.{known_infos}
 use Rattle.mg_session.specs.PhraseAnswers.{found_at, rows_of}
-use Rattle.mg_session.specs.Searching.{Opened}
+use Rattle.mg_session.specs.Searching.{Opened, opened_at}
 use Rattle.mg_session.specs.Sessions.{ForLexicon}
 use Rattle.mg_session.specs.declared.phrase_rows.PhraseRows.{PhraseRows}
 
@@ -171,3 +177,27 @@ abbrev pub PrintsPhrase : Option (List ℕ) → Option (List ℕ) → Result (Un
     Opened → List ℕ → Type 0
 PrintsPhrase before now result files opened line = (ts : List (List ℕ)) → phrase_of line ≡ reads ts →
     IsSome before → PrintsWords before now result files opened ts
+
+-- ---- a query line and a line that is a phrase, where they were answered
+
+abbrev pub QuestionPrints : Option Files → Opened → PrintRule
+QuestionPrints files opened question before now = PrintsLine before now (Ok tt) files opened question.now.ranked
+    question.now question.line
+
+abbrev pub PhrasePrints : Option Files → Opened → PrintRule
+PhrasePrints files opened question before now = PrintsPhrase before now (Ok tt) files opened question.line
+
+-- over parts of a base that were opened: its lexicon was loaded with the number of terms that its head tells
+pub record OpenedParts (base : List ℕ) (head : Head) (opened : Opened) : Type 0 where
+  pub lex : Fronted
+  pub reader : IsLexiconReader base head.terms lex
+  pub opened_is : opened ≡ opened_at base lex head
+
+-- the same of a set under a base, by its head
+pub record PrintsOver (IsPrinted : Option Files → Opened → PrintRule) (base : List ℕ) (files : Option Files)
+    (question : Question) (before now : Option (List ℕ)) : Type 0 where
+  pub head : Head
+  pub head_is : HasHead files base head
+  pub opened : Opened
+  pub parts : OpenedParts base head opened
+  pub printed : IsPrinted files opened question before now

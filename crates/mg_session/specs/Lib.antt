@@ -10,6 +10,7 @@ pub mod Serves
 pub mod Opening
 pub mod Served
 pub mod SearchLaws
+pub mod PrintedLaws
 pub mod PhraseAnswers
 pub mod PhraseSearching
 pub mod PhraseSearchLaws

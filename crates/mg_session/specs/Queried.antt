@@ -1,7 +1,7 @@
 -- What a run of `query NAME` does.
-use Rattle.std.specs.Prelude.{◌≡◌, ◌⊎◌, ℕ, false, true, List, Some}
+use Rattle.std.specs.Prelude.{◌≡◌, ◌⊎◌, ℕ, false, true, List, Some, IsSome}
 use Rattle.mg_dev.specs.declared.part.Part.{Part}
-use Rattle.mg_dev.specs.declared.fault.Fault.TheVariants.{Memory}
+use Rattle.mg_dev.specs.declared.fault.Fault.TheVariants.{Memory, ReadFault}
 use Rattle.mg_dev.specs.declared.status.Status.TheVariants.{Done}
 use Rattle.mg_defs.specs.InputLimit.{is_too_much}
 use Rattle.mg_defs.specs.Limits.{input_limit}
@@ -9,6 +9,8 @@ use Rattle.mg_defs.specs.Replies.{reply, session}
 use Rattle.mg_defs.specs.Session.{questions_of}
 use Rattle.mg_defs.specs.declared.session.Hearing.TheVariants.{Commands}
 use Rattle.mg_layout.specs.Stands.{Stands}
+use Rattle.mg_reply.specs.PrintedLines.{AnsweredBroken, InputPrints}
+use Rattle.mg_session.specs.Decided.{QuestionPrints, PrintsOver}
 use Rattle.mg_session.specs.Parts.{NeverRead, is_of_text}
 use Rattle.mg_session.specs.Searching.{AskForNoText}
 use Rattle.mg_session.specs.Served.{Served}
@@ -19,6 +21,12 @@ use Rattle.mg_dev.specs.Runs.{Run, StoreFailed, InputFailed, OutputFailed, Stops
 pub record Queried (base : List ℕ) (run : Run) : Type 0 where
   -- it prints the session; of the lists and of the text it reads no more pages than the query lines allow, and some parts never
   pub served : Served session Commands reply ReadsWithin NeverRead CountsNone base run
+  -- status 0, whatever the files hold: each line was answered, and what is printed is decided by lists that stand
+  pub printed : (given : List ℕ) → IsSome run.store.files → run.input.left ≡ Some given → run.status ≡ Done →
+      InputPrints Commands (PrintsOver QuestionPrints base run.store.files) run.out.written run.out_now.written given
+  -- status 3, whatever the files hold: so was each whole line that was taken of the input
+  pub answered_broken : (given : List ℕ) → IsSome run.store.files → run.input.left ≡ Some given → Stops run ReadFault →
+      AnsweredBroken Commands (PrintsOver QuestionPrints base run.store.files) run.out.written run.out_now.written run.input_now.left given
   -- where the files stand, the input is not too long and no device fails, it is done, or memory is wanting
   pub complete : (collection given : List ℕ) → Stands run.store.files base collection → run.input.left ≡ Some given →
       is_too_much input_limit given ≡ false

@@ -24,6 +24,7 @@ use Rattle.mg_defs.specs.declared.session.Settings.{Settings}
 use Rattle.mg_layout.specs.Stands.{HasNoHead, Stands, StandsBy}
 use Rattle.mg_layout.specs.declared.head.Head.{Head}
 use Rattle.mg_reply.specs.Printed.{IsTooLong}
+use Rattle.mg_reply.specs.PrintedLines.{AnsweredBroken, InputPrints, PrintRule, RepliedBroken}
 use Rattle.mg_reply.specs.Served.{AnsweredSome, LeftEnough, PartStops, PrintedInTurn}
 use Rattle.mg_session.specs.Serves.{IsFirst, ServeStops}
 
@@ -41,7 +42,7 @@ LineStops input_rose output_rose long MayStop _ = ⊥
 
 -- The lines of an input were answered between two states of an answerer and its device, or some of them.
 pub record LinesServed {A : Type 0} (hearing : Hearing) (Answers : A → (Settings → List ℕ → List ℕ) → Type 0)
-    (After : A → A → List Question → Type 0)
+    (After : A → A → List Question → Type 0) (Prints : A → PrintRule)
     (MayStop : A → A → PartErr → Type 0) (old new : A) (input input_now : SourceAt) (out out_now : SinkAt)
     (result : Result (Unit {0}) Fault) : Type 0 where
   -- the whole session is printed, or a prefix of it, by each reply function that the state answers by
@@ -49,12 +50,20 @@ pub record LinesServed {A : Type 0} (hearing : Hearing) (Answers : A → (Settin
       → OnOk result (out_now.written ≡ appended out.written (heard_session hearing reply given))
   pub prefix : (reply : Settings → List ℕ → List ℕ) (given : List ℕ) → Answers old reply → input.left ≡ Some given
       → GrewByPrefix out.written out_now.written (heard_session hearing reply given)
+  -- each line was answered, whatever there is to answer from
+  pub printed : (given : List ℕ) → input.left ≡ Some given → OnOk result (InputPrints hearing (Prints old)
+      out.written out_now.written given)
   -- the input was read to its end, or to a line that ends the session
   pub left : (given : List ℕ) → input.left ≡ Some given → OnOk result (LeftEnough given input_now.left)
   pub within : (given : List ℕ) → input.left ≡ Some given → OnOk result (is_too_much input_limit given ≡ false)
   -- no reply is held back, by each such reply function
   pub in_turn : (reply : Settings → List ℕ → List ℕ) → Answers old reply →
       PrintedInTurn hearing reply input.left input_now.left out.written out_now.written
+  -- where the input failed, all whole lines that were taken were replied to, and answered
+  pub broken : (reply : Settings → List ℕ → List ℕ) (given : List ℕ) → Answers old reply → input.left ≡ Some given →
+      IsErrOf result ReadFault → RepliedBroken hearing reply out.written out_now.written input_now.left given
+  pub answered_broken : (given : List ℕ) → input.left ≡ Some given → IsErrOf result ReadFault →
+      AnsweredBroken hearing (Prints old) out.written out_now.written input_now.left given
   -- the first of its query lines were answered
   pub answered : AnsweredSome hearing After old new input.left
   -- the cause of each refusal
@@ -63,18 +72,21 @@ pub record LinesServed {A : Type 0} (hearing : Hearing) (Answers : A → (Settin
 
 -- A line was answered between two states of an answerer and its device: what each answerer promises of it.
 pub record LineAnswered {A : Type 0} (Fits : A → Type 0) (Answers : A → (Settings → List ℕ → List ℕ) → Type 0)
-    (After : A → A → List Question → Type 0) (MayStop : A → A → PartErr → Type 0) (old new : A) (out out_now : SinkAt)
-    (result : Result (Unit {0}) ShowErr) (now : Settings) (line : List ℕ) : Type 0 where
-  -- the state keeps what it has to
-  pub fits : Fits new
-  -- the reply is printed, or a prefix of it, by each reply function that the state answers by
-  pub content : ForEach (Answers old) (λ reply. AfterPut out.written out_now.written (reply now line) result)
-  -- that line was answered
-  pub after : After old new (record { now = now; line = line } ∷ [])
-  -- the cause of each refusal
-  pub later : out.faults ≤ out_now.faults
-  pub write : IsErrOf result Write → SinkRose out out_now
-  pub part : IfErr result (PartStops (MayStop old new))
+    (After : A → A → List Question → Type 0) (Prints : A → PrintRule) (MayStop : A → A → PartErr → Type 0)
+    (old new : A) (out out_now : SinkAt) (result : Result (Unit {0}) ShowErr) (now : Settings) (line : List ℕ) : Type 0
+  where
+    -- the state keeps what it has to
+    pub fits : Fits new
+    -- the reply is printed, or a prefix of it, by each reply function that the state answers by
+    pub content : ForEach (Answers old) (λ reply. AfterPut out.written out_now.written (reply now line) result)
+    -- that line was answered
+    pub after : After old new (record { now = now; line = line } ∷ [])
+    -- what is told of the output, whatever there is to answer from
+    pub printed : OnOk result (Prints old (record { now = now; line = line }) out.written out_now.written)
+    -- the cause of each refusal
+    pub later : out.faults ≤ out_now.faults
+    pub write : IsErrOf result Write → SinkRose out out_now
+    pub part : IfErr result (PartStops (MayStop old new))
 
 -- ---- a run
 
@@ -97,6 +109,10 @@ pub record Served (text : List ℕ → List ℕ → List ℕ) (hearing : Hearing
   -- every status: no reply is held back; it is printed before more of the input is taken than a piece behind its line
   pub in_turn : (collection : List ℕ) → Stands run.store.files base collection →
       PrintedInTurn hearing (reply collection) run.input.left run.input_now.left run.out.written run.out_now.written
+  -- status 3: all whole lines that were taken of the input were replied to
+  pub broken : (collection given : List ℕ) → Stands run.store.files base collection → run.input.left ≡ Some given →
+      Stops run ReadFault
+      → RepliedBroken hearing (reply collection) run.out.written run.out_now.written run.input_now.left given
   pub silent : (fault : Fault) → IsFirst fault → Stops run fault → SaysNothing run
   pub untouched : (fault : Fault) → IsFirst fault → Stops run fault → run.input_now.left ≡ run.input.left
   -- the cause of every other status; 5 comes exactly where it has it, unless the store fails or memory is wanting

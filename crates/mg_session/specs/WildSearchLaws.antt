@@ -10,7 +10,7 @@ use Rattle.mg_defs.specs.declared.session.Settings.{Settings}
 use Rattle.mg_wild.specs.Terms.{LexTerms}
 use Rattle.mg_session.specs.SearchLaws.{lists_stay}
 use Rattle.mg_session.specs.WildAnswers.{ReadsNoOther, WildSources, wild_pages}
-use Rattle.mg_session.specs.WildSearching.{PartsAreOf, WildAsked, WildBy, WildMayStop, WildOver, WildParts, WildState}
+use Rattle.mg_session.specs.WildSearching.{PartsAreOf, WildAsked, WildBy, WildMayStop, WildOver, WildParts, WildPrints, WildState}
 
 -- ---- reads after reads
 
@@ -71,6 +71,10 @@ wild_later s t xs by a answers = record {
   over = wild_over s t xs answers.collection a answers.over;
   by_is = answers.by_is;
 }
+
+pub wild_printed : (s t : WildState) (xs : List Question) (question : Question) (before now : Option (List ℕ)) →
+    WildAsked s t xs → WildPrints t question before now → WildPrints s question before now
+wild_printed s t xs question before now a printed collection over = printed collection (wild_over s t xs collection a over)
 
 pub wild_stop : (s t u : WildState) (xs : List Question) (error : PartErr) → WildAsked s t xs → WildMayStop t u error →
     WildMayStop s u error

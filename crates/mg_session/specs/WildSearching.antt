@@ -3,6 +3,7 @@ use Rattle.std.specs.Prelude.{◌≡◌, ℕ, ◌+◌, ◌≤◌, List, sum_by}
 use Rattle.std.specs.declared.option.Option.{Option}
 use Rattle.mg_dev.specs.Causes.{Rose}
 use Rattle.mg_dev.specs.Files.{Files, Reads}
+use Rattle.mg_dev.specs.Streams.{appended}
 use Rattle.mg_dev.specs.declared.part.Part.TheVariants as part
 use Rattle.mg_dev.specs.declared.part_err.PartErr.{PartErr}
 use Rattle.mg_dev.specs.declared.part_err.PartErr.TheVariants.{Device, Memory, Bad}
@@ -10,6 +11,7 @@ use Rattle.mg_defs.specs.CodedText.{TextCode}
 use Rattle.mg_defs.specs.Session.{Question}
 use Rattle.mg_defs.specs.WildSession.{wild_reply}
 use Rattle.mg_defs.specs.declared.session.Settings.{Settings}
+use Rattle.mg_reply.specs.PrintedLines.{PrintRule}
 use Rattle.mg_wild.specs.Terms.{LexTerms}
 use Rattle.mg_session.specs.WildAnswers.{ReadsNoOther, WildSources, wild_pages}
 
@@ -60,6 +62,11 @@ pub record WildAsked (s t : WildState) (questions : List Question) : Type 0 wher
   pub same : t.parts ≡ s.parts
   pub post : (collection : List ℕ) → WildOver s collection → t.reads part.Post
       ≤ s.reads part.Post + sum_by (λ (q : Question). wild_pages collection q.line) questions
+
+-- what a line prints that was answered, of each collection that it is over
+abbrev pub WildPrints : WildState → PrintRule
+WildPrints s question before now = (collection : List ℕ) → WildOver s collection →
+    now ≡ appended before (wild_reply collection question.line)
 
 -- why a part may be refused
 abbrev pub WildMayStop : WildState → WildState → PartErr → Type 0

@@ -5,12 +5,13 @@ ghost use Rattle.mg_dev.specs.Moments.{sink_at, store_at};
 ghost use Rattle.mg_dev.specs.Streams.{AfterPut};
 ghost use Rattle.mg_query.specs.AllOf.{IsAllOf};
 ghost use Rattle.mg_session.specs.Calls.{WritesAlone};
-ghost use Rattle.mg_session.specs.Decided.{PrintsPhrase};
+ghost use Rattle.mg_session.specs.Decided.{OpenedParts};
 ghost use Rattle.mg_session.specs.Opening.{KeptByQueries, SetOpened};
 ghost use Rattle.mg_session.specs.PhraseSearching.{PhrasesAsked, PhrasesBy};
 ghost use Rattle.mg_session.specs.PhraseSearchLaws.{phrases_later, phrases_more, phrases_none, phrases_stop};
 ghost use Rattle.mg_session.specs.Replying.{AsksPhrase, AsksWords};
 ghost use Rattle.mg_session.specs.Served.{LineAnswered};
+ghost use Rattle.mg_session.specs.PrintedLaws.{PhraseRule as Prints, phrase_later as prints_later};
 ghost use Rattle.mg_session.specs.Searching.{Fits, MayStop, OpenedOver, SearchFits, Searching, opened_at, state_of};
 
 use crate::held_text::HeldText;
@@ -79,6 +80,7 @@ impl<'a, S: Store> PhraseSearcher<'a, S> {
             head.now base.entry.now
             (store_at S.files S.reads S.faults store.old)
             (store_at S.files S.reads S.faults store.new) result }
+        ensures parts { IfOk result (OpenedParts base.entry.now head.now) }
     {
         let lex = match Lex::load(alloc, store, base, head) {
             Ok(lex) => lex,
@@ -195,6 +197,8 @@ impl<'a, S: Store> Answerer for PhraseSearcher<'a, S> {
 
     ghost after = { λ s t questions. PhrasesAsked s t questions };
 
+    ghost prints = { λ s question before now. Prints s question before now };
+
     ghost may_stop = { λ s t error. MayStop s t error };
 
     fn answer_line<O: Sink>(
@@ -207,14 +211,11 @@ impl<'a, S: Store> Answerer for PhraseSearcher<'a, S> {
         requires short { length line.now ≤ 1024 }
         requires fits { SearchFits (S.files dev.old) self.old }
         // What each answerer promises of a line.
-        ensures answered { LineAnswered Fits PhrasesBy PhrasesAsked MayStop
+        ensures answered { LineAnswered Fits PhrasesBy PhrasesAsked Prints MayStop
             (state_of (S.files dev.old) (S.reads dev.old) (S.faults dev.old) self.old)
             (state_of (S.files dev.new) (S.reads dev.new) (S.faults dev.new) self.new)
             (sink_at O.written O.faults O.lacks out.old)
             (sink_at O.written O.faults O.lacks out.new) result _now.now line.now }
-        // Whatever the lists have, what is printed is decided by blocks of them that stand.
-        ensures printed { PrintsPhrase (O.written out.old) (O.written out.new) result
-            (S.files dev.old) self.old line.now }
     {
         self.answer_question(dev, line, out)
     }
@@ -224,6 +225,8 @@ impl<'a, S: Store> Answerer for PhraseSearcher<'a, S> {
     ghost after_more = { λ s t u xs ys first more. phrases_more s t u xs ys first more };
 
     ghost same_reply = { λ s t xs by after answers. phrases_later s t xs by after answers };
+
+    ghost same_prints = { λ s t xs question before now after printed. prints_later s t xs question before now after printed };
 
     ghost stops_later = { λ s t u xs error after stops. phrases_stop s t u xs error after stops };
 }

@@ -5,11 +5,12 @@ ghost use Rattle.std.specs.Str.{bytes_eq};
 ghost use Rattle.mg_defs.specs.QueryTerms.{query_terms};
 ghost use Rattle.mg_dev.specs.Moments.{sink_at, store_at};
 ghost use Rattle.mg_query.specs.QueryOf.{query_of};
-ghost use Rattle.mg_session.specs.Decided.{PrintsLine};
+ghost use Rattle.mg_session.specs.Decided.{OpenedParts};
 ghost use Rattle.mg_session.specs.Opening.{KeptByQueries, SetOpened};
 ghost use Rattle.mg_session.specs.Replying.{AsksLine, AsksQuery, AsksTerms};
 ghost use Rattle.mg_session.specs.Served.{LineAnswered};
 ghost use Rattle.mg_session.specs.Searching.{AnswersBy, Asked, Fits, MayStop, OpenedOver, SearchFits, Searching, opened_at, state_of};
+ghost use Rattle.mg_session.specs.PrintedLaws.{Prints, prints_later};
 ghost use Rattle.mg_session.specs.SearchLaws.{answers_later, asked_more, asked_none, stops_later};
 
 use crate::boolean_answer::answer_query;
@@ -73,6 +74,7 @@ impl<'a, S: Store> Searcher<'a, S> {
             head.now base.entry.now
             (store_at S.files S.reads S.faults store.old)
             (store_at S.files S.reads S.faults store.new) result }
+        ensures parts { IfOk result (OpenedParts base.entry.now head.now) }
     {
         let lex = match Lex::load(alloc, store, base, head) {
             Ok(lex) => lex,
@@ -218,6 +220,8 @@ impl<'a, S: Store> Answerer for Searcher<'a, S> {
 
     ghost after = { λ s t questions. Asked s t questions };
 
+    ghost prints = { λ s question before now. Prints s question before now };
+
     ghost may_stop = { λ s t error. MayStop s t error };
 
     fn answer_line<O: Sink>(
@@ -230,14 +234,11 @@ impl<'a, S: Store> Answerer for Searcher<'a, S> {
         requires short { length line.now ≤ 1024 }
         requires fits { SearchFits (S.files dev.old) self.old }
         // What each answerer promises of a line.
-        ensures answered { LineAnswered Fits AnswersBy Asked MayStop
+        ensures answered { LineAnswered Fits AnswersBy Asked Prints MayStop
             (state_of (S.files dev.old) (S.reads dev.old) (S.faults dev.old) self.old)
             (state_of (S.files dev.new) (S.reads dev.new) (S.faults dev.new) self.new)
             (sink_at O.written O.faults O.lacks out.old)
             (sink_at O.written O.faults O.lacks out.new) result now.now line.now }
-        // Whatever the lists have, what is printed is decided by blocks of them that stand.
-        ensures printed { PrintsLine (O.written out.old) (O.written out.new) result
-            (S.files dev.old) self.old now.now.ranked now.now line.now }
     {
         self.answer_question(dev, line, now, out)
     }
@@ -247,6 +248,8 @@ impl<'a, S: Store> Answerer for Searcher<'a, S> {
     ghost after_more = { λ s t u xs ys first more. asked_more s t u xs ys first more };
 
     ghost same_reply = { λ s t xs by after answers. answers_later s t xs by after answers };
+
+    ghost same_prints = { λ s t xs question before now after printed. prints_later s t xs question before now after printed };
 
     ghost stops_later = { λ s t u xs error after stops. stops_later s t u xs error after stops };
 }

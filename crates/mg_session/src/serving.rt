@@ -37,7 +37,7 @@ pub(crate) fn answer_lines<I: Source, O: Sink, A: Answerer + Drop>(
     out: &mut O,
 ) -> Result<(), Fault>
     requires fits { A.fits (A.state answerer dev.old) }
-    ensures served { (after : A) × LinesServed hearing A.answers A.after A.may_stop
+    ensures served { (after : A) × LinesServed hearing A.answers A.after A.prints A.may_stop
         (A.state answerer dev.old) (A.state after dev.new)
         (source_at I.left I.faults input.old) (source_at I.left I.faults input.new)
         (sink_at O.written O.faults O.lacks out.old) (sink_at O.written O.faults O.lacks out.new)

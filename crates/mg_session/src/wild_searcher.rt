@@ -13,9 +13,9 @@ ghost use Rattle.mg_session.specs.Calls.{StepsPut, WritesAlone};
 ghost use Rattle.mg_session.specs.Opening.{KeptByPatterns, SetOpened};
 ghost use Rattle.mg_session.specs.WildAnswers.{StepsPattern, wild_pages};
 ghost use Rattle.mg_session.specs.Replying.{RepliesToPattern};
-ghost use Rattle.mg_session.specs.WildSearching.{HasRoom, PartsAreBy, PartsAreOf, WildAsked, WildBy, WildFits, WildMayStop, WildState, wild_state};
+ghost use Rattle.mg_session.specs.WildSearching.{HasRoom, PartsAreBy, PartsAreOf, WildAsked, WildBy, WildFits, WildMayStop, WildPrints, WildState, wild_state};
 ghost use Rattle.mg_session.specs.WildServes.{CountedBy, TooManyBy, fault_of_rotated as fault_of_rotated_spec};
-ghost use Rattle.mg_session.specs.WildSearchLaws.{wild_later, wild_more, wild_none, wild_stop};
+ghost use Rattle.mg_session.specs.WildSearchLaws.{wild_later, wild_more, wild_none, wild_printed, wild_stop};
 
 use crate::document_set::DocumentSet;
 use crate::lists::Lists;
@@ -189,6 +189,8 @@ impl<'a, S: Store> Answerer for WildSearcher<'a, S> {
 
     ghost after = { λ s t questions. WildAsked s t questions };
 
+    ghost prints = { λ s question before now. WildPrints s question before now };
+
     ghost may_stop = { λ s t error. WildMayStop s t error };
 
     fn answer_line<O: Sink>(
@@ -206,6 +208,8 @@ impl<'a, S: Store> Answerer for WildSearcher<'a, S> {
     ghost after_more = { λ s t u xs ys first more. wild_more s t u xs ys first more };
 
     ghost same_reply = { λ s t xs by after answers. wild_later s t xs by after answers };
+
+    ghost same_prints = { λ s t xs question before now after printed. wild_printed s t xs question before now after printed };
 
     ghost stops_later = { λ s t u xs error after stops. wild_stop s t u xs error after stops };
 }

@@ -6,7 +6,7 @@ use Rattle.mg_dev.specs.Streams.{GrewByPrefix}
 use Rattle.mg_dev.specs.declared.part.Part.{Part}
 use Rattle.mg_dev.specs.declared.part.Part.TheVariants as part
 use Rattle.mg_dev.specs.declared.fault.Fault.{Fault}
-use Rattle.mg_dev.specs.declared.fault.Fault.TheVariants.{Usage, Memory}
+use Rattle.mg_dev.specs.declared.fault.Fault.TheVariants.{Usage, ReadFault, Memory}
 use Rattle.mg_dev.specs.declared.status.Status.{Status}
 use Rattle.mg_dev.specs.declared.status.Status.TheVariants.{Done, Stopped}
 use Rattle.mg_defs.specs.CodedText.{TextCode}
@@ -55,6 +55,9 @@ module _ (run : Run) (stops : Stops run Memory) (store : run.store_now ≡ run.s
   not_usage : Stops run Usage → ⊥
   not_usage is = let bad : Stopped Memory ≡ Stopped Usage = sym stops ∙ is in cc
 
+  not_read : Stops run ReadFault → ⊥
+  not_read is = let bad : Stopped Memory ≡ Stopped ReadFault = sym stops ∙ is in cc
+
   silent : SaysNothing run
   silent = ap (λ s. s.written) out
 
@@ -80,6 +83,7 @@ module _ (run : Run) (stops : Stops run Memory) (store : run.store_now ≡ run.s
     within = λ given some is. absurd (not_done is);
     prefix = λ told given some. prefix (session (bytes_at run.store.files n) given);
     in_turn = λ told. none_in_turn Commands (reply (bytes_at run.store.files n)) (ap (λ s. s.left) input) silent;
+    broken = λ told is given some. absurd (not_read is);
     silent = λ is. silent;
     silent_large = λ size most is. silent;
     cause = caused (ScanStops n (StoreFailed run) (InputFailed run) (OutputFailed run) run.store.files run.input.left) tt;
@@ -108,6 +112,7 @@ module _ (run : Run) (stops : Stops run Memory) (store : run.store_now ≡ run.s
     within = λ given some is. absurd (not_done is);
     prefix = λ c given stands some. prefix (text c given);
     in_turn = λ c stands. none_in_turn hearing (reply c) (ap (λ s. s.left) input) silent;
+    broken = λ c given stands some is. absurd (not_read is);
     silent = λ fault first is. silent;
     untouched = λ fault first is. ap (λ s. s.left) input;
     cause = caused (serves.ServeStops IsCounted n (StoreFailed run) (InputFailed run) (OutputFailed run) run.store.files run.input.left) tt;
@@ -123,6 +128,8 @@ module _ (run : Run) (stops : Stops run Memory) (store : run.store_now ≡ run.s
       allowed = record { post = rw (same_reads part.Post) (omega arith); skip = rw (same_reads part.Skip) (omega arith); weights = rw (same_reads part.Weights) (omega arith) };
       text = rw (same_reads part.Text) (omega arith);
     });
+    printed = λ given told some is. absurd (not_done is);
+    answered_broken = λ given told some is. absurd (not_read is);
     complete = λ c given stands some short no_store no_input no_output. inr stops;
     texts_unread = λ given some asks p is. same_reads p;
   }
@@ -131,6 +138,8 @@ module _ (run : Run) (stops : Stops run Memory) (store : run.store_now ≡ run.s
   phrased n = record {
     served = served phrase_session Questions (λ c now. phrase_reply c) ReadsPhrases NeverRead serves.CountsNone n (λ code c given.
         record { post = rw (same_reads part.Post) (omega arith); text = rw (same_reads part.Text) (omega arith) });
+    printed = λ given told some is. absurd (not_done is);
+    answered_broken = λ given told some is. absurd (not_read is);
     complete = λ c given stands some short no_store no_input no_output. inr stops;
   }
 

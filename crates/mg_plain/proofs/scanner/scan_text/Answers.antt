@@ -1,7 +1,7 @@
 use Rattle.std.proofs.Common.{refl}
 use Rattle.mg_dev.specs.StreamLaws.{grew_nothing}
-use Rattle.mg_reply.proofs.CallerLemmas.{none_in_turn, printed_in_turn}
-use Rattle.mg_plain.proofs.LoadLaws.{session_over, turns_over}
+use Rattle.mg_reply.proofs.CallerLemmas.{none_in_turn, printed_in_turn, read_failed}
+use Rattle.mg_plain.proofs.LoadLaws.{broken_over, not_read, session_over, turns_over}
 use Rattle.mg_plain.proofs.scanner.scan_text.Goals as goal
 
 pub returns-in-Err-clause-prefix : goal.returns-in-Err-clause-prefix
@@ -29,3 +29,10 @@ returns-in-Ok-serve_lines-clause-in_turn g c = λ told.
 pub returns-clause-in_turn : goal.returns-clause-in_turn
 returns-clause-in_turn g c = λ told.
     turns_over _ _ _ _ (c.in-Ok.ensures.content told) (printed_in_turn (c.in-Err-serve_lines.ensures.in_turn _ refl))
+
+pub returns-in-Err-clause-broken : goal.returns-in-Err-clause-broken
+returns-in-Err-clause-broken g c = λ told is given left. not_read _ _ _ _ _ c.in-Err.ensures.cause is
+
+pub returns-clause-broken : goal.returns-clause-broken
+returns-clause-broken g c = rw c.fault_of.ensures (λ told is given left.
+    broken_over _ _ _ _ given _ _ _ (c.in-Ok.ensures.content told) (c.in-Err-serve_lines.ensures.broken _ refl (read_failed _ is) given left))

@@ -1,14 +1,14 @@
-use Rattle.std.proofs.Common.{arith, refl, sym, ◌∙◌, None}
-use Rattle.mg_reply.specs.Served.{silent}
+use Rattle.std.proofs.Common.{arith, refl, sym, ◌∙◌}
 use Rattle.mg_dev.specs.StreamLaws.{prepended-nil}
 use Rattle.mg_defs.proofs.SessionLaws.{gives_long}
-use Rattle.mg_reply.proofs.ServedLaws.{none_appended, served_start, served_line, served_part, served_some, served_asked, served_all, answered_gives, answered_quits, answered_part, answered_asked, all_grew, counted_start, counted_line, counted_past, counted_all, counted_quit, left_at_end, left_at_quit, goes_long, quit_is, cut_short, turn_rests, turn_long, turn_answers, ahead_broken, ahead_past, ahead_none}
+use Rattle.mg_reply.proofs.ServedLaws.{served_start, served_line, served_part, served_some, served_all, served_broken, answered_gives, answered_quits, answered_part, all_grew, counted_start, counted_line, counted_past, counted_all, counted_quit, left_at_end, left_at_quit, long_stays, quit_is, cut_short, turn_rests, turn_long, turn_answers, ahead_broken, ahead_past, ahead_none}
+use Rattle.mg_reply.proofs.PrintedLaws.{goes_long, goes_short, last_asked, lines_all, lines_asked, lines_broken, lines_line, lines_quit, lines_start, rule_back}
 use Rattle.mg_reply.proofs.serve.serve_lines.Goals as goal
 
 pub lines-init : goal.lines-init
 lines-init g c = rw c.new-reader.ensures (record {
   fits = c.requires;
-  asked = rw (prepended-nil, c.start-now.ensures) (served_start _ _ _ _ _ _ (g.met.A.Answerer.after_none (g.A.Answerer.state c.args.answerer.now c.args.dev.now)));
+  printed = rw (prepended-nil, c.start-now.ensures) (lines_start _ _ _ _ _ _ (g.met.A.Answerer.after_none (g.A.Answerer.state c.args.answerer.now c.args.dev.now)));
   served = λ reply answers. rw (prepended-nil, c.start-now.ensures) (served_start _ _ _ _ _ _ (g.met.A.Answerer.after_none (g.A.Answerer.state c.args.answerer.now c.args.dev.now)));
   counted = rw prepended-nil (counted_start _);
   used = omega arith;
@@ -20,13 +20,13 @@ pub returns-in-Err-Read-clause-prefix : goal.returns-in-Err-Read-clause-prefix
 returns-in-Err-Read-clause-prefix g c = λ reply answers all told. served_some (c.lines.invariant.served reply answers) all told
 
 pub returns-in-Err-Read-clause-answered : goal.returns-in-Err-Read-clause-answered
-returns-in-Err-Read-clause-answered g c = served_asked c.lines.invariant.asked
+returns-in-Err-Read-clause-answered g c = lines_asked c.lines.invariant.printed
 
 pub returns-in-Err-TooMuch-clause-prefix : goal.returns-in-Err-TooMuch-clause-prefix
 returns-in-Err-TooMuch-clause-prefix g c = λ reply answers all told. served_some (c.lines.invariant.served reply answers) all told
 
 pub returns-in-Err-TooMuch-clause-answered : goal.returns-in-Err-TooMuch-clause-answered
-returns-in-Err-TooMuch-clause-answered g c = served_asked c.lines.invariant.asked
+returns-in-Err-TooMuch-clause-answered g c = lines_asked c.lines.invariant.printed
 
 pub returns-in-Err-TooMuch-clause-cause : goal.returns-in-Err-TooMuch-clause-cause
 returns-in-Err-TooMuch-clause-cause g c = λ all told.
@@ -52,18 +52,18 @@ returns-in-End-clause-within g c = λ all told.
     counted_all _ _ _ c.lines.invariant.counted line.0 c.lines.invariant.used all told
 
 pub returns-in-End-clause-answered : goal.returns-in-End-clause-answered
-returns-in-End-clause-answered g c = served_asked c.lines.invariant.asked
+returns-in-End-clause-answered g c = lines_asked c.lines.invariant.printed
 
 pub lines-preserved-in-Ok-put_too_long : goal.lines-preserved-in-Ok-put_too_long
 lines-preserved-in-Ok-put_too_long g c =
     let line = rw c.in-TooLong.is at c.in-Ok.ensures.line in
     record {
       fits = c.lines.invariant.fits;
-      asked = served_line g.met.A.Answerer.after_more c.lines.invariant.asked line.2
-          (gives_long _ _ _ line.0 line.3) (g.met.A.Answerer.after_none (g.A.Answerer.state c.lines.answerer c.lines.dev)) (none_appended _);
+      printed = lines_line g.met.A.Answerer.after_more c.lines.invariant.printed line.2
+          (goes_long _ _ _ line.3 c.in-Ok-put_too_long.ensures.content) (g.met.A.Answerer.after_none (g.A.Answerer.state c.lines.answerer c.lines.dev));
       served = λ reply answers. served_line g.met.A.Answerer.after_more (c.lines.invariant.served reply answers) line.2
           (gives_long _ _ _ line.0 line.3) (g.met.A.Answerer.after_none (g.A.Answerer.state c.lines.answerer c.lines.dev)) c.in-Ok-put_too_long.ensures.content;
-      counted = counted_line _ _ _ _ _ _ _ c.lines.invariant.counted line.2 (goes_long line.0 line.3) line.4;
+      counted = counted_line _ _ _ _ _ _ _ c.lines.invariant.counted line.2 (long_stays line.0 line.3) line.4;
       used = line.5;
       faults = omega arith;
       out_faults = omega arith;
@@ -75,7 +75,7 @@ returns-in-Err-clause-prefix g c = λ reply answers all told.
     served_part (c.lines.invariant.served reply answers) line.2 (gives_long _ _ _ line.0 line.3) c.in-Err.ensures.content all told
 
 pub returns-in-Err-clause-answered : goal.returns-in-Err-clause-answered
-returns-in-Err-clause-answered g c = served_asked c.lines.invariant.asked
+returns-in-Err-clause-answered g c = lines_asked c.lines.invariant.printed
 
 pub serve_line-requires-clause-short : goal.serve_line-requires-clause-short
 serve_line-requires-clause-short g c =
@@ -109,17 +109,17 @@ returns-in-Ok-true-clause-within g c = λ all told.
 pub returns-in-Ok-true-clause-answered : goal.returns-in-Ok-true-clause-answered
 returns-in-Ok-true-clause-answered g c =
     let line = rw c.in-Line.is at c.in-Ok.ensures.line in
-    answered_asked g.met.A.Answerer.after_more c.lines.invariant.asked line.1
-    (record { same = refl; cut_is = c.line.ensures; short = line.2 }) c.in-Ok-true.ensures.after
+    last_asked g.met.A.Answerer.after_more c.lines.invariant.printed line.1 line.2 c.line.ensures c.in-Ok-true.ensures.after
 
 pub lines-preserved : goal.lines-preserved
 lines-preserved g c =
     let line = rw c.in-Line.is at c.in-Ok.ensures.line in
     record {
       fits = c.in-Ok-false.ensures.fits;
-      asked = rw c.in-Ok-false.ensures.settings (served_line g.met.A.Answerer.after_more c.lines.invariant.asked line.1
-          (answered_gives _ silent silent _ _ _ (record { same = refl; cut_is = c.line.ensures; short = line.2 }) (sym c.in-Ok-false.ensures.stops ∙ c.in-Ok-false.field-0-test))
-          c.in-Ok-false.ensures.after (none_appended _));
+      printed = rw c.in-Ok-false.ensures.settings (lines_line g.met.A.Answerer.after_more c.lines.invariant.printed line.1
+          (goes_short _ _ _ _ line.2 c.line.ensures (sym c.in-Ok-false.ensures.stops ∙ c.in-Ok-false.field-0-test)
+          (rule_back _ _ _ _ _ (λ question w v. g.met.A.Answerer.same_prints _ _ _ question w v c.lines.invariant.printed.after) c.in-Ok-false.ensures.printed))
+          c.in-Ok-false.ensures.after);
       served = λ reply answers. rw c.in-Ok-false.ensures.settings (served_line g.met.A.Answerer.after_more (c.lines.invariant.served reply answers) line.1
           (answered_gives _ reply reply _ _ _ (record { same = refl; cut_is = c.line.ensures; short = line.2 }) (sym c.in-Ok-false.ensures.stops ∙ c.in-Ok-false.field-0-test))
           c.in-Ok-false.ensures.after (c.in-Ok-false.ensures.text reply (g.met.A.Answerer.same_reply _ _ _ reply (c.lines.invariant.served reply answers).after answers)));
@@ -139,8 +139,7 @@ returns-in-Err-serve_line-clause-prefix g c = λ reply answers all told.
 pub returns-in-Err-serve_line-clause-answered : goal.returns-in-Err-serve_line-clause-answered
 returns-in-Err-serve_line-clause-answered g c =
     let line = rw c.in-Line.is at c.in-Ok.ensures.line in
-    answered_asked g.met.A.Answerer.after_more c.lines.invariant.asked line.1
-    (record { same = refl; cut_is = c.line.ensures; short = line.2 }) c.in-Err-serve_line.ensures.after
+    last_asked g.met.A.Answerer.after_more c.lines.invariant.printed line.1 line.2 c.line.ensures c.in-Err-serve_line.ensures.after
 
 pub returns-in-Err-Read-clause-in_turn : goal.returns-in-Err-Read-clause-in_turn
 returns-in-Err-Read-clause-in_turn g c = λ reply answers.
@@ -176,3 +175,24 @@ returns-in-Err-serve_line-clause-in_turn g c = λ reply answers.
     let served = c.lines.invariant.served reply answers in
     turn_answers _ served line.1 c.in-Ok.ensures.few (record { same = refl; cut_is = c.line.ensures; short = line.2 })
     c.in-Err-serve_line.ensures.after (c.in-Err-serve_line.ensures.text reply (g.met.A.Answerer.same_reply _ _ _ reply served.after answers))
+
+pub returns-in-End-clause-printed : goal.returns-in-End-clause-printed
+returns-in-End-clause-printed g c = λ all told.
+    let line = rw c.in-End.is at c.in-Ok.ensures.line in
+    lines_all c.lines.invariant.printed line.0 all told
+
+pub returns-in-Ok-true-clause-printed : goal.returns-in-Ok-true-clause-printed
+returns-in-Ok-true-clause-printed g c = λ all told.
+    let line = rw c.in-Line.is at c.in-Ok.ensures.line in
+    lines_quit _ c.lines.invariant.printed line.1 line.2 c.line.ensures (sym c.in-Ok-true.ensures.stops ∙ c.in-Ok-true.field-0-test)
+    (rule_back _ _ _ _ _ (λ question w v. g.met.A.Answerer.same_prints _ _ _ question w v c.lines.invariant.printed.after) c.in-Ok-true.ensures.printed) all told
+
+pub returns-in-Err-Read-clause-broken : goal.returns-in-Err-Read-clause-broken
+returns-in-Err-Read-clause-broken g c = λ reply answers is all told.
+    served_broken _ _ (c.lines.invariant.served reply answers) (rw c.in-Err-Read.field-0-is at c.in-Err-Read.ensures.line)
+    ((rw c.in-Err-Read.field-0-is at c.in-Err-Read.ensures.broken) refl) all told
+
+pub returns-in-Err-Read-clause-answered_broken : goal.returns-in-Err-Read-clause-answered_broken
+returns-in-Err-Read-clause-answered_broken g c = λ is all told.
+    lines_broken _ _ c.lines.invariant.printed (rw c.in-Err-Read.field-0-is at c.in-Err-Read.ensures.line)
+    ((rw c.in-Err-Read.field-0-is at c.in-Err-Read.ensures.broken) refl) all told

@@ -14,7 +14,7 @@ returns-clause-queried g c = λ err err_now.
     queried _ _ _
     (state_of (g.S.Store.files c.open.new.store) (g.S.Store.reads c.open.new.store) (g.S.Store.faults c.open.new.store) c.in-Ok-open.searcher)
     (state_of (g.S.Store.files c.answer_lines.new.dev) (g.S.Store.reads c.answer_lines.new.dev) (g.S.Store.faults c.answer_lines.new.dev) c.answer_lines.ensures.served.0)
-    _ _ _ _ _ _ c.in-Ok.head c.answer_lines.result c.in-Ok.ensures.opened c.in-Ok-open.ensures.opened c.answer_lines.ensures.served.1
+    _ _ _ _ _ _ c.in-Ok.head c.answer_lines.result c.in-Ok.ensures.opened c.in-Ok-open.ensures.opened c.in-Ok-open.ensures.parts c.answer_lines.ensures.served.1
 
 pub returns-in-Err-clause-later : goal.returns-in-Err-clause-later
 returns-in-Err-clause-later g c = c.in-Err.ensures.opened.faults

@@ -19,3 +19,6 @@ returns-clause-opened g c = parts_opened c.args.base.now (store_at g.S.Store.fil
 pub returns-clause-fits : goal.returns-clause-fits
 returns-clause-fits g c = subst (λ (o : Opened). SearchFits (g.S.Store.files c.load.new.store) o) (sym c.new-searcher.ensures)
     (opened_fits c.args.base.now _ c.args.head.now c.in-Ok.lex c.in-Ok.ensures.fits c.requires.words c.requires.others)
+
+pub returns-clause-parts : goal.returns-clause-parts
+returns-clause-parts g c = record { lex = c.in-Ok.lex; reader = c.in-Ok.ensures.lex; opened_is = c.new-searcher.ensures }

@@ -3,7 +3,7 @@ use Rattle.mg_defs.specs.declared.session.Settings.{Settings}
 use Rattle.mg_dev.specs.Streams.{AfterPut}
 use Rattle.mg_session.specs.WildSearching.{wild_state}
 use Rattle.mg_session.proofs.ReplyLaws.{line_written}
-use Rattle.mg_session.proofs.WildReplyLaws.{line_part}
+use Rattle.mg_session.proofs.WildReplyLaws.{line_part, line_told}
 use Rattle.mg_session.proofs.wild_searcher.WildSearcherAnswerer.answer_line.Goals as goal
 
 pub returns-clause-content : goal.returns-clause-content
@@ -30,3 +30,6 @@ returns-clause-later g c = c.answer_question.ensures.stepped.cause.output
 
 pub returns-clause-write : goal.returns-clause-write
 returns-clause-write g c = line_written _ _ _ _ _ c.answer_question.ensures.stepped.cause
+
+pub returns-clause-printed : goal.returns-clause-printed
+returns-clause-printed g c = line_told _ (λ collection over. c.answer_question.ensures.replied collection over)
