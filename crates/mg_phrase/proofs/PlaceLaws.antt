@@ -1,12 +1,11 @@
 -- Laws of flags that go from one word of a document to the next.
-use Rattle.std.proofs.Common.{◌≡◌, ℕ, zero, suc, ◌+◌, ◌≤◌, if◌then◌else◌, Bool, true, false, ◌&&◌, ◌==◌, List, [], ◌∷◌, ◌++◌, length, take, drop, map, get_or, refl, sym, ◌∙◌, ap, arith, zero-add, inl, inr}
+use Rattle.std.proofs.Common.{◌≡◌, ℕ, zero, suc, ◌+◌, ◌≤◌, if◌then◌else◌, Bool, true, false, ◌&&◌, List, [], ◌∷◌, ◌++◌, length, take, drop, get_or, refl, sym, ◌∙◌, ap, arith, zero-add, inl, inr}
 use Rattle.std.proofs.Math.ListN.{replicate}
-use Rattle.std.proofs.lemmas.Bool.{cases_Bool, ne_eqb, false≢true}
+use Rattle.std.proofs.lemmas.Bool.{cases_Bool}
 use Rattle.std.proofs.lemmas.List.{take-append-drop}
 use Rattle.mg_defs.specs.OnePass.{carry_on, complete, place_count_from}
-use Rattle.mg_defs.specs.Parse.{Pair, parse}
 use Rattle.mg_defs.specs.Phrases.{one_if, phrase_places}
-use Rattle.mg_defs.specs.Terms.{folded, same_term, is_empty, terms, terms_of_words}
+use Rattle.mg_defs.specs.Terms.{folded, same_term, terms}
 use Rattle.mg_laws.proofs.OnePassLaws.{one_pass}
 use Rattle.mg_phrase.specs.Flags.{to_come}
 
@@ -63,22 +62,7 @@ none_set [] n = refl
 none_set (w ∷ ws) zero = refl
 none_set (w ∷ ws) (suc n) = none_set ws n
 
--- ---- one pair after another
-
-unfoldable pub terms_in : List Pair → List (List ℕ)
-terms_in pairs = terms_of_words (map (λ (p : Pair). p.word) pairs)
-
-empty_test : (w : List ℕ) → is_empty w ≡ (length w == 0)
-empty_test [] = refl
-empty_test (b ∷ w) = sym (ne_eqb (length (b ∷ w)) 0 (λ e. omega (arith, e)))
-
-in-word : (p : Pair) (pairs : List Pair) → is_empty p.word ≡ false → terms_in (p ∷ pairs) ≡ folded p.word ∷ terms_in pairs
-unfolding terms_in
-in-word p pairs some = rw some refl
-
-in-empty : (p : Pair) (pairs : List Pair) → is_empty p.word ≡ true → terms_in (p ∷ pairs) ≡ terms_in pairs
-unfolding terms_in
-in-empty p pairs none = rw none refl
+-- ---- one word after another
 
 pub counts_as : (b : Bool) → b ≡ true → one_if b ≡ 1
 counts_as b e = rw e refl
@@ -95,39 +79,6 @@ pub from_none : (phrase : List (List ℕ)) (begun : List (List (List ℕ))) → 
 unfolding place_count_from
 from_none phrase begun = refl
 
--- the phrase was carried on by a word that is not empty
-pub word_taken : (phrase : List (List ℕ)) (begun : List (List (List ℕ))) (places : ℕ) {now : List (List (List ℕ))} {p : Pair} {pairs rest : List Pair}
-    {more total : ℕ} {none : Bool} (done : Bool) → pairs ≡ p ∷ rest → none ≡ (length p.word == 0) → none ≡ false → now ≡ carry_on (folded p.word) (phrase ∷ begun) →
-    one_if done ≡ complete now → more ≡ places + one_if done → places + place_count_from phrase begun (terms_in pairs) ≡ total →
-    more + place_count_from phrase now (terms_in rest) ≡ total
-word_taken phrase begun places {now} {p} {pairs} {rest} done e test some carried ends counted sum =
-    let step : place_count_from phrase begun (terms_in pairs) ≡ complete now + place_count_from phrase now (terms_in rest) =
-    ap (λ ps. place_count_from phrase begun (terms_in ps)) e ∙ ap (place_count_from phrase begun) (in-word p rest (empty_test p.word ∙ sym test ∙ some))
-    ∙ from_word phrase begun now p.word (terms_in rest) carried in
-    omega (arith, step, ends, counted, sum)
-
-pub word_passed : (phrase : List (List ℕ)) (begun : List (List (List ℕ))) (places : ℕ) {p : Pair} {pairs rest : List Pair} {total : ℕ} {none : Bool} →
-    pairs ≡ p ∷ rest → none ≡ (length p.word == 0) → none ≡ true → places + place_count_from phrase begun (terms_in pairs) ≡ total →
-    places + place_count_from phrase begun (terms_in rest) ≡ total
-word_passed phrase begun places {p} {pairs} {rest} e test is_none sum =
-    let step : place_count_from phrase begun (terms_in pairs) ≡ place_count_from phrase begun (terms_in rest) =
-    ap (λ ps. place_count_from phrase begun (terms_in ps)) e ∙ ap (place_count_from phrase begun)
-    (in-empty p rest (empty_test p.word ∙ sym test ∙ is_none)) in
-    omega (arith, step, sum)
-
-all_in : (doc : List ℕ) → terms_in (parse doc) ≡ terms doc
-unfolding terms_in
-all_in doc = refl
-
-whole_places : (phrase : List (List ℕ)) (doc : List ℕ) → (length phrase ≡ 0 → ⊥) → place_count_from phrase [] (terms doc) ≡ phrase_places phrase doc
-whole_places [] doc some = absurd (some refl)
-whole_places (w ∷ ws) doc some = one_pass w ws doc
-
-pub none_taken : (phrase : List (List ℕ)) (doc : List ℕ) (pairs : List Pair) (begun : List (List (List ℕ))) → (length phrase ≡ 0 → ⊥) → pairs ≡ parse doc →
-    begun ≡ [] → 0 + place_count_from phrase begun (terms_in pairs) ≡ phrase_places phrase doc
-none_taken phrase doc pairs begun some e none = zero-add _ ∙ ap (λ b. place_count_from phrase b (terms_in pairs)) none
-    ∙ ap (λ ps. place_count_from phrase [] (terms_in ps)) e ∙ ap (place_count_from phrase []) (all_in doc) ∙ whole_places phrase doc some
-
 -- a phrase without words
 counts_nothing : (ts : List (List ℕ)) → place_count_from [] [] ts ≡ 0
 unfolding place_count_from
@@ -138,28 +89,3 @@ pub whole_count : (phrase : List (List ℕ)) (doc : List ℕ) → place_count_fr
 unfolding phrase_places
 whole_count [] doc = counts_nothing (terms doc)
 whole_count (w ∷ ws) doc = one_pass w ws doc
-
-none_in : terms_in [] ≡ []
-unfolding terms_in
-none_in = refl
-
-pub all_taken : (phrase : List (List ℕ)) (begun : List (List (List ℕ))) {pairs : List Pair} {places total : ℕ} → pairs ≡ [] →
-    places + place_count_from phrase begun (terms_in pairs) ≡ total → places ≡ total
-all_taken phrase begun {pairs} e sum =
-    let step : place_count_from phrase begun (terms_in pairs) ≡ 0 = ap (λ ps. place_count_from phrase begun (terms_in ps)) e ∙ ap (place_count_from phrase begun) none_in ∙ from_none phrase begun in
-    omega (arith, step, sum)
-
-size_is : (phrase : List (List ℕ)) (none : Bool) → none ≡ (length phrase == 0) → none ≡ true → length phrase ≡ 0
-size_is [] none e is = refl
-size_is (w ∷ ws) none e is = absurd (false≢true (sym (ne_eqb (length (w ∷ ws)) 0 (λ n. omega (arith, n))) ∙ sym e ∙ is))
-
--- a phrase without words
-pub no_words : (phrase : List (List ℕ)) (doc : List ℕ) (none : Bool) → none ≡ (length phrase == 0) → none ≡ true → 0 ≡ phrase_places phrase doc
-unfolding phrase_places
-no_words [] doc none e is = refl
-no_words (w ∷ ws) doc none e is = absurd (omega (arith, size_is (w ∷ ws) none e is))
-
--- and one with some
-pub some_words : (phrase same : List (List ℕ)) (none : Bool) → same ≡ phrase → none ≡ (length phrase == 0) → none ≡ false → length same ≡ 0 → ⊥
-some_words [] same none is e some size = false≢true (sym some ∙ e)
-some_words (w ∷ ws) same none is e some size = omega (arith, ap length is, size)

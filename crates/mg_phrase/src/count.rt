@@ -10,8 +10,7 @@ use std::marker::Model;
 
 /// In how many places a phrase stood among the words that were taken, and where it may go on.
 ///
-/// What goes from word to word is a flag for each word of the phrase, as in a document that is searched
-/// by its bytes.
+/// What goes from word to word is a flag for each word of the phrase.
 #[derive(Drop)]
 pub struct PhraseCount<'p> {
     phrase: &'p [Term],

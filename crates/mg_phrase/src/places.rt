@@ -1,12 +1,12 @@
-//! The places of a phrase in a document.
+//! Where a phrase has begun, from one word of a document to the next.
 ghost use Rattle.std.specs.Prelude.{◌≡◌, ◌≤◌, ◌<◌, ◌∷◌, length};
 ghost use Rattle.mg_defs.specs.OnePass.{carry_on as carry_on_spec, complete};
-ghost use Rattle.mg_defs.specs.Phrases.{one_if, phrase_places as phrase_places_spec};
+ghost use Rattle.mg_defs.specs.Phrases.{one_if};
 ghost use Rattle.mg_defs.specs.Terms.{folded};
 ghost use Rattle.mg_phrase.specs.Flags.{to_come};
 
-use mg_parse::{Pairs, is_term};
-use mg_query::{Term, Terms};
+use mg_parse::is_term;
+use mg_query::Term;
 
 /// The most words of a phrase.
 pub(crate) const MOST_WORDS: usize = 64;
@@ -29,29 +29,4 @@ pub(crate) fn carry_on(begun: &mut [bool; MOST_WORDS], phrase: &[Term], word: &[
         begun[i] = goes_on;
     }
     begun[phrase.len() - 1]
-}
-
-/// At how many words of a document a phrase begins that stands there whole; none for a phrase without
-/// words. Places may overlap.
-///
-/// The document is read once, and takes time by its bytes; a word of it is compared with each word of
-/// the phrase before which the phrase stands, mostly with the first alone.
-pub fn phrase_places(phrase: &Terms, doc: &[u8]) -> u64
-    requires { length phrase.now ≤ 64 }
-    ensures { result ≡ phrase_places_spec phrase.now doc.now }
-{
-    if phrase.is_empty() {
-        return 0;
-    }
-    let words = phrase.as_slice();
-    let mut begun = [false; MOST_WORDS];
-    let mut places = 0u64;
-    for pair in Pairs::new(doc) {
-        if !pair.word.is_empty() {
-            if carry_on(&mut begun, words, pair.word) {
-                places += 1;
-            }
-        }
-    }
-    places
 }
