@@ -298,6 +298,21 @@ fn a_rare_word_reads_two_pages(rt: HostRuntime) -> Result<(), Fail> {
     Ok(())
 }
 
+static COMMON: Row = Row {
+    line: b"x",
+    infos: &[X],
+    all: 200_000,
+    found: (200_000, 20_000_100_000),
+};
+
+#[test]
+fn a_common_word_reads_each_page_once(rt: HostRuntime) -> Result<(), Fail> {
+    // The list has 3,125 blocks, of 400,000 bits.
+    let (given, pages) = rare_counted(rt.alloc(), &COMMON)?;
+    assert!(rt; given && pages == 13);
+    Ok(())
+}
+
 static FOUR_PLACES: Row = Row {
     line: b"(a | b) & !e | c",
     infos: &[A, B, E, C],
