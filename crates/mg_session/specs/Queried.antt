@@ -19,7 +19,8 @@ use Rattle.mg_dev.specs.Runs.{Run, StoreFailed, InputFailed, OutputFailed, Stops
 
 -- of each collection that the files of this name stand for, and for each input that the source tells
 pub record Queried (base : List ℕ) (run : Run) : Type 0 where
-  -- it prints the session; of the lists and of the text it reads no more pages than the query lines allow, and some parts never
+  -- it prints the session; of the lists, the weights and the text it reads no more pages than the query lines allow, and some
+  -- parts never
   pub served : Served session Commands reply ReadsWithin NeverRead CountsNone base run
   -- status 0, whatever the files hold: each line was answered, and what is printed is decided by lists that stand
   pub printed : (given : List ℕ) → IsSome run.store.files → run.input.left ≡ Some given → run.status ≡ Done →
