@@ -1,5 +1,6 @@
 -- A list that is added posting by posting is added whole.
 use Rattle.std.proofs.Common.{arith, suc, ◌≡◌, ◌+◌, ◌*◌, ◌<◌, ℕ, List, [], ◌∷◌, ◌++◌, length, slice_index_or, Some, refl, sym, ◌∙◌, ap, subst, length-append}
+use Rattle.std.proofs.lemmas.List.{get_or_default}
 use Rattle.mg_defs.specs.declared.Posting.{Posting}
 use Rattle.mg_defs.specs.Lists.{last_doc}
 use Rattle.mg_defs.specs.Weights.{weight_in_doc, weight_of_term}
@@ -8,7 +9,6 @@ use Rattle.mg_layout.specs.declared.term_info.TermInfo.{TermInfo}
 use Rattle.mg_post.specs.Cursor.{Cursoring, GoesToNext, IsFrom, count_behind, next_doc}
 use Rattle.mg_rank.specs.Added.{AddedTo, AddsWhole, AreRising, with_all}
 use Rattle.mg_rank.specs.Sums.{with_more}
-use Rattle.mg_rank.proofs.EndLaws.{any_default}
 
 -- so many postings of the list were added, and the others are left behind the cursor's current one
 pub record Adding (all : ℕ) (info : TermInfo) (last : ℕ) (old new : List (ℕ × ℕ)) (c : Cursoring) : Type 0 where
@@ -58,5 +58,5 @@ pub added_next : (all : ℕ) (terms : List TermInfo) (k : ℕ) (d : TermInfo) (b
     AddsWhole all (slice_index_or terms k d) before sums → AddedTo all terms (k + 1) sums
 added_next all terms k d before sums lt added whole =
     let e : suc k ≡ k + 1 = omega arith in
-    let more : AddedTo all terms (suc k) sums = (before, added, λ info is. subst (λ i. AddsWhole all i before sums) (any_default terms k d info lt ∙ is) whole) in
+    let more : AddedTo all terms (suc k) sums = (before, added, λ info is. subst (λ i. AddsWhole all i before sums) (get_or_default terms k d info lt ∙ is) whole) in
     subst (λ n. AddedTo all terms n sums) e more

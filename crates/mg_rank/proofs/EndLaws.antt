@@ -1,9 +1,10 @@
 -- From the lists of all terms to the answer.
-use Rattle.std.proofs.Common.{arith, ◌≡◌, ◌≢◌, ◌+◌, ◌≤◌, ◌<◌, ℕ, zero, suc, Bool, List, [], ◌∷◌, ◌++◌, length, map, filter, take, get_or, sum_by, refl, sym, ap, subst, ◌∙◌, slice_index_or, Err, inl, inr}
+use Rattle.std.proofs.Common.{arith, ◌≡◌, ◌≢◌, ◌+◌, ◌≤◌, ◌<◌, ℕ, Bool, List, [], ◌∷◌, ◌++◌, length, map, filter, take, get_or, sum_by, refl, sym, ap, subst}
+use Rattle.std.proofs.Common.{◌∙◌, slice_index_or, Err}
 use Rattle.std.specs.List.{All, enumerate_from, list_any}
-use Rattle.std.proofs.lemmas.List.{take_more, take_all}
-use Rattle.std.proofs.lemmas.List.Sums.{sum_by-append, sum_by-cons, sum_by-take-le}
-use Rattle.std.proofs.lemmas.Bool.{cases_Bool}
+use Rattle.std.proofs.lemmas.List.{get_or_default, length-map, take_more, take_all}
+use Rattle.std.proofs.lemmas.List.FromFn.{length-enumerate_from}
+use Rattle.std.proofs.lemmas.List.Sums.{count_by-le-length, length-filter, sum_by-append, sum_by-cons, sum_by-take-le}
 use Rattle.std.proofs.lemmas.List.Elements.{All-nil, All-cons, All-head, All-tail}
 use Rattle.mg_dev.specs.Files.{Reads}
 use Rattle.mg_dev.specs.PartCauses.{HasPartCause}
@@ -36,35 +37,17 @@ pub sums_next : (collection : List ℕ) (ts : List (List ℕ)) (k : ℕ) (sums :
     SumsFor collection (take k ts ++ get_or ts k [] ∷ []) sums → SumsFor collection (take (k + 1) ts) sums
 sums_next collection ts k sums lt s = subst (λ us. SumsFor collection us sums) (sym (take_more ts k [] lt)) s
 
-pub any_default : (infos : List TermInfo) (k : ℕ) (d e : TermInfo) → k < length infos → slice_index_or infos k d ≡ slice_index_or infos k e
-any_default [] k d e lt = absurd (omega (arith, lt))
-any_default (x ∷ infos) zero d e lt = refl
-any_default (x ∷ infos) (suc k) d e lt = any_default infos k d e (omega (arith, lt))
-
 pub info_at : (collection : List ℕ) (ts : List (List ℕ)) (infos : List TermInfo) (k : ℕ) (d : TermInfo) → AreTold collection ts infos → k < length infos →
     (k < length ts) × IsInfoOf collection (get_or ts k []) (slice_index_or infos k d)
 info_at collection ts infos k d told lt =
     let l : k < length ts = omega (arith, lt, told.size) in
-    (l, told.each k (slice_index_or infos k d) l (any_default infos k (slice_index_or infos k d) d lt))
-
-pages_more : (collection : List ℕ) (ts : List (List ℕ)) (k : ℕ) → k < length ts → sum_by (list_pages collection) (take (k + 1) ts)
-    ≡ sum_by (list_pages collection) (take k ts) + list_pages collection (get_or ts k [])
-pages_more collection ts k lt = omega (
-  arith,
-  ap (sum_by (list_pages collection)) (take_more ts k [] lt),
-  sum_by-append (list_pages collection) (take k ts) (get_or ts k [] ∷ []),
-  sum_by-cons (list_pages collection) (get_or ts k []) [],
-)
-
-pub post_next : (collection : List ℕ) (ts : List (List ℕ)) (k before mid now : ℕ) → k < length ts → mid ≤ before + sum_by (list_pages collection) (take k ts) →
-    now ≤ mid + list_pages collection (get_or ts k []) → now ≤ before + sum_by (list_pages collection) (take (k + 1) ts)
-post_next collection ts k before mid now lt a b = omega (arith, a, b, pages_more collection ts k lt)
+    (l, told.each k (slice_index_or infos k d) l (get_or_default infos k (slice_index_or infos k d) d lt))
 
 pub post_end : (collection : List ℕ) (ts : List (List ℕ)) (k before now : ℕ) → now ≤ before + sum_by (list_pages collection) (take k ts) → now ≤ before + ranked_bound collection ts
 unfolding ranked_bound
 post_end collection ts k before now a = omega (arith, a, sum_by-take-le (list_pages collection) ts k)
 
--- the same of any bound on each list
+-- any bound on each list
 pub once_next : (f : List ℕ → ℕ) (ts : List (List ℕ)) (k before mid now : ℕ) → k < length ts → mid ≤ before + sum_by f (take k ts) →
     now ≤ mid + f (get_or ts k []) → now ≤ before + sum_by f (take (k + 1) ts)
 once_next f ts k before mid now lt a b =
@@ -96,28 +79,13 @@ skips_end infos k before now a = omega (arith, a, sum_by-take-le list_entries in
 
 -- ---- how many documents
 
-length_numbers : (n : ℕ) (ds : List (List ℕ)) → length (enumerate_from n ds) ≡ length ds
-length_numbers n [] = refl
-length_numbers n (d ∷ ds) = omega (arith, length_numbers (n + 1) ds)
-
-length_map : {X Y : Type 0} (f : X → Y) (xs : List X) → length (map f xs) ≡ length xs
-length_map f [] = refl
-length_map f (x ∷ xs) = omega (arith, length_map f xs)
-
-length_filter : {X : Type 0} (p : X → Bool) (xs : List X) → length (filter p xs) ≤ length xs
-length_filter p [] = omega arith
-length_filter p (x ∷ xs) =
-    elim (cases_Bool (p x)) [
-      | inl is ↦ (let e : filter p (x ∷ xs) ≡ x ∷ filter p xs = rw is refl in omega (arith, ap length e, length_filter p xs))
-      | inr isnt ↦ (let e : filter p (x ∷ xs) ≡ filter p xs = rw isnt refl in omega (arith, ap length e, length_filter p xs))
-    ]
-
 pub hits_few : (collection : List ℕ) (ts : List (List ℕ)) → length (hits_over collection ts) ≤ length (documents collection)
 hits_few collection ts = omega (
   arith,
-  length_map (hit collection ts) (filter (met ts) (enumerate_from 1 (documents collection))),
-  length_filter (met ts) (enumerate_from 1 (documents collection)),
-  length_numbers 1 (documents collection),
+  length-map (filter (met ts) (enumerate_from 1 (documents collection))) (hit collection ts),
+  length-filter (met ts) (enumerate_from 1 (documents collection)),
+  count_by-le-length (met ts) (enumerate_from 1 (documents collection)),
+  length-enumerate_from 1 (documents collection),
 )
   where
     met : List (List ℕ) → ℕ × List ℕ → Bool
@@ -127,7 +95,7 @@ hits_few collection ts = omega (
     hit collection ts d = record { number = d.0; score = score_over collection ts d.1 }
 
 pub counted : (collection : List ℕ) (ts : List (List ℕ)) (all : ℕ) (sums : List (ℕ × ℕ)) → SumsFor collection ts sums → AreWithin all sums → length sums ≡ length (hits_over collection ts)
-counted collection ts all sums s within = sym (length_same (hits_over collection ts) (map (row_of collection) sums) (same_hits collection ts all sums s within) ∙ length_map (row_of collection) sums)
+counted collection ts all sums s within = sym (length_same (hits_over collection ts) (map (row_of collection) sums) (same_hits collection ts all sums s within) ∙ length-map sums (row_of collection))
 
 -- ---- refusals and reads
 

@@ -8,7 +8,7 @@ use Rattle.std.specs.Map.{lookup}
 use Rattle.std.specs.Str.{bytes_eq}
 use Rattle.std.proofs.lemmas.Bool.{cases_Bool, cases_lt, cond_both, eqb-true, eq-eqb, false≢true, or_cases}
 use Rattle.std.proofs.lemmas.Nat.{mul-le}
-use Rattle.std.proofs.lemmas.List.{take_more, take-append-le, take_all, map-append}
+use Rattle.std.proofs.lemmas.List.{get_or-map, length-map, take_more, take-append-le, take_all, map-append}
 use Rattle.std.proofs.lemmas.List.Elements.{All-cons, All-tail}
 use Rattle.std.proofs.lemmas.List.Sorted.{All-permutation}
 use Rattle.std.proofs.lemmas.List.Sums.{sum_by-cons}
@@ -66,20 +66,11 @@ four_part (w ∷ ws) (suc k) lt =
     let e : 4 * suc k ≡ length (four w) + 4 * k = omega (arith, four_long w) in
     ap (λ n. take 4 (drop n (four w ++ flat_map four ws))) e ∙ ap (take 4) (drop-append-add (four w) (flat_map four ws) (4 * k)) ∙ four_part ws k (omega (arith, lt))
 
-weight_got : (ds : List (List ℕ)) (k : ℕ) → k < length ds → get_or (map weight ds) k 0 ≡ weight (get_or ds k [])
-weight_got [] k lt = absurd (omega (arith, lt))
-weight_got (d ∷ ds) zero lt = refl
-weight_got (d ∷ ds) (suc k) lt = weight_got ds k (omega (arith, lt))
-
-length_weights : (ds : List (List ℕ)) → length (map weight ds) ≡ length ds
-length_weights [] = refl
-length_weights (d ∷ ds) = omega (arith, length_weights ds)
-
 pub weight_stands : (collection bytes : List ℕ) (d : ℕ) → bytes ≡ weights_part collection → 1 ≤ d → d ≤ length (documents collection) →
     take 4 (drop (4 * (d - 1)) bytes) ≡ four (weight (document collection d))
 weight_stands collection bytes d stand some le =
     let ds = documents collection in
-    ap (λ b. take 4 (drop (4 * (d - 1)) b)) stand ∙ four_part (map weight ds) (d - 1) (omega (arith, some, le, length_weights ds)) ∙ ap four (weight_got ds (d - 1) (omega (arith, some, le)))
+    ap (λ b. take 4 (drop (4 * (d - 1)) b)) stand ∙ four_part (map weight ds) (d - 1) (omega (arith, some, le, length-map ds weight)) ∙ ap four (get_or-map weight ds (d - 1) [] 0 (omega (arith, some, le)))
 
 -- ---- how great it is
 

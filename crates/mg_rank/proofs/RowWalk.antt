@@ -1,5 +1,6 @@
 -- From the sums to the first rows, as far as the loop has come: what it keeps, and what each way out of it promises.
-use Rattle.std.proofs.Common.{arith, ◌≡◌, ◌+◌, ◌^◌, ◌≤◌, ◌<◌, ℕ, List, [], ◌∷◌, ◌++◌, length, map, take, min, nat_eq, refl, sym, subst, ap, ◌∙◌, Option, Some, None, Ok, Err, slice_index_or, Vec, Global}
+use Rattle.std.proofs.Common.{arith, ◌≡◌, ◌+◌, ◌^◌, ◌≤◌, ◌<◌, ℕ, List, [], ◌∷◌, ◌++◌, length, map, take, min, nat_eq}
+use Rattle.std.proofs.Common.{refl, sym, subst, ap, ◌∙◌, Option, Some, None, Ok, Err, slice_index_or, Vec, Global}
 use Rattle.std.specs.Prelude.{IsSorted}
 use Rattle.std.specs.BinaryHeap.{IsHeap}
 use Rattle.std.specs.List.Sorted.{IsPermutation}

@@ -1,5 +1,5 @@
 -- The sums of documents, as the lists of terms are gone through.
-use Rattle.std.proofs.Common.{arith, ◌≡◌, ◌+◌, ◌-◌, ◌*◌, ◌^◌, ◌≤◌, ◌<◌, ℕ, zero, suc, Bool, true, false, List, [], ◌∷◌, ◌++◌}
+use Rattle.std.proofs.Common.{arith, ◌≡◌, ◌+◌, ◌-◌, ◌*◌, ◌^◌, ◌≤◌, ◌<◌, ℕ, Bool, true, false, List, [], ◌∷◌, ◌++◌}
 use Rattle.std.proofs.Common.{length, get_or, take, drop, refl, sym, ap, subst, ◌∙◌, inl, inr, Some, None, nat_eq, unwrap_or, sum_by, filter, if◌then◌else◌}
 use Rattle.std.specs.Prelude.{◌||◌, nat_lt}
 use Rattle.std.specs.List.{list_any}
@@ -8,6 +8,7 @@ use Rattle.std.proofs.lemmas.Bool.{cases_Bool, cases_lt, cases_eq, eq-eqb, ne_eq
 use Rattle.std.proofs.lemmas.List.Folds.{list_any-append}
 use Rattle.std.proofs.lemmas.List.Elements.{filter-append}
 use Rattle.std.proofs.lemmas.List.Sums.{sum_by-append, sum_by-cons}
+use Rattle.std.proofs.Math.ListN.{get_or-eq_default}
 use Rattle.mg_defs.specs.declared.Posting.{Posting}
 use Rattle.mg_defs.specs.Split.{documents}
 use Rattle.mg_defs.specs.Parse.{parse}
@@ -39,17 +40,12 @@ head_sound all before d (q ∷ ps) p rises is =
           (omega (arith, doc_is, above), omega (arith, doc_is, f.within), omega (arith, freq_is, f.some)))
     ]
 
-pub get_past : (ds : List (List ℕ)) (k : ℕ) → length ds ≤ k → get_or ds k [] ≡ []
-get_past [] k le = refl
-get_past (d ∷ ds) zero le = absurd (omega (arith, le))
-get_past (d ∷ ds) (suc k) le = get_past ds k (omega (arith, le))
-
 pub none_in : (t : List ℕ) → has_term [] t ≡ false
 unfolding parse
 none_in t = refl
 
 pub out_at : (collection t : List ℕ) (d : ℕ) → length (documents collection) < d → has_term (document collection d) t ≡ false
-out_at collection t d lt = ap (λ doc. has_term doc t) (get_past (documents collection) (d - 1) (omega (arith, lt))) ∙ none_in t
+out_at collection t d lt = ap (λ doc. has_term doc t) (get_or-eq_default (documents collection) [] (omega (arith, lt))) ∙ none_in t
 
 -- the count of a posting is the document's
 head_list : (t : List ℕ) (n : ℕ) (doc : List ℕ) (ds : List (List ℕ)) (p : Posting) → has_term doc t ≡ true → head_of (list_from t n (doc ∷ ds)) ≡ Some p → p.freq ≡ freq_in doc t

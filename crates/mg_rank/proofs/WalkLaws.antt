@@ -1,5 +1,5 @@
 -- What the lexicon tells of a term, and refusals.
-use Rattle.std.proofs.Common.{arith, ◌≡◌, ◌+◌, ◌≤◌, ℕ, List, length, refl, sym, ap, ◌∙◌, Bool, false, cond, [], ◌∷◌, subst, ◌≢◌}
+use Rattle.std.proofs.Common.{arith, ◌≡◌, ◌≤◌, ℕ, List, length, refl, sym, ap, ◌∙◌, false, subst, ◌≢◌}
 use Rattle.mg_defs.specs.Split.{documents}
 use Rattle.mg_dev.specs.Files.{Files, Reads}
 use Rattle.mg_dev.specs.Names.{same_part}
@@ -7,10 +7,9 @@ use Rattle.mg_dev.specs.declared.part.Part.{Part}
 use Rattle.mg_dev.specs.declared.part.Part.TheVariants as dev
 use Rattle.mg_bits.specs.Pages.{Looked}
 use Rattle.std.specs.declared.option.Option.{Option}
-use Rattle.std.specs.Prelude.{Result, Ok, Err, count_by}
+use Rattle.std.specs.Prelude.{Result, Ok, Err}
 use Rattle.std.specs.List.{list_any}
-use Rattle.std.proofs.lemmas.Bool.{cond_both}
-use Rattle.std.proofs.lemmas.List.Sums.{sum_by-cons}
+use Rattle.std.proofs.lemmas.List.Sums.{count_by-le-length}
 use Rattle.mg_defs.specs.Terms.{docs, terms, same_term}
 use Rattle.mg_defs.specs.Weights.{weight_of_term, wt}
 use Rattle.mg_defs.specs.Lexicon as defs
@@ -24,13 +23,6 @@ use Rattle.mg_rank.specs.Ranked.{AnswersOr, ReadsWeights}
 
 -- ---- what the lexicon tells
 
-count_within : {X : Type 0} (p : X → Bool) (xs : List X) → count_by p xs ≤ length xs
-count_within p [] = omega arith
-count_within p (x ∷ xs) =
-    let step : count_by p (x ∷ xs) ≡ cond (p x) 1 0 + count_by p xs = sum_by-cons (λ y. cond (p y) 1 0) x xs in
-    let one : cond (p x) 1 0 ≤ 1 = cond_both (p x) 1 0 (λ n. n ≤ 1) (λ _. omega arith) (λ _. omega arith) in
-    omega (arith, step, one, count_within p xs)
-
 pub record Told (collection t : List ℕ) (all count : ℕ) : Type 0 where
   pub is : count ≡ docs collection t
   pub some : 1 ≤ count
@@ -43,7 +35,7 @@ told collection t info all i all_is =
     record {
       is = same;
       some = omega (arith, same, term_some collection info.number t i.number);
-      within = omega (arith, same, all_is, count_within (λ doc. list_any (same_term t) (terms doc)) (documents collection));
+      within = omega (arith, same, all_is, count_by-le-length (λ doc. list_any (same_term t) (terms doc)) (documents collection));
       weight = ap (λ n. weight_of_term n all) same ∙ ap (weight_of_term (docs collection t)) all_is;
     }
 

@@ -73,7 +73,11 @@ returns g c =
     let i = c.loop-last.invariant in
     walk_over _ i
     (λ collection t list. (
-      omega (arith, c.cursor_pages_are_within.ensures c.args.base.now collection (numbers_in (postings collection t)) t c.loop-last.last _ list, pages_in_list collection (numbers_in (postings collection t)) t),
+      omega (
+        arith,
+        c.cursor_pages_are_within.ensures c.args.base.now collection (numbers_in (postings collection t)) t c.loop-last.last _ list,
+        pages_in_list collection (numbers_in (postings collection t)) t,
+      ),
       c.each_page_is_read_once.ensures.span c.args.base.now collection (numbers_in (postings collection t)) t c.loop-last.last _ list,
     ))
     (λ collection t done stand i2 all_is s. absurd (omega (arith, c.loop-last-test.false, i.most, all_is, stand.few)))

@@ -1,10 +1,11 @@
 use Rattle.std.proofs.Common.{arith, ◌≡◌, ◌+◌, ◌*◌, ◌^◌, [], length, take, get_or, refl, sym, ◌∙◌, subst}
 use Rattle.mg_dev.proofs.CallerLemmas.{cause_err, cause_ok}
+use Rattle.mg_defs.specs.PageBounds.{list_pages}
 use Rattle.mg_post.specs.PagesOnce.{span_pages}
 use Rattle.mg_post.specs.TermLists.{ListsStand}
 use Rattle.mg_rank.specs.Added.{AddedTo}
 use Rattle.mg_rank.proofs.AddedLaws.{added_next}
-use Rattle.mg_rank.proofs.EndLaws.{info_at, lists_on, once_end, once_next, post_end, post_next, skips_end, skips_next, sums_end, sums_next}
+use Rattle.mg_rank.proofs.EndLaws.{info_at, lists_on, once_end, once_next, post_end, skips_end, skips_next, sums_end, sums_next}
 use Rattle.mg_rank.proofs.WalkLaws.{or_or}
 use Rattle.mg_rank.proofs.ranking.sum_lists.Goals as goal
 
@@ -26,7 +27,7 @@ returns-in-Err g c =
           let stand2 = subst (λ fs. ListsStand c.args.base.now fs collection) (sym inv.files) stand in
           let i = info_at collection ts c.args.terms.now k _ told (omega arith) in
           post_end collection ts (k + 1) _ _
-          (post_next collection ts k _ _ _ i.0 (inv.post collection ts stand told all_is) (e.pages collection (get_or ts k []) stand2 i.1 all_is));
+          (once_next (list_pages collection) ts k _ _ _ i.0 (inv.post collection ts stand told all_is) (e.pages collection (get_or ts k []) stand2 i.1 all_is));
       once = λ collection ts stand told all_is.
           let stand2 = subst (λ fs. ListsStand c.args.base.now fs collection) (sym inv.files) stand in
           let i = info_at collection ts c.args.terms.now k _ told (omega arith) in
@@ -63,7 +64,7 @@ loop-info-preserved g c = record {
   post = λ collection ts stand told all_is.
       let stand2 = subst (λ fs. ListsStand c.args.base.now fs collection) (sym c.loop-info.invariant.files) stand in
       let i = info_at collection ts c.args.terms.now c.loop-info.info-index _ told (omega arith) in
-      post_next collection ts c.loop-info.info-index _ _ _ i.0 (c.loop-info.invariant.post collection ts stand told all_is)
+      once_next (list_pages collection) ts c.loop-info.info-index _ _ _ i.0 (c.loop-info.invariant.post collection ts stand told all_is)
       (c.add_list.ensures.pages collection (get_or ts c.loop-info.info-index []) stand2 i.1 all_is);
 }
 
