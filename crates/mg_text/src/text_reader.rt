@@ -273,12 +273,12 @@ impl<'a, S: Store> TextReader<'a, S> {
             (ReadsWords number most result self.old self.new list.new) }
     {
         let (version, size) = (self.version, self.size);
-        let from = match first_byte(&mut self.places, store, version, size, number - 1) {
-            Ok(from) => from,
-            Err(refusal) => return Err(refusal),
+        let byte = match first_byte(&mut self.places, store, version, size, number - 1) {
+            Ok(byte) => byte,
+            Err(why) => return Err(why),
         };
-        self.text.seek(8 * from);
-        list.begin(most, 8 * from);
+        self.text.seek(8 * byte);
+        list.begin(most, 8 * byte);
         list_doc(&self.model, &mut self.text, store, list)
     }
 

@@ -3,10 +3,10 @@
 ghost use Rattle.std.specs.Prelude.{◌≡◌};
 ghost use Rattle.mg_text.specs.Reading.{TextFits};
 
-use mg_dev::{Bad, FileRef, Part, PartErr, PutErr, Store};
+use mg_dev::{Bad, FileRef, Part, PartErr, PutErr, ShowErr, Store};
 use mg_layout::Head;
 use mg_mem::MemStore;
-use mg_text::{HeldDocument, TextReader};
+use mg_text::{HeldDocument, TextReader, WordList};
 use std::alloc::Global;
 use std::test::Fail;
 
@@ -24,6 +24,15 @@ const PARTS: [(Part, &[u8]); 3] = [
 const TOO_LONG: Bad = Bad {
     part: Part::Text,
     at: 0,
+    low: 0,
+    high: 16_381,
+    found: 16_382,
+};
+
+/// What is told of the second document where its bytes are shown or counted, of which one more comes than may.
+const BEYOND: Bad = Bad {
+    part: Part::Text,
+    at: 16_416,
     low: 0,
     high: 16_381,
     found: 16_382,
@@ -133,5 +142,68 @@ fn a_document_is_held_up_to_its_bound(rt: HostRuntime) -> Result<(), Fail> {
     assert!(rt; hold(alloc, &mut store, &[2], &mut held) == Ok(16_382) && !held.is_over());
     held.close()?;
     assert!(rt; held.bytes().len() == 16_383 && held.bytes().ends_with(&[b' ', 2]));
+    Ok(())
+}
+
+// Lists the words of documents of the three, one after the other, and answers how many symbols they have together.
+fn list_all<S: Store>(
+    reader: &mut TextReader<'_, S>,
+    store: &mut S,
+    numbers: &[u32],
+    most: u64,
+    list: &mut WordList,
+) -> Result<usize, PartErr>
+    requires fits { TextFits reader.old (S.files store.old) }
+    requires documents { reader.old.documents ≡ 3 }
+{
+    let mut words = 0usize;
+    for number in numbers {
+        if *number >= 1 && *number <= 3 {
+            reader.words(store, *number, most, list)?;
+            words = words.saturating_add(list.symbols().len());
+        }
+    }
+    Ok(words)
+}
+
+// The same by a reader of its own.
+fn list<S: Store>(
+    alloc: Global,
+    store: &mut S,
+    numbers: &[u32],
+    most: u64,
+) -> Result<usize, PartErr> {
+    let mut reader = TextReader::load(alloc, store, "set", &head())?;
+    let mut list = WordList::new(alloc);
+    list_all(&mut reader, store, numbers, most, &mut list)
+}
+
+// Shows the second document, of so many bytes at most.
+fn show_second<S: Store>(alloc: Global, store: &mut S, most: u64) -> Result<(), ShowErr> {
+    let mut held = HeldDocument::new(alloc, 20_000);
+    match TextReader::load(alloc, store, "set", &head()) {
+        Ok(mut reader) => reader.doc_within(store, 2, most, &mut held),
+        Err(refusal) => Err(ShowErr::Part(refusal)),
+    }
+}
+
+#[test]
+fn words_are_listed_and_pages_are_read_once(rt: HostRuntime) -> Result<(), Fail> {
+    let alloc = rt.alloc();
+    let mut store = MemStore::new(alloc);
+    write_three(&mut store)?;
+    assert!(rt; list(alloc, &mut store, &[1, 2, 3], 16_382) == Ok(3 * 8_191));
+    assert!(rt; store.reads_of(Part::Text) == 2 && store.reads_of(Part::Places) == 1);
+    Ok(())
+}
+
+#[test]
+fn words_beyond_the_bound_are_refused_as_shown_bytes_are(rt: HostRuntime) -> Result<(), Fail> {
+    let alloc = rt.alloc();
+    let mut store = MemStore::new(alloc);
+    write_three(&mut store)?;
+    assert!(rt; list(alloc, &mut store, &[2], 16_381) == Err(PartErr::Bad(BEYOND)));
+    let shown = show_second(alloc, &mut store, 16_381);
+    assert!(rt; shown == Err(ShowErr::Part(PartErr::Bad(BEYOND))));
     Ok(())
 }

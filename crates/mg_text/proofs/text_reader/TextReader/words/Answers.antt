@@ -13,9 +13,9 @@ returns-in-Err g c =
     let within = rw (← c.self.view_is) at c.requires.within in
     let read = c.in-Err.ensures.read in
     rw (← c.self.view_is)
-    (words_refused c.in-Err.refusal fits c.self.invariant.1 read (read.looked.others part.Text (ap (same_part part.Text) c.self.invariant.1)) (λ collection has.
+    (words_refused c.in-Err.why fits c.self.invariant.1 read (read.looked.others part.Text (ap (same_part part.Text) c.self.invariant.1)) (λ collection has.
     let wanted = place_wanted _ _ collection c.args.number has.stands c.requires.some within in
-    takes_good c.in-Err.refusal _ (read.told has.stands.told (place_after c.self.inside.model collection (c.args.number - 1)) wanted.0 wanted.1 wanted.2)))
+    takes_good c.in-Err.why _ (read.told has.stands.told (place_after c.self.inside.model collection (c.args.number - 1)) wanted.0 wanted.1 wanted.2)))
 
 pub returns : goal.returns
 returns g c =
@@ -24,9 +24,9 @@ returns g c =
     let left = ap (λ (l : Listing). l.left) c.begin.ensures in
     let read = c.in-Ok.ensures.read in
     rw (← c.self.view_is)
-    (words_read c.list_doc.result c.in-Ok.from c.self.invariant.0 c.self.invariant.1 read c.seek.ensures.feed c.list_doc.ensures empty (λ collection has.
+    (words_read c.list_doc.result c.in-Ok.byte c.self.invariant.0 c.self.invariant.1 read c.seek.ensures.feed c.list_doc.ensures empty (λ collection has.
     let wanted = place_wanted _ _ collection c.args.number has.stands c.requires.some within in
-    words_told c.list_doc.result _ _ collection c.args.number c.in-Ok.from c.seek.new.self.place c.seek.new.self.feed _ _ _ has.stands c.requires.some within read.looked.files
+    words_told c.list_doc.result _ _ collection c.args.number c.in-Ok.byte c.seek.new.self.place c.seek.new.self.feed _ _ _ has.stands c.requires.some within read.looked.files
     (read.told has.stands.told (place_after c.self.inside.model collection (c.args.number - 1)) wanted.0 wanted.1 wanted.2)
     c.seek.ensures.place c.seek.ensures.feed c.self.invariant.0 refl refl (read.looked.others part.Text (ap (same_part part.Text) c.self.invariant.1)) empty
     (omega (arith, has.short, left)) c.list_doc.ensures.told))
