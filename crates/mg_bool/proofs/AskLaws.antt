@@ -73,9 +73,6 @@ same_more (Some c) (Some d) (Some v) a b = record {
   parameter = b.parameter ∙ a.parameter;
 }
 
-pub none_same : (p : Place) → p ≡ None → SamePlace p p
-none_same p is = same_refl p
-
 on_same : (base : List ℕ) (all : ℕ) (p q : Place) → SamePlace p q → PlaceOn base all p → PlaceOn base all q
 on_same base all None None same on = tt
 on_same base all None (Some v) same on = absurd same

@@ -6,6 +6,7 @@ use Rattle.std.proofs.lemmas.List.{get_or-set_other, length-set}
 use Rattle.std.proofs.lemmas.List.Sums.{sum_by-set, sum_by-cons}
 use Rattle.mg_dev.specs.Files.{Files, Reads}
 use Rattle.mg_dev.specs.PartCauses.{HasPartCause}
+use Rattle.mg_dev.proofs.CallerLemmas.{cause_err}
 use Rattle.mg_dev.specs.declared.part_err.PartErr.{PartErr}
 use Rattle.mg_dev.specs.declared.part_err.PartErr.TheVariants as err
 use Rattle.mg_defs.specs.Lists.{block_count}
@@ -70,11 +71,6 @@ refusal_of T e = Err e
 error_is : {T : Type 0} (e : PartErr) → refusal_of T e ≡ Err err.Memory → e ≡ err.Memory
 error_is e is = cc
 
-pub caused_at : {T V : Type 0} (a b c : ℕ) (e : PartErr) → a ≤ b → HasPartCause {T = T} b c (Err e) → HasPartCause {T = V} a c (Err e)
-caused_at a b c err.Device le is = record { later = omega (arith, le, is.later); device = omega (arith, le, is.device) }
-caused_at a b c err.Memory le is = record { later = omega (arith, le, is.later); device = tt }
-caused_at a b c (err.Bad bad) le is = record { later = omega (arith, le, is.later); device = tt }
-
 -- ---- a place
 
 -- it has no list
@@ -116,7 +112,7 @@ cursor_refused {T} {V} {m = m} {n = n} e same part reads third skips files memor
   skips = record { within = λ h. third; skip = skips };
   files = files;
   memory = λ is. memory (ap (refusal_of T) (error_is {T = V} e is));
-  cause = caused_at m m n e (omega arith) cause;
+  cause = cause_err (omega arith) cause;
 }
 
 -- it is one of many
@@ -204,5 +200,5 @@ refused {T} {V} {l = l} {m = m} {n = n} e s call =
       skips = on.skips;
       files = on.files;
       memory = λ is. call.memory (ap (refusal_of T) (error_is {T = V} e is));
-      cause = caused_at l m n e s.faults call.cause;
+      cause = cause_err s.faults call.cause;
     }

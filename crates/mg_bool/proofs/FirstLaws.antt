@@ -1,7 +1,7 @@
 -- The first document that the list of any place has.
 use Rattle.std.proofs.Common.{arith, ◌≡◌, ◌+◌, ◌-◌, ◌≤◌, ◌<◌, ℕ, Bool, true, false, List, [], ◌∷◌, length, drop, get_or, refl, sym, ap, subst, ◌∙◌, inl, inr, Option, Some, None}
 use Rattle.std.specs.Prelude.{IfSome, slice_index_or, slice_set}
-use Rattle.std.proofs.lemmas.Bool.{cases_lt, cases_Bool, ltb-true, ltb-false, ne_eqb, eq-eqb}
+use Rattle.std.proofs.lemmas.Bool.{cases_lt, cases_Bool, ltb-false}
 use Rattle.std.proofs.lemmas.List.{get_or-set_same, get_or-set_other, length-drop}
 use Rattle.std.proofs.lemmas.List.Sums.{sum_by-set}
 use Rattle.mg_dev.specs.Files.{Reads}
@@ -28,62 +28,11 @@ clear_next there i within none k below =
       | inr same ↦ (let e : k ≡ i = omega (arith, same, below) in rw e (get_or-set_same there i false true within))
     ]
 
--- none is later than the one that comes sooner
-sooner_least : (first found other : Option ℕ) → comes_sooner found first ≡ true → IsNoLater first other → IsNoLater found other
-sooner_least None None other sooner least = absurd cc
-sooner_least (Some n) None other sooner least = absurd cc
-sooner_least None (Some d) None sooner least = tt
-sooner_least None (Some d) (Some m) sooner least = absurd cc
-sooner_least (Some n) (Some d) None sooner least = tt
-sooner_least (Some n) (Some d) (Some m) sooner least = omega (arith, least, ltb-true d n sooner)
-
--- the one that comes sooner is none of those before
-sooner_other : (first found other : Option ℕ) → comes_sooner found first ≡ true → IsNoLater first other → is_first found other ≡ false
-sooner_other None None other sooner least = absurd cc
-sooner_other (Some n) None other sooner least = absurd cc
-sooner_other None (Some d) None sooner least = refl
-sooner_other None (Some d) (Some m) sooner least = absurd cc
-sooner_other (Some n) (Some d) None sooner least = refl
-sooner_other (Some n) (Some d) (Some m) sooner least = ne_eqb m d (λ e. omega (arith, e, least, ltb-true d n sooner))
-
-sooner_itself : (first found : Option ℕ) → comes_sooner found first ≡ true → is_first found found ≡ true
-sooner_itself None None sooner = absurd cc
-sooner_itself (Some n) None sooner = absurd cc
-sooner_itself None (Some d) sooner = eq-eqb d d refl
-sooner_itself (Some n) (Some d) sooner = eq-eqb d d refl
-
-no_later_itself : (found : Option ℕ) → IsNoLater found found
-no_later_itself None = refl
-no_later_itself (Some d) = omega arith
-
 not_sooner : (first found : Option ℕ) → comes_sooner found first ≡ false → IsNoLater first found
 not_sooner None None isnt = refl
 not_sooner (Some n) None isnt = tt
 not_sooner None (Some d) isnt = absurd cc
 not_sooner (Some n) (Some d) isnt = ltb-false d n isnt
-
-pub take_sooner : (documents : ℕ → Option ℕ) (i : ℕ) (found first : Option ℕ) (old cleared : List Bool) → comes_sooner found first ≡ true → i < length cleared →
-    ((k : ℕ) → k < i → get_or cleared k true ≡ false) →
-    documents i ≡ found → FirstOf documents i first old → FirstOf documents (i + 1) found (slice_set cleared i true)
-take_sooner documents i found first old cleared sooner within none is f = record { least = least; one = one found is; told = told }
-  where
-    least : (k : ℕ) → k < i + 1 → IsNoLater found (documents k)
-    least k below =
-        elim (cases_lt k i) [
-          | inl less ↦ sooner_least first found (documents k) sooner (f.least k less)
-          | inr same ↦ (let e : k ≡ i = omega (arith, same, below) in rw e (subst (IsNoLater found) (sym is) (no_later_itself found)))
-        ]
-
-    one : (o : Option ℕ) → documents i ≡ o → IfSome o (λ n. (k : ℕ) × (k < i + 1) × (documents k ≡ Some n))
-    one None e = tt
-    one (Some n) e = (i, omega arith, e)
-
-    told : (k : ℕ) → k < i + 1 → get_or (slice_set cleared i true) k true ≡ is_first found (documents k)
-    told k below =
-        elim (cases_lt k i) [
-          | inl less ↦ get_or-set_other cleared i k true true (λ e. omega (arith, e, less)) ∙ none k less ∙ sym (sooner_other first found (documents k) sooner (f.least k less))
-          | inr same ↦ (let e : k ≡ i = omega (arith, same, below) in rw e (get_or-set_same cleared i true true within ∙ sym (ap (is_first found) is ∙ sooner_itself first found sooner)))
-        ]
 
 pub take_other : (documents : ℕ → Option ℕ) (i : ℕ) (found first : Option ℕ) (old : List Bool) (b : Bool) → comes_sooner found first ≡ false → i < length old → b ≡ is_first first found →
     documents i ≡ found → FirstOf documents i first old → FirstOf documents (i + 1) first (slice_set old i b)

@@ -1,10 +1,10 @@
 -- The place that leads.
 use Rattle.std.proofs.Common.{arith, ◌≡◌, ◌+◌, ◌-◌, ◌≤◌, ◌<◌, ℕ, zero, suc, Bool, true, false, ◌&&◌, List, [], ◌∷◌}
-use Rattle.std.proofs.Common.{◌++◌, length, drop, get_or, refl, sym, ap, subst, ◌∙◌, ◌⊎◌, inl, inr, Option, Some, None, length-append}
+use Rattle.std.proofs.Common.{◌++◌, length, drop, get_or, refl, sym, ap, subst, ◌∙◌, inl, inr, Option, Some, None, length-append}
 use Rattle.std.specs.Prelude.{nat_le, if◌then◌else◌}
 use Rattle.std.proofs.lemmas.Bool.{cases_lt, le-leb, cases_Bool}
 use Rattle.std.proofs.lemmas.List.{get_or_append_left, get_or-append-add, get_or-drop, length-drop}
-use Rattle.mg_defs.specs.Sat.{Query, both, term}
+use Rattle.mg_defs.specs.Sat.{Query, both}
 use Rattle.mg_defs.specs.QueryTerms.{query_terms}
 use Rattle.mg_defs.specs.Terms.{docs}
 use Rattle.mg_defs.specs.PageBounds.{leading, leftmost_fewest, fewer}
@@ -22,9 +22,6 @@ not_le a b lt = grind arith
 abbrev joined : List ℕ → Option (List ℕ) → Option (List ℕ) → Option (List ℕ)
 joined collection None second = second
 joined collection (Some a) second = Some (fewer collection a second)
-
-le_or : (a b : ℕ) → (nat_le a b ≡ true) ⊎ (nat_le a b ≡ false)
-le_or a b = cases_Bool (nat_le a b)
 
 fewer_thrice : (collection x a : List ℕ) (o : Option (List ℕ)) → fewer collection x (Some (fewer collection a o)) ≡ fewer collection (fewer collection x (Some a)) o
 fewer_thrice collection x a None = refl
@@ -179,9 +176,6 @@ none_leads collection q infos a leads = leads (tell_all collection (query_terms 
 right_fails : (a b : Bool) → b ≡ false → a && b ≡ false
 right_fails true b is = is
 right_fails false b is = refl
-
-pub needs_term : (t : List ℕ) (size : ℕ) → NeedsPlace (term t) (size - size)
-needs_term t size there none = let e : size - size ≡ 0 = omega arith in subst (λ k. get_or there k false ≡ false) e none
 
 needs_first : (p q : Query) (place : ℕ) → NeedsPlace p place → NeedsPlace (both p q) place
 needs_first p q place needs there none = ap (λ b. b && holds q (drop (length (query_terms p)) there)) (needs there none)

@@ -21,7 +21,7 @@ use Rattle.mg_laws.proofs.LedLists.{first_of, list_from, from_front, length_fron
 use Rattle.mg_laws.proofs.MetBlocks.{own_met, first_in}
 use Rattle.mg_query.specs.QueryOf.{query_of}
 use Rattle.mg_post.specs.TermLists.{IsAmong, ListsStand, PagesWithin}
-use Rattle.mg_bool.specs.Places.{AnswersPlace, AsksAll, AsksPlace, Place, PlaceOn, PlacesFor, PlacesOn, pages_read, place_bound, place_pages}
+use Rattle.mg_bool.specs.Places.{AnswersPlace, AsksAll, AsksPlace, Place, PlacesFor, pages_read, place_bound, place_pages}
 use Rattle.mg_bool.specs.Matches.{GoesOn, GoesOver, IsNext, IsNextDoc, Leads, Matching, MatchesOver, PlacesOver, left_in, left_of, query_bound}
 use Rattle.mg_bool.proofs.AskLaws.{CursorsWithin, asked_one, asked_pages, first_number, places_bound, places_later}
 
@@ -166,10 +166,6 @@ pub still_pages : (base collection : List ℕ) (q : Query) (n : ℕ) (places : L
     PagesWithin (query_bound collection q) (pages_read places) (pages_read places) before before
 unfolding query_bound
 still_pages base collection q n places before law f = record { within = places_bound base collection (asked_of collection q) (query_terms q) n places law f; post = omega arith }
-
--- the place that leads is over as many documents
-pub lead_on : (base : List ℕ) (all : ℕ) (places : List Place) (place : ℕ) → PlacesOn base all places → PlaceOn base all (slice_index_or places place None)
-lead_on base all places place on = on.each place
 
 -- ---- a document is asked of all places
 

@@ -2,6 +2,7 @@
 use Rattle.std.proofs.Common.{arith, ◌≡◌, ◌≢◌, ◌+◌, ◌≤◌, ◌<◌, ℕ, Bool, true, false, List, [], length, refl, subst, ◌∙◌, Option, Some, None, Ok, Err}
 use Rattle.mg_dev.specs.Files.{Files, Reads}
 use Rattle.mg_dev.specs.PartCauses.{HasPartCause}
+use Rattle.mg_dev.proofs.CallerLemmas.{cause_err}
 use Rattle.mg_dev.specs.declared.part_err.PartErr.{PartErr}
 use Rattle.mg_dev.specs.declared.part_err.PartErr.TheVariants as err
 use Rattle.mg_defs.specs.Terms.{document}
@@ -16,7 +17,7 @@ use Rattle.mg_bool.specs.Matches.{FindsCandidate, GoesOver, IsNext, IsNextDoc, L
 use Rattle.mg_bool.specs.Walked.{IsReady, Spot, Walked}
 use Rattle.mg_bool.proofs.ShownLaws.{NextShown, Passes, passes_miss, passes_on, passes_start, shown_end, shown_hit}
 use Rattle.mg_bool.proofs.AskLaws.{CursorsWithin, err_answer, places_later, same_then}
-use Rattle.mg_bool.proofs.CallLaws.{Stepped, caused_at, lists_on, skips_on, stepped_none, stepped_on}
+use Rattle.mg_bool.proofs.CallLaws.{Stepped, lists_on, skips_on, stepped_none, stepped_on}
 use Rattle.mg_bool.proofs.AnyLaws.{any_asks, first_is_next}
 use Rattle.mg_bool.proofs.NextLaws.{Going, going_end, going_hit, going_miss, going_none, going_pages, going_start, goes_now, next_asks, pages_more, stands_now, sum_pages}
 
@@ -105,7 +106,7 @@ module _ {q : Query} {led : Option ℕ} {all : ℕ} {old mid : Spot} {f g : Opti
       skips = skips_on u.step.skips step.skips;
       files = step.files ∙ u.step.files;
       memory = λ is. memory cc;
-      cause = caused_at l k n e le cause;
+      cause = cause_err le cause;
     }
 
     -- no document is left that may satisfy the query

@@ -70,7 +70,8 @@ pub weight_stands : (collection bytes : List ℕ) (d : ℕ) → bytes ≡ weight
     take 4 (drop (4 * (d - 1)) bytes) ≡ four (weight (document collection d))
 weight_stands collection bytes d stand some le =
     let ds = documents collection in
-    ap (λ b. take 4 (drop (4 * (d - 1)) b)) stand ∙ four_part (map weight ds) (d - 1) (omega (arith, some, le, length-map ds weight)) ∙ ap four (get_or-map weight ds (d - 1) [] 0 (omega (arith, some, le)))
+    ap (λ b. take 4 (drop (4 * (d - 1)) b)) stand ∙ four_part (map weight ds) (d - 1) (omega (arith, some, le, length-map ds weight))
+    ∙ ap four (get_or-map weight ds (d - 1) [] 0 (omega (arith, some, le)))
 
 -- ---- how great it is
 
