@@ -4,5 +4,7 @@
 pub use Rattle.mg_front.proofs.ReadPages.{on_same, on_more, read_first, read_first_to}
 -- how long the front coding of entries can be
 pub use Rattle.mg_front.proofs.ReaderLaws.{front_small}
+-- what stands for a string that was looked up, over the same parts
+pub use Rattle.mg_front.proofs.StoodLaws.{absent_as, stands_as}
 -- what a writer took stays where its files stay
 pub use Rattle.mg_front.proofs.Stays.{took_stays}

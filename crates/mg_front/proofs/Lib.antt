@@ -5,6 +5,7 @@ mod WalkLaws
 mod WriterLaws
 mod ReaderLaws
 mod OrderLaws
+mod StoodLaws
 mod ReadPages
 mod ReadSteps
 mod Stays

@@ -3,3 +3,4 @@ pub mod Walk
 pub mod Fronting
 pub mod Looks
 pub mod Reading
+pub mod Stood

@@ -1,12 +1,13 @@
 //! Entries of a part by their number.
-ghost use Rattle.std.specs.Prelude.{Err, ◌≡◌, ◌≢◌, ◌-◌, if◌then◌else◌, ◌≤◌, ◌<◌, ◌+◌, ◌*◌, ◌%◌, ◌/◌, ◌^◌, List, IfErr, IfOk, IfSome, None, Some, true, false};
+ghost use Rattle.std.specs.Prelude.{Err, ◌≡◌, ◌≢◌, ◌-◌, if◌then◌else◌, ◌≤◌, ◌<◌, ◌+◌, ◌*◌, ◌%◌, ◌/◌, ◌^◌, List, IfErr, IfOk, IfSome, IsSome, None, Some, true, false};
 ghost use Rattle.mg_bits.specs.Pages.{Fits};
 ghost use Rattle.mg_defs.specs.Numbers.{four};
 ghost use Rattle.mg_defs.specs.Front.{Entry};
-ghost use Rattle.mg_front.specs.Entries.{string_of};
+ghost use Rattle.mg_front.specs.Entries.{entry_of, string_of};
 ghost use Rattle.mg_front.specs.Reading.{Fronted, FrontFits, FrontStands, AnswersAt, AnswersBlock, AnswersFind, AnswersIn, IsNotBad, IsInBlock, IsLost, IsLostAmong, IsReader, LookedAt, ReaderLooked, ReadsPlace, SameParts, GivesEntry, ScansBlock, AnswersPlacesOf, AtBlock, ExpectsPlaces, WherePlacesStand, ReaderLooks};
-ghost use Rattle.mg_dev.specs.Files.{SameReads};
+ghost use Rattle.mg_dev.specs.Files.{SameReads, bytes_at};
 ghost use Rattle.mg_front.specs.Looks.{ReadsUpTo, halvings, looks};
+ghost use Rattle.mg_front.specs.Stood.{BlockStands, EntryStands, FindStands, InStands, IsReadAt, ScanStands};
 ghost use Rattle.std.specs.Bool.{OnTrue, OnFalse};
 ghost use Rattle.std.specs.Int.{div_ceil};
 ghost use Rattle.mg_dev.specs.PartCauses.{HasPartCause};
@@ -73,6 +74,9 @@ fn read_block<S: Store>(
         (ReadsUpTo strings.old strings.new from (from + 1124) result) }
     ensures told { AtBlock strings.old (S.files store.old) width from
         (GivesEntry result last width out.new) }
+    ensures stood { IsSome (S.files store.old) → IfOk result (λ there. there ≡ true →
+        IsReadAt width (bytes_at (S.files store.old) strings.old.name) from last
+        (entry_of width out.new)) }
 {
     let mut place = from;
     for number in 0..last + 1 {
@@ -123,6 +127,9 @@ fn scan_block<S: Store>(
     ensures told { AtBlock strings.old (S.files store.old) width from
         (ScansBlock result most string.now width out.new) }
     ensures number { IfOk result (λ scan. IsInBlock scan most) }
+    ensures stood { IsSome (S.files store.old) → IfOk result
+        (ScanStands width (bytes_at (S.files store.old) strings.old.name) from most string.now
+        out.new) }
 {
     let mut place = from;
     for number in 0..most {
@@ -252,6 +259,10 @@ impl<'a, S: Store> FrontReader<'a, S> {
             (LookedAt self.old.strings.part self.old.places.part) }
         ensures entry { (es : List Entry) → FrontStands self.old (S.files store.old) es →
             AnswersAt result self.old.width i out.new es }
+        // Whatever the parts hold, the entry stands there.
+        ensures stood { IsSome (S.files store.old) → IfOk result (λ done.
+            EntryStands self.old (S.files store.old) (i / 4) (i % 4)
+            (entry_of self.old.width out.new)) }
         ensures bad { IfErr result (λ refusal.
             IsLost refusal self.old (S.files store.old) (i / 4)) }
         ensures memory { result ≢ Err PartErr.Memory }
@@ -293,6 +304,9 @@ impl<'a, S: Store> FrontReader<'a, S> {
             (LookedAt self.old.strings.part self.old.places.part) }
         ensures found { (es : List Entry) → FrontStands self.old (S.files store.old) es →
             AnswersFind result self.old.width string.now out.new es }
+        // Whatever the parts hold, the entry stands, or those around the string do.
+        ensures stood { IsSome (S.files store.old) → IfOk result
+            (FindStands self.old (S.files store.old) string.now out.new) }
         ensures bad { IfErr result (λ refusal. IsLostAmong refusal self.old (S.files store.old)) }
         ensures memory { result ≢ Err PartErr.Memory }
         ensures reads { ReaderLooks self.old (S.reads store.old) (S.reads store.new)
@@ -320,6 +334,8 @@ impl<'a, S: Store> FrontReader<'a, S> {
         ensures found { (es : List Entry) → FrontStands self.old (S.files store.old) es →
             AnswersBlock result string.now es }
         ensures below { IfOk result (λ block. IfSome block (λ b. 4 * b < self.old.count)) }
+        ensures stood { IsSome (S.files store.old) → IfOk result
+            (BlockStands self.old (S.files store.old) string.now) }
         ensures bad { IfErr result (λ refusal. IsLostAmong refusal self.old (S.files store.old)) }
     {
         let mut low = 0u32;
@@ -354,6 +370,8 @@ impl<'a, S: Store> FrontReader<'a, S> {
             (ReaderLooked self.old self.new 1 result) }
         ensures found { (es : List Entry) → FrontStands self.old (S.files store.old) es →
             AnswersIn result block self.old.width string.now out.new es }
+        ensures stood { IsSome (S.files store.old) → IfOk result
+            (InStands self.old (S.files store.old) block string.now out.new) }
         ensures bad { IfErr result (λ refusal. IsLost refusal self.old (S.files store.old) block) }
     {
         let place = match place_of(&mut self.places, store, block) {

@@ -1,3 +1,4 @@
 mod LexLaws
 mod InfoLaws
+mod StoodLaws
 pub mod CallerLemmas

@@ -1,3 +1,4 @@
 pub mod Terms
 pub mod Writing
 pub mod Reading
+pub mod Stood

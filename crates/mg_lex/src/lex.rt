@@ -9,6 +9,7 @@ ghost use Rattle.mg_front.specs.Looks.{ReadLooks, looks};
 ghost use Rattle.mg_front.specs.Reading.{FrontFits, IsNotBad, LookedAt, SameParts};
 ghost use Rattle.mg_layout.specs.Infos.{info_of};
 ghost use Rattle.mg_lex.specs.Reading.{AnswersInfo, AnswersTerm, AnswersTermCount, ForEachWithinLimits, WhereLexicon, IsLexiconReader, LexStands};
+ghost use Rattle.mg_lex.specs.Stood.{TermTold};
 ghost use Rattle.mg_lex.specs.Terms.{FitsField};
 
 use mg_dev::{FileRef, Part, PartErr, Store};
@@ -93,6 +94,9 @@ impl<'a, S: Store> Lex<'a, S> {
         ensures info { ForEachWithinLimits (λ collection.
             LexStands self.old (S.files store.old) collection →
             AnswersInfo result collection term.now) }
+        // Whatever the parts hold, the entry of the term stands, or those around it do.
+        ensures stood { IsSome (S.files store.old) →
+            IfOk result (TermTold self.old (S.files store.old) term.now) }
         ensures reads { ReadLooks part.Lex part.LexAt (S.reads store.old) (S.reads store.new)
             (looks self.old.count) }
         ensures memory { result ≢ Err PartErr.Memory }

@@ -1,4 +1,4 @@
-use Rattle.std.proofs.Common.{arith, refl, ap, ◌∙◌, drop, length, take, ◌≡◌, ◌≢◌, ◌-◌, ◌*◌, Bool, true, false}
+use Rattle.std.proofs.Common.{arith, refl, ap, ◌∙◌, ◌+◌, drop, length, take, ◌≡◌, ◌≢◌, ◌-◌, ◌*◌, Bool, true, false}
 use Rattle.std.specs.Bool.{OnFalse, OnTrue}
 use Rattle.mg_defs.specs.Front.{front, read_entry}
 use Rattle.mg_front.specs.declared.reader.Scan.TheVariants.{Found, Absent, Damaged}
@@ -6,6 +6,7 @@ use Rattle.mg_front.specs.Entries.{string_of, found_of, entry_of}
 use Rattle.mg_front.proofs.ReadFacts.{told_as}
 use Rattle.mg_front.proofs.ReadSteps.{on_done, on_entry, on_start, on_stop, reads_ended, reads_failed, reads_wider}
 use Rattle.mg_front.proofs.ReaderLaws.{stepped, never_none, scanned_more, last_read}
+use Rattle.mg_front.proofs.StoodLaws.{none_more, read_next, up_to_next}
 use Rattle.mg_front.proofs.reader.scan_block.Goals as goal
 
 on_false : (b : Bool) (P : Type 0) → OnFalse b P → b ≡ false → P
@@ -24,6 +25,7 @@ loop-number-init g c = record {
     record { place_is = from ∙ ap (λ n. length (front (take n es))) (omega arith); last_is = λ some. absurd (omega (arith, some)) },
     λ k e below. absurd (omega (arith, below)),
   );
+  stood = λ told. (refl, λ k below. absurd (omega (arith, below)));
 }
 
 pub loop-number-preserved : goal.loop-number-preserved
@@ -45,6 +47,16 @@ loop-number-preserved g c =
                 (last_read _ _ _ _ es block so_far) (on_false c.is_same.result (string_of c.read_entry.new.out ≢ c.args.string.now) c.is_same.ensures.no
                 c.if-is_same.false),
           );
+      stood = λ told.
+          let read = told_as (λ bytes. read_entry c.args.width c.loop-number.number (string_of c.loop-number.out) (drop c.loop-number.place bytes)
+          ≡ found_of c.args.width c.read_entry.new.out c.in-Ok-Some.field-0) (g.S.Store.files c.args.store.now) _ c.args.strings.now.name _ inv.on.looked.files
+          inv.on.file.name c.in-Ok-Some.ensures.told told in
+          let before = inv.stood told in
+          let next = read_next _ _ _ _ c.in-Ok-Some.size _ _ _ _ before.0 c.in-Ok-Some.field-0-is read in (
+            up_to_next _ _ _ _ _ _ next,
+            none_more c.args.width c.loop-number.number c.args.from (c.loop-number.place + c.in-Ok-Some.size) _ c.args.string.now
+                (entry_of c.args.width c.read_entry.new.out) before.1 next (on_false c.is_same.result (string_of c.read_entry.new.out ≢ c.args.string.now) c.is_same.ensures.no c.if-is_same.false),
+          );
     }
 
 pub returns-in-Ok-None : goal.returns-in-Ok-None
@@ -60,6 +72,7 @@ returns-in-Ok-None g c =
           never_none c.args.width c.loop-number.number c.loop-number.place (c.args.most - 1) c.loop-number.out c.read_entry.new.out _ es _ block is before.0
           (omega arith) (omega (arith, c.requires.most)) (omega (arith, within)) c.in-Ok-None.field-0-is read;
       number = tt;
+      stood = λ told. tt;
     }
 
 pub returns-in-Err : goal.returns-in-Err
@@ -69,6 +82,7 @@ returns-in-Err g c =
       read = reads_wider (omega (arith, inv.place, c.requires.most)) (reads_failed (on_stop inv.on c.in-Err.ensures.read));
       told = λ told es block is from within. tt;
       number = tt;
+      stood = λ told. tt;
     }
 
 pub returns-then-is_same : goal.returns-then-is_same
@@ -87,9 +101,19 @@ returns-then-is_same g c =
           block is before.0 (omega arith) (omega (arith, c.requires.most)) (omega (arith, within)) c.in-Ok-Some.field-0-is read in
           (omega arith, last_read _ _ _ _ es block so_far, on_true c.is_same.result (string_of c.read_entry.new.out ≡ c.args.string.now) c.is_same.ensures.yes c.if-is_same.true);
       number = omega arith;
+      stood = λ told.
+          let read = told_as (λ bytes. read_entry c.args.width c.loop-number.number (string_of c.loop-number.out) (drop c.loop-number.place bytes)
+          ≡ found_of c.args.width c.read_entry.new.out c.in-Ok-Some.field-0) (g.S.Store.files c.args.store.now) _ c.args.strings.now.name _ inv.on.looked.files
+          inv.on.file.name c.in-Ok-Some.ensures.told told in (
+            (_, read_next _ _ _ _ c.in-Ok-Some.size _ _ _ _ (inv.stood told).0 c.in-Ok-Some.field-0-is read),
+            on_true c.is_same.result (string_of c.read_entry.new.out ≡ c.args.string.now) c.is_same.ensures.yes c.if-is_same.true,
+          );
     }
 
 pub returns-clause-read : goal.returns-clause-read
 returns-clause-read g c =
     let inv = c.loop-number.invariant in
     on_done Absent (omega (arith, inv.place, c.requires.most)) inv.on
+
+pub returns-clause-stood : goal.returns-clause-stood
+returns-clause-stood g c = λ told k lt. (c.loop-number.invariant.stood told).1 k (omega (arith, lt))

@@ -4,6 +4,7 @@ use Rattle.mg_defs.specs.Front.{Entry, IsFront, front}
 use Rattle.mg_front.specs.Reading.{NoneAmong}
 use Rattle.mg_front.proofs.ReadSteps.{ReadsOn}
 use Rattle.mg_front.proofs.ReaderLaws.{ReadSoFar}
+use Rattle.mg_front.proofs.StoodLaws.{NoneUpTo, ReadUpTo}
 use Rattle.mg_front.proofs.reader.scan_block.Given as goal
 
 abbrev pub invariant-loop-number : goal.invariant-loop-number
@@ -14,4 +15,6 @@ invariant-loop-number g l = record {
   told : IsSome (g.S.Store.files l.fn.store) → (es : List Entry) (block : ℕ) → IsFront l.width (bytes_at (g.S.Store.files l.fn.store) l.fn.strings.name) es →
       l.fn.from ≡ length (front (take (4 * block) es)) → 4 * block + l.fn.most ≤ length es →
       ReadSoFar l.width l.number l.place l.out es block × NoneAmong es (4 * block) l.number l.string;
+  stood : IsSome (g.S.Store.files l.fn.store) → ReadUpTo l.width (bytes_at (g.S.Store.files l.fn.store) l.fn.strings.name) l.fn.from l.number l.out l.place
+      × NoneUpTo l.width (bytes_at (g.S.Store.files l.fn.store) l.fn.strings.name) l.fn.from l.string l.number;
 }

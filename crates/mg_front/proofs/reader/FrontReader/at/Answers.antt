@@ -4,6 +4,7 @@ use Rattle.mg_dev.specs.declared.part_err.PartErr.{PartErr}
 use Rattle.mg_defs.specs.Front.{Entry}
 use Rattle.mg_front.specs.Reading.{AnswersAt, Fronted}
 use Rattle.mg_front.proofs.ReaderLaws.{at_block, looked_bad, looked_failed, looked_ok, looked_place, lost_place, only_device}
+use Rattle.mg_front.proofs.StoodLaws.{entry_stands}
 use Rattle.mg_front.proofs.reader.FrontReader.at.Goals as goal
 
 clash : (b : Bool) → b ≡ false → b ≡ true → ⊥
@@ -32,6 +33,7 @@ returns-in-Err g c =
       looked = looked.looked;
       entry = λ es stands. only_device (λ (refusal : PartErr). AnswersAt {T = Unit {0}} (Err refusal) c.self.inside.width c.args.i c.args.out.now es) _ _ es (c.args.i / 4)
           c.in-Err.refusal tt stands (first_of_block c.args.i c.self.inside.count es below stands.count) c.in-Err.ensures.answer;
+      stood = λ told. tt;
       bad = lost_place own (g.S.Store.files c.args.store.now) (c.args.i / 4) c.in-Err.refusal c.in-Err.ensures.answer;
       memory = looked.memory;
       reads = looked.reads;
@@ -54,6 +56,8 @@ returns-in-Ok-true g c =
           let within = in_block c.args.i c.self.inside.count es below stands.count in
           ap (slice_get es) (sym (whole c.args.i)) ∙ (at_block own es (c.args.i / 4) c.in-Ok.place stands (first_of_block c.args.i c.self.inside.count es below stands.count)
           c.in-Ok.ensures.looked.files c.in-Ok.ensures.answer e.told within).1;
+      stood = λ told. entry_stands own (c.args.i / 4) (c.args.i % 4) c.in-Ok.place _ c.in-Ok.ensures.looked.files told c.in-Ok.ensures.answer
+          (λ known. e.stood known c.in-Ok-true.field-0-test);
       bad = tt;
       memory = looked.memory;
       reads = looked.reads;
@@ -71,6 +75,7 @@ returns-in-Err-read_block g c =
       same = looked.same;
       looked = looked.looked;
       entry = λ es stands. tt;
+      stood = λ told. tt;
       bad = tt;
       memory = looked.memory;
       reads = looked.reads;
@@ -93,6 +98,7 @@ returns g c =
           let within = in_block c.args.i c.self.inside.count es below stands.count in
           clash c.in-Ok-false.field-0 c.in-Ok-false.field-0-test
           (at_block own es (c.args.i / 4) c.in-Ok.place stands (first_of_block c.args.i c.self.inside.count es below stands.count) c.in-Ok.ensures.looked.files c.in-Ok.ensures.answer e.told within).0;
+      stood = λ told. tt;
       bad = inr (record {
         is = record { part_is = c.part.ensures ∙ e.read.file.part; at_is = refl; low_is = refl; high_is = refl; found_is = refl };
         small = c.in-Ok.ensures.answer.0;

@@ -1,4 +1,4 @@
-use Rattle.std.proofs.Common.{arith, refl, sym, ◌∙◌, ap, cond, Bool, true, false, ◌≤◌, ◌<◌, ℕ, ◌≡◌, ◌+◌, ◌-◌, ◌*◌, ◌/◌, ◌^◌, subst}
+use Rattle.std.proofs.Common.{arith, refl, sym, ◌∙◌, ap, cond, Bool, true, false, ◌≤◌, ◌<◌, ℕ, ◌≡◌, ◌+◌, ◌-◌, ◌*◌, ◌/◌, ◌^◌, subst, IsSome}
 use Rattle.std.specs.Int.{div_ceil}
 use Rattle.mg_defs.specs.Front.{is_below}
 use Rattle.mg_front.specs.Entries.{entry_of}
@@ -9,6 +9,7 @@ use Rattle.mg_front.specs.Looks.{halvings}
 use Rattle.mg_front.proofs.ReadPages.{Halved, halved_none, halved_more, halved_look, halved_done, look_as}
 use Rattle.mg_dev.proofs.CallerLemmas.{cause_err}
 use Rattle.mg_front.proofs.ReaderLaws.{looked_again, looked_not, memory_for, same_again}
+use Rattle.mg_front.proofs.StoodLaws.{begins_so, halves_none, halves_some, halves_start, halves_step}
 use Rattle.mg_front.proofs.reader.FrontReader.block_of.Goals as goal
 
 halved_none_as : (strings places : Part) (r : Reads) (blocks left : ℕ) → blocks < 2 ^ 32 → left ≡ blocks → Halved strings places r r left (halvings blocks)
@@ -23,6 +24,7 @@ loop-low-init g c = record {
   low = omega arith;
   reads = λ apart. halved_none_as _ _ _ _ _ (omega (arith, c.div_ceil-high.ensures, c.count.ensures)) (omega arith);
   between = λ es stands. between_start es _ _ (omega (arith, c.div_ceil-high.ensures, c.count.ensures, stands.count));
+  stood = λ told. halves_start _ _ _ _ _ refl (omega (arith, c.div_ceil-high.ensures, c.count.ensures));
 }
 
 under : (above : Bool) (low high middle most l h : ℕ) → l ≡ cond above low (middle + 1) → h ≡ cond above middle high → high ≤ most → low ≤ middle → middle < high → (h ≤ most) × (l ≤ h)
@@ -56,6 +58,10 @@ loop-low-preserved g c =
           c.is_below-above.result (entry_of c.loop-low.self.width c.at.new.out) c.lower-low.result c.higher-high.result here.strings.entries
           (at.entry es here) (c.is_below-above.ensures ∙ ap (is_below c.args.string.now) c.bytes.ensures) (inv.between es stands) c.lower-low.ensures
           c.higher-high.ensures;
+      stood = λ told. halves_step _ _ _ c.is_below-above.result c.loop-low.low c.loop-low.high (c.loop-low.low + (c.loop-low.high - c.loop-low.low) / 2) _ _
+          c.lower-low.ensures c.higher-high.ensures
+          (begins_so _ _ _ _ _ _ _ c.at.new.out inv.same inv.looked.files (at.stood (subst IsSome (sym inv.looked.files) told))
+          (c.is_below-above.ensures ∙ ap (is_below c.args.string.now) c.bytes.ensures)) (inv.stood told);
     }
 
 pub returns-then-low-eq0-clause-found : goal.returns-then-low-eq0-clause-found
@@ -111,3 +117,9 @@ returns-in-Err-clause-bad g c =
       omega (arith, inv.high),
       lost_same _ _ _ _ _ _ inv.same inv.looked.files c.in-Err.ensures.bad,
     )
+
+pub returns-then-low-eq0-clause-stood : goal.returns-then-low-eq0-clause-stood
+returns-then-low-eq0-clause-stood g c = λ told. halves_none _ _ _ c.loop-low.low c.loop-low.high (omega arith) (omega arith) (c.loop-low.invariant.stood told)
+
+pub returns-clause-stood : goal.returns-clause-stood
+returns-clause-stood g c = λ told. halves_some _ _ _ c.loop-low.low c.loop-low.high (omega arith) (omega (arith, c.loop-low.invariant.low)) (c.loop-low.invariant.stood told)

@@ -1,4 +1,4 @@
-use Rattle.std.proofs.Common.{◌≡◌, ◌≤◌, ◌-◌, List, false}
+use Rattle.std.proofs.Common.{◌≡◌, ◌≤◌, ◌-◌, List, IsSome, false}
 use Rattle.std.specs.Int.{div_ceil}
 use Rattle.mg_defs.specs.Front.{Entry}
 use Rattle.mg_front.specs.Reading.{FrontFits, FrontStands, LookedAt, SameParts}
@@ -6,6 +6,7 @@ use Rattle.mg_dev.specs.Names.{same_part}
 use Rattle.mg_front.specs.Looks.{halvings}
 use Rattle.mg_front.proofs.ReadPages.{Halved}
 use Rattle.mg_front.proofs.OrderLaws.{Between}
+use Rattle.mg_front.proofs.StoodLaws.{HalvesStand}
 use Rattle.mg_front.proofs.reader.FrontReader.block_of.Given as goal
 
 abbrev pub invariant-loop-low : goal.invariant-loop-low
@@ -20,6 +21,7 @@ invariant-loop-low g l = record {
       Halved l.fn.self.strings.part l.fn.self.places.part (g.S.Store.reads l.fn.store) (g.S.Store.reads l.store) (l.high - l.low)
       (halvings (div_ceil l.fn.self.count 4));
   between : (es : List Entry) → FrontStands l.fn.self (g.S.Store.files l.fn.store) es → Between es l.string l.low l.high;
+  stood : IsSome (g.S.Store.files l.fn.store) → HalvesStand l.fn.self (g.S.Store.files l.fn.store) l.string l.low l.high;
 }
 
 abbrev pub decreases-loop-low : goal.decreases-loop-low

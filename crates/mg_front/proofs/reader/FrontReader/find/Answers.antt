@@ -1,9 +1,11 @@
-use Rattle.std.proofs.Common.{arith, subst, Ok}
+use Rattle.std.proofs.Common.{arith, subst, sym, IsSome, Ok}
 use Rattle.mg_front.specs.Reading.{AnswersBlock}
 use Rattle.mg_front.proofs.ReadPages.{look_as, looks_more, looks_wider}
 use Rattle.mg_front.proofs.OrderLaws.{block_refused, lost_among, stands_same, none_at_all, found_in}
 use Rattle.mg_dev.proofs.CallerLemmas.{cause_err, cause_then}
 use Rattle.mg_front.proofs.ReaderLaws.{looked_again, memory_for, same_again}
+use Rattle.mg_front.specs.Stood.{BlockStands}
+use Rattle.mg_front.proofs.StoodLaws.{absent_first, found_stands}
 use Rattle.mg_front.proofs.reader.FrontReader.find.Goals as goal
 
 pub returns-in-Err : goal.returns-in-Err
@@ -14,6 +16,7 @@ returns-in-Err g c =
       same = e.step.same;
       looked = e.step.looked;
       found = λ es stands. block_refused _ es _ _ _ (e.found es stands);
+      stood = λ told. tt;
       bad = e.bad;
       memory = memory_for _ e.step.memory;
       reads = λ apart. looks_wider (omega arith) (e.step.reads apart);
@@ -29,6 +32,7 @@ returns-in-Ok-None g c =
       looked = e.step.looked;
       found = λ es stands. none_at_all c.args.self.now.width es c.args.string.now stands.strings.entries
           (subst (λ o. AnswersBlock (Ok o) c.args.string.now es) c.in-Ok-None.field-0-is (e.found es stands));
+      stood = λ told. absent_first _ _ _ (subst (λ o. BlockStands c.args.self.now (g.S.Store.files c.args.store.now) c.args.string.now o) c.in-Ok-None.field-0-is (e.stood told));
       bad = tt;
       memory = λ is. absurd cc;
       reads = λ apart. looks_wider (omega arith) (e.step.reads apart);
@@ -49,6 +53,9 @@ returns g c =
           e.step.same e.step.looked.files stands in
           found_in c.args.self.now.width es c.args.string.now c.in-Ok-Some.block c.find_in.result c.find_in.new.out stands.strings.entries block.1 block.0
           (rw e.step.same.width at (i.found es here));
+      stood = λ told. found_stands _ _ _ _ _ c.in-Ok-Some.block _ c.find_in.result e.step.same e.step.looked.files (rw c.in-Ok-Some.field-0-is at e.below)
+          (subst (λ o. BlockStands c.args.self.now (g.S.Store.files c.args.store.now) c.args.string.now o) c.in-Ok-Some.field-0-is (e.stood told))
+          (i.stood (subst IsSome (sym e.step.looked.files) told));
       bad = lost_among _ _ _ _ _ c.in-Ok-Some.block (rw c.in-Ok-Some.field-0-is at e.below) e.step.same e.step.looked.files i.bad;
       memory = i.step.memory;
       reads = λ apart. looks_more (e.step.reads apart)

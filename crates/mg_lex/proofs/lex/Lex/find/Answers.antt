@@ -3,6 +3,8 @@ use Rattle.mg_defs.specs.Lexicon.{lexicon}
 use Rattle.mg_front.specs.Reading.{AnswersFind}
 use Rattle.mg_lex.proofs.LexLaws.{front_stands, parts_read, refused, term_absent, term_found}
 use Rattle.mg_lex.proofs.InfoLaws.{no_docs, refused_info, told_info}
+use Rattle.mg_front.specs.Stood.{FindStands}
+use Rattle.mg_lex.proofs.StoodLaws.{term_stands}
 use Rattle.mg_lex.proofs.lex.Lex.find.Goals as goal
 
 pub returns-clause-found : goal.returns-clause-found
@@ -57,3 +59,15 @@ returns-in-Err-clause-info g c =
     (λ version collection within stands. refused_info c.in-Err.refusal collection c.args.term.now
     (refused c.in-Err.refusal c.self.inside.front.width collection c.args.term.now c.find.new.out
     (c.in-Err.ensures.found (lexicon collection) (front_stands _ _ collection c.self.invariant.0 stands))))
+
+pub returns-clause-stood : goal.returns-clause-stood
+returns-clause-stood g c =
+    rw (← c.self.view_is)
+    (λ told. term_stands _ _ c.args.term.now c.find.new.out c.in-Ok-Some.number c.told_by.result c.self.invariant.0 c.told_by.ensures.number c.told_by.ensures.field
+    (subst (λ o. FindStands c.self.inside.front (g.S.Store.files c.args.store.now) c.args.term.now c.find.new.out o) c.in-Ok-Some.field-0-is (c.in-Ok-Some.ensures.stood told)))
+
+pub returns-in-Ok-None-clause-stood : goal.returns-in-Ok-None-clause-stood
+returns-in-Ok-None-clause-stood g c =
+    rw (← c.self.view_is)
+    (λ told. subst (λ o. FindStands c.self.inside.front (g.S.Store.files c.args.store.now) c.args.term.now c.find.new.out o) c.in-Ok-None.field-0-is
+    (c.in-Ok-None.ensures.stood told))
