@@ -1,4 +1,5 @@
 mod Lists
+mod Sixteen
 mod Keys
 mod Counting
 mod Order

@@ -17,6 +17,9 @@ use std::hash::{Hash, Hasher};
 /// The first byte of a longer piece's key: no short piece has that length.
 const LONGER: u8 = 16;
 
+/// What the last of sixteen bytes is worth where the lowest comes first.
+const TOP: u128 = 1 << 120;
+
 /// A key of sixteen bytes.
 ///
 /// The key of a piece of at most fifteen bytes is the piece's length and the piece, so that a look-up
@@ -26,13 +29,23 @@ pub(crate) struct PieceKey {
     entry: [u8; 16],
 }
 
+// Whether two keys are the same: two numbers are compared, where sixteen bytes would be put together.
+#[inline]
+fn same_entries(one: &[u8; 16], other: &[u8; 16]) -> bool
+    ensures { result ≡ bytes_eq one.now other.now }
+{
+    let low = eight_at(one, 0) == eight_at(other, 0);
+    let high = eight_at(one, 8) == eight_at(other, 8);
+    low & high
+}
+
 impl PartialEq for PieceKey {
     ghost eq = { λ one other. bytes_eq one.entry other.entry };
 
     ghost laws = { Prim.search (comparing, rules) };
 
     fn eq(&self, other: &PieceKey) -> bool {
-        self.entry == other.entry
+        same_entries(&self.entry, &other.entry)
     }
 }
 
@@ -58,10 +71,16 @@ impl PieceKey {
         requires { length bytes.now ≤ 15 }
         ensures { result.entry ≡ filled first bytes.now }
     {
-        let mut entry = [0u8; 16];
-        entry[0] = first;
-        entry[1..bytes.len() + 1].copy_from_slice(bytes);
-        PieceKey { entry }
+        // Bytes that are written one by one and read as a word make the processor wait, so they are
+        // put into a number first.
+        let mut number = u128::from(first) * TOP;
+        for byte in bytes {
+            number = number / 256 + u128::from(*byte) * TOP;
+        }
+        let number = number >> (8 * (15 - bytes.len()));
+        PieceKey {
+            entry: number.to_le_bytes(),
+        }
     }
 
     // The key of a piece that it holds.
