@@ -7,8 +7,8 @@ use Rattle.std.specs.declared.result.Result.{Result}
 use Rattle.std.proofs.Math.Seq.{take-add, take-length}
 use Rattle.std.proofs.lemmas.List.{append_cancel_right, take-append-le, take-take}
 use Rattle.mg_dev.specs.Faults.{ReadStops}
-use Rattle.mg_dev.specs.Files.{AfterAppend, AfterReset, Files, bytes_at, file_at, grown, written}
-use Rattle.mg_dev.specs.Laws.{append-others, append-told, file_at-written, reset-others, reset-told}
+use Rattle.mg_dev.specs.Files.{AfterAppend, Files, bytes_at, file_at, grown, written}
+use Rattle.mg_dev.specs.Laws.{append-others, append-told, file_at-written}
 use Rattle.mg_dev.specs.Names.{ending, full_name}
 use Rattle.mg_dev.specs.declared.part.Part.{Part}
 use Rattle.mg_dev.specs.declared.fault.Fault.{Fault}
@@ -20,12 +20,6 @@ pub append_alone : {E : Type 0} (before old new : Option Files) (name piece : Li
 append_alone before old new name piece r same after = record {
   told = append-told old new name piece r after ∙ ap is_some same;
   others = λ n apart. append-others old new name n piece r after apart ∙ ap (λ f. file_at f n) same;
-}
-
-pub reset_alone : {E : Type 0} (before old new : Option Files) (name : List ℕ) (r : Result (Unit {0}) E) → old ≡ before → AfterReset old new name r → ChangedAlone name before new
-reset_alone before old new name r same after = record {
-  told = reset-told old new name r after ∙ ap is_some same;
-  others = λ n apart. reset-others old new name n r after apart ∙ ap (λ f. file_at f n) same;
 }
 
 -- nothing changed before

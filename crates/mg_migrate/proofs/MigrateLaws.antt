@@ -1,5 +1,5 @@
 -- The parts of a set that is made anew.
-use Rattle.std.proofs.Common.{arith, ◌≡◌, ◌≢◌, ◌≤◌, ◌<◌, ◌+◌, ◌/◌, ◌∙◌, ◌⊎◌, inl, inr, min, ℕ, zero, suc, List, [], refl, sym, ap, subst, IsSome, Option, Some}
+use Rattle.std.proofs.Common.{arith, ◌≡◌, ◌≢◌, ◌≤◌, ◌<◌, ◌+◌, ◌/◌, ◌∙◌, ◌⊎◌, inl, inr, min, ℕ, zero, suc, List, [], refl, sym, ap, subst, IsSome, Option}
 use Rattle.std.specs.Option.{is_some, unwrap_or}
 use Rattle.std.proofs.lemmas.Bool.{cases_lt}
 use Rattle.mg_dev.specs.Files.{Files, bytes_at, file_at}
@@ -12,7 +12,7 @@ use Rattle.mg_defs.specs.WithinLimits.{IsWithinLimits}
 use Rattle.mg_defs.specs.Stands.{AreParts, Parts}
 use Rattle.mg_layout.specs.Stands.{SameSet, StandsBy, parts_at}
 use Rattle.mg_layout.specs.declared.head.Head as layout
-use Rattle.mg_make.specs.Putting.{IsUnbuilt, LacksOnlyHead, OthersSame}
+use Rattle.mg_make.specs.Putting.{LacksOnlyHead, OthersSame}
 use Rattle.mg_migrate.specs.Copying.{ChangedAlone}
 use Rattle.mg_defs.specs.Heads as defs
 use Rattle.mg_migrate.specs.Migrating.{AreCopied, AreEmptied, IsCopied, IsMadeAnew, LacksHead, copied_part}
@@ -195,8 +195,3 @@ module _ (head : defs.Head) (name new : List ℕ) (before emptied placed now : O
   }
 
 -- ---- where there is no head yet
-
-pub unbuilt_still : (new : List ℕ) (before middle now : Option Files) → is_some middle ≡ is_some before → IsUnbuilt new before middle →
-    (file_at now (full_name new Head) ≡ file_at middle (full_name new Head)) → (IsSome before → file_at middle (full_name new Head) ≡ Some []) →
-    IsUnbuilt new before now
-unbuilt_still new before middle now told unbuilt same gone = inr (λ is. same ∙ gone is)

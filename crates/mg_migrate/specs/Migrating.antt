@@ -12,7 +12,7 @@ use Rattle.mg_dev.specs.declared.part.Part.TheVariants.{Head, Lex, LexAt, MergeA
 use Rattle.mg_defs.specs.CodedText.{TextCode, places_part}
 use Rattle.mg_defs.specs.Heads as defs
 use Rattle.mg_defs.specs.Heads.{head_bytes}
-use Rattle.mg_layout.specs.Stands.{HasNoHead, StandsForNone, StandsIn}
+use Rattle.mg_layout.specs.Stands.{HasNoHead, StandsForNone}
 use Rattle.mg_make.specs.Putting.{LacksOnlyHead}
 
 -- the parts that are the same in both versions, by an index
@@ -100,11 +100,6 @@ ComesFirst NotBuilt = Unit {0}
 ComesFirst _ = ⊥
 
 -- ---- words for contracts
-
--- this is so of each collection that the files of a base stand for, in either version, and of its cap
-abbrev pub ForSetIn : Option Files → List ℕ → (ℕ → List ℕ → Type 0) → Type 0
-ForSetIn files base holds = (version cap : ℕ) (collection : List ℕ) → StandsIn version cap files base collection →
-    holds cap collection
 
 -- when it is done, only the head of a base is to come
 abbrev pub ReadyForHead : {T E : Type 0} → List ℕ → ℕ → Option Files → Result T E → TextCode → List ℕ → Type 0
