@@ -1,19 +1,14 @@
 -- Laws of counting terms.
-use Rattle.std.proofs.Common.{◌≡◌, ℕ, ◌+◌, ◌<◌, ◌≤◌, Bool, true, false, not, cond, ◌&&◌, ◌||◌, ◌==◌, List, [], ◌∷◌, length, drop, map, get_or, refl, sym, ◌∙◌, ap, arith, add-one, zero-add, inl, inr}
+use Rattle.std.proofs.Common.{◌≡◌, ℕ, ◌+◌, ◌<◌, ◌≤◌, Bool, true, false, not, cond, ◌&&◌, ◌||◌, ◌==◌, List, [], ◌∷◌, length, map, get_or, refl, sym, ◌∙◌, ap, arith, zero-add, inl, inr}
 use Rattle.std.specs.Prelude.{count_by, nat_lt, filter}
 use Rattle.std.specs.List.{list_any}
-use Rattle.std.proofs.Math.Seq.{drop-cons}
 use Rattle.std.proofs.lemmas.Bool.{cases_Bool, ne_eqb, lt-ltb}
 use Rattle.std.proofs.lemmas.List.Sums.{sum_by-cons, count_by-le-length}
 use Rattle.mg_defs.specs.Parse.{Pair, parse}
-use Rattle.mg_defs.specs.Terms.{folded, fold_byte, same_term, is_empty, terms, freq_in}
+use Rattle.mg_defs.specs.Terms.{folded, same_term, is_empty, terms, freq_in}
 use Rattle.mg_defs.proofs.ParseLaws.{parse_short}
 use Rattle.mg_query.specs.Holds.{AreThere}
 use Rattle.mg_plain.specs.Counts.{is_hit, hits_in, AreCounts}
-
-pub folded-step : (word t : List ℕ) (i : ℕ) → i < length word → i < length t → same_term (drop i t) (folded (drop i word))
-    ≡ (get_or t i 0 == fold_byte (get_or word i 0) && same_term (drop (i + 1) t) (folded (drop (i + 1) word)))
-folded-step word t i p q = rw (add-one, drop-cons t i 0, drop-cons word i 0)
 
 -- ---- the pairs of a document
 

@@ -42,11 +42,6 @@ not_changed now files name full buf n size same_name same known is within long t
     let size_full : length (bytes_at files full) ≡ size = ap (λ x. length (bytes_at files x)) same_name ∙ size_of in
     omega (arith, read_count now files full buf 0 n same is told within, size_full, long)
 
--- a size that is told, under the name of the part with no ending
-pub size_known : (files : Option Files) (name full : List ℕ) (size : ℕ) → full ≡ name →
-    (IsSome files → ◌≡◌ {A = Option ℕ} (Some size) (option_map length (file_at files full))) → HasSize files name size
-size_known files name full size same known = subst (λ x. HasSize files x size) same known
-
 pub none_there : (files : Option Files) (name full : List ℕ) → full ≡ name → (IsSome files → ◌≡◌ {A = Option ℕ} None (option_map length (file_at files full))) →
     IsSome files → file_at files name ≡ None
 none_there files name full same missing told = subst (λ x. file_at files x ≡ None) same (gone (file_at files full) (missing told))

@@ -1,8 +1,7 @@
 -- A document's sum of products is the one over the query's terms that it has, and its weight is not 0.
-use Rattle.std.proofs.Common.{◌≡◌, ℕ, zero, suc, ◌+◌, ◌*◌, ◌^◌, ◌<◌, ◌≤◌, true, cond, List, [], ◌∷◌, length, drop, get_or, refl, sym, ◌∙◌, ap, arith, add-one, zero-add, inl, inr}
+use Rattle.std.proofs.Common.{◌≡◌, ℕ, zero, suc, ◌+◌, ◌*◌, ◌^◌, ◌≤◌, true, cond, List, [], ◌∷◌, length, refl, sym, ◌∙◌, ap, arith, zero-add, inl, inr}
 use Rattle.std.specs.Prelude.{sum_by, filter, nat_lt}
 use Rattle.std.specs.List.{list_any}
-use Rattle.std.proofs.Math.Seq.{drop-cons}
 use Rattle.std.proofs.lemmas.Bool.{cases_Bool, false≢true}
 use Rattle.std.proofs.lemmas.Nat.{mul-le}
 use Rattle.std.proofs.lemmas.List.Sums.{sum_by-cons}
@@ -14,11 +13,6 @@ use Rattle.mg_defs.proofs.WeightLaws.{weight_root}
 use Rattle.mg_plain.specs.Counts.{AreCounts}
 use Rattle.mg_plain.specs.Products.{products}
 use Rattle.mg_plain.proofs.CountLaws.{some-freq}
-
-pub products-step : (counts weights : List ℕ) (i : ℕ) → i < length counts → i < length weights →
-    products (drop i counts) (drop i weights) ≡ cond (nat_lt 0 (get_or counts i 0)) (weight_in_doc (get_or counts i 0) * get_or weights i 0) 0
-    + products (drop (i + 1) counts) (drop (i + 1) weights)
-products-step counts weights i c w = rw (add-one, drop-cons counts i 0 c, drop-cons weights i 0 w) refl
 
 later : (of : List ℕ → ℕ) (t : List ℕ) (ts : List (List ℕ)) (n : ℕ) (ns : List ℕ) → AreCounts of (t ∷ ts) (n ∷ ns) → AreCounts of ts ns
 later of t ts n ns c = record { size = omega (arith, c.size); each = λ k lt. c.each (suc k) (omega (arith, lt)) }

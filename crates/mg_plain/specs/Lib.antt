@@ -7,4 +7,5 @@ pub mod RankedRows
 pub mod Products
 pub mod RankingUnderWay
 pub mod Stops
+pub mod Printing
 pub mod Scanned

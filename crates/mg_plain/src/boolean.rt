@@ -1,19 +1,18 @@
 //! Boolean lines.
-ghost use Rattle.std.specs.Prelude.{◌≡◌, ◌≤◌, ◌^◌, length, vec_len, IfOk, IfErr, IsErrOf};
+ghost use Rattle.std.specs.Prelude.{◌≡◌, ◌≤◌, length, vec_len, IfOk};
+ghost use Rattle.mg_defs.specs.Limits.{held_bytes, line_bytes};
 ghost use Rattle.mg_defs.specs.Sat.{satisfies};
 ghost use Rattle.mg_defs.specs.QueryTerms.{query_terms};
-ghost use Rattle.mg_dev.specs.Causes.{HasPutCause, HasLack, Rose};
-ghost use Rattle.mg_dev.specs.Streams.{AfterPut};
 ghost use Rattle.mg_defs.specs.ShownAnswers.{satisfying, answer_text};
 ghost use Rattle.mg_defs.specs.Replies.{boolean_reply};
 ghost use Rattle.mg_defs.specs.Read.{boolean};
 ghost use Rattle.mg_query.specs.QueryOf.{query_of};
-ghost use Rattle.mg_plain.specs.Stops.{AnswerStops};
+ghost use Rattle.mg_plain.specs.Printing.{PutsText, WritesReply};
 
 use crate::counts::{count_terms, mark_counted};
 use crate::docs::Docs;
 use mg_defs::Settings;
-use mg_dev::{PartErr, PutErr, ShowErr, Sink};
+use mg_dev::{PutErr, ShowErr, Sink};
 use mg_query::{Query, Terms, parse_boolean};
 use mg_reply::{Pending, answer_refused, pass_hit};
 use std::alloc::{AllocError, Global};
@@ -30,7 +29,7 @@ fn is_satisfied(
     requires terms { terms.now ≡ query_terms (query_of query.now) }
     requires size { vec_len counts.old ≡ length (query_terms (query_of query.now)) }
     requires there { vec_len there.old ≡ length (query_terms (query_of query.now)) }
-    requires small { length doc.now ≤ 2 ^ 28 }
+    requires small { length doc.now ≤ held_bytes }
     ensures value { result ≡ satisfies (query_of query.now) doc.now }
     ensures size { vec_len counts.new ≡ length (query_terms (query_of query.now)) }
     ensures there { vec_len there.new ≡ length (query_terms (query_of query.now)) }
@@ -65,14 +64,13 @@ fn put_found<O: Sink>(
     now: &Settings,
     out: &mut O,
 ) -> Result<(), PutErr>
-    requires small { length bytes.now ≤ 2 ^ 28 }
+    requires small { length bytes.now ≤ held_bytes }
     requires terms { terms.now ≡ query_terms (query_of query.now) }
     requires size { vec_len counts.old ≡ length (query_terms (query_of query.now)) }
     requires there { vec_len there.old ≡ length (query_terms (query_of query.now)) }
-    ensures content { AfterPut (O.written out.old) (O.written out.new)
-        (answer_text bytes.now now.now (satisfying bytes.now (query_of query.now))) result }
-    ensures cause { HasPutCause (O.faults out.old) (O.faults out.new) result }
-    ensures lack { HasLack (O.lacks out.old) (O.lacks out.new) result }
+    ensures puts { PutsText
+        (answer_text bytes.now now.now (satisfying bytes.now (query_of query.now))) result O.Sink
+        out.old out.new }
 {
     let mut pending = Pending::new();
     let mut docs = Docs::new(bytes);
@@ -104,14 +102,10 @@ fn answer_query<O: Sink>(
     now: &Settings,
     out: &mut O,
 ) -> Result<(), ShowErr>
-    requires { length bytes.now ≤ 2 ^ 28 }
-    ensures content { AfterPut (O.written out.old) (O.written out.new)
-        (answer_text bytes.now now.now (satisfying bytes.now (query_of query.now))) result }
-    ensures later { O.faults out.old ≤ O.faults out.new }
-    ensures cause { IfErr result (AnswerStops (Rose (O.faults out.old) (O.faults out.new))
-        (Rose (O.lacks out.old) (O.lacks out.new))) }
-    ensures silent { IsErrOf result (ShowErr.Part PartErr.Memory) →
-        O.written out.new ≡ O.written out.old }
+    requires { length bytes.now ≤ held_bytes }
+    ensures replies { WritesReply
+        (answer_text bytes.now now.now (satisfying bytes.now (query_of query.now))) result O.Sink
+        out.old out.new }
 {
     let terms = query.terms(alloc)?;
     let mut counts = no_counts(alloc, &terms)?;
@@ -130,15 +124,10 @@ pub(crate) fn answer_boolean<O: Sink>(
     now: &Settings,
     out: &mut O,
 ) -> Result<(), ShowErr>
-    requires small { length bytes.now ≤ 2 ^ 28 }
-    requires short { length line.now ≤ 1024 }
-    ensures content { AfterPut (O.written out.old) (O.written out.new)
-        (boolean_reply bytes.now now.now (boolean line.now)) result }
-    ensures later { O.faults out.old ≤ O.faults out.new }
-    ensures cause { IfErr result (AnswerStops (Rose (O.faults out.old) (O.faults out.new))
-        (Rose (O.lacks out.old) (O.lacks out.new))) }
-    ensures silent { IsErrOf result (ShowErr.Part PartErr.Memory) →
-        O.written out.new ≡ O.written out.old }
+    requires small { length bytes.now ≤ held_bytes }
+    requires short { length line.now ≤ line_bytes }
+    ensures replies { WritesReply (boolean_reply bytes.now now.now (boolean line.now)) result
+        O.Sink out.old out.new }
 {
     match parse_boolean(alloc, line) {
         Ok(query) => answer_query(alloc, bytes, &query, now, out),

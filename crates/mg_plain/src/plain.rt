@@ -6,8 +6,9 @@ ghost use Rattle.mg_dev.specs.Names.{same_part};
 ghost use Rattle.mg_dev.specs.declared.part.Part.{Part};
 ghost use Rattle.mg_dev.specs.declared.part.Part.TheVariants.{Plain};
 ghost use Rattle.mg_dev.specs.Streams.{AfterPut};
+ghost use Rattle.mg_defs.specs.Limits.{held_bytes, line_bytes};
 ghost use Rattle.mg_defs.specs.Replies.{reply};
-ghost use Rattle.mg_plain.specs.Stops.{AnswerStops, LoadStops};
+ghost use Rattle.mg_plain.specs.Stops.{AnswerStops, LoadStops, LoadsText};
 
 use crate::boolean::answer_boolean;
 use crate::ranked::answer_ranked;
@@ -48,16 +49,9 @@ fn read_whole<S: Store>(
     name: &str,
     size: u64,
 ) -> Result<PlainText, Fault>
-    requires small { size ≤ 2 ^ 28 }
+    requires small { size ≤ held_bytes }
     requires known { HasSize (S.files store.old) name.now size }
-    ensures content { IsSome (S.files store.old) →
-        IfOk result (λ text. file_at (S.files store.old) name.now ≡ Some text) }
-    ensures cause { IfErr result (LoadStops (Rose (S.faults store.old) (S.faults store.new))
-        (S.files store.old) name.now) }
-    ensures files { S.files store.new ≡ S.files store.old }
-    ensures reads { (p : Part) → same_part p Plain ≡ false →
-        S.reads store.new p ≡ S.reads store.old p }
-    ensures later { S.faults store.old ≤ S.faults store.new }
+    ensures { LoadsText name.now result S.Store store.old store.new }
 {
     let file = FileRef {
         base: name,
@@ -92,7 +86,7 @@ impl PlainText {
     pub fn load<S: Store>(alloc: Global, store: &mut S, name: &str) -> Result<PlainText, Fault>
         ensures content { IsSome (S.files store.old) →
             IfOk result (λ text. file_at (S.files store.old) name.now ≡ Some text) }
-        ensures small { IfOk result (λ text. length text ≤ 2 ^ 28) }
+        ensures small { IfOk result (λ text. length text ≤ held_bytes) }
         ensures cause { IfErr result
             (LoadStops (Rose (S.faults store.old) (S.faults store.new)) (S.files store.old)
             name.now) }
@@ -133,7 +127,7 @@ impl PlainText {
         now: &Settings,
         out: &mut O,
     ) -> Result<(), ShowErr>
-        requires { length line.now ≤ 1024 }
+        requires { length line.now ≤ line_bytes }
         ensures content { AfterPut (O.written out.old) (O.written out.new)
             (reply self.now now.now line.now) result }
         ensures later { O.faults out.old ≤ O.faults out.new }

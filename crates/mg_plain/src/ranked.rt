@@ -1,22 +1,20 @@
 //! Ranked lines.
-ghost use Rattle.std.specs.Prelude.{◌≡◌, ◌<◌, ◌≤◌, ◌^◌, length, take, drop, Some, IfErr, IsErrOf};
+ghost use Rattle.std.specs.Prelude.{◌≡◌, ◌≤◌, length, take, drop};
 ghost use Rattle.std.specs.List.{All, prefix_len};
+ghost use Rattle.mg_defs.specs.Limits.{held_bytes, line_bytes, ranked_terms};
 ghost use Rattle.mg_defs.specs.Weights.{hits_over, limited_to};
 ghost use Rattle.mg_defs.specs.Read.{ranked};
 ghost use Rattle.mg_defs.specs.ShownAnswers.{ranked_as, answer_text, shown};
 ghost use Rattle.mg_defs.specs.Replies.{ranked_reply};
-ghost use Rattle.mg_dev.specs.Causes.{HasPutCause, HasLack, Rose};
-ghost use Rattle.mg_dev.specs.Streams.{AfterPut};
-ghost use Rattle.mg_reply.specs.Pending.{AfterPass};
 ghost use Rattle.mg_plain.specs.Inside.{is_inside};
+ghost use Rattle.mg_plain.specs.Printing.{PassesText, PutsText, WritesReply};
 ghost use Rattle.mg_plain.specs.RankedRows.{IsPlaced, shown_of, shown_rows, rows_text};
-ghost use Rattle.mg_plain.specs.Stops.{AnswerStops};
 
 use crate::docs::doc_len;
 use crate::order::{Row, sort_rows};
 use crate::rows::rows_of;
 use mg_defs::{Mode, Settings};
-use mg_dev::{PartErr, PutErr, ShowErr, Sink};
+use mg_dev::{PutErr, ShowErr, Sink};
 use mg_query::{Terms, parse_ranked};
 use mg_reply::{Pending, answer_refused, pass_shown};
 use std::alloc::Global;
@@ -40,10 +38,8 @@ fn put_row<O: Sink>(
     row: Row,
 ) -> Result<(), PutErr>
     requires { IsPlaced bytes.now row }
-    ensures content { AfterPass (O.written out.old) (O.written out.new) pending.old pending.new
-        (shown bytes.now mode (shown_of row)) result }
-    ensures cause { HasPutCause (O.faults out.old) (O.faults out.new) result }
-    ensures lack { HasLack (O.lacks out.old) (O.lacks out.new) result }
+    ensures passes { PassesText pending.old pending.new (shown bytes.now mode (shown_of row))
+        result O.Sink out.old out.new }
 {
     let doc = match mode {
         Mode::Text => document_at(bytes, row.place),
@@ -62,10 +58,8 @@ fn put_rows<O: Sink>(
     rows: &[Row],
 ) -> Result<(), PutErr>
     requires { All (IsPlaced bytes.now) rows.now }
-    ensures content { AfterPass (O.written out.old) (O.written out.new) pending.old pending.new
-        (rows_text bytes.now mode rows.now) result }
-    ensures cause { HasPutCause (O.faults out.old) (O.faults out.new) result }
-    ensures lack { HasLack (O.lacks out.old) (O.lacks out.new) result }
+    ensures passes { PassesText pending.old pending.new (rows_text bytes.now mode rows.now) result
+        O.Sink out.old out.new }
 {
     for row in rows {
         match put_row(pending, out, bytes, mode, *row) {
@@ -93,12 +87,10 @@ fn put_answer<O: Sink>(
     now: &Settings,
     out: &mut O,
 ) -> Result<(), PutErr>
-    requires few { length rows.now ≤ 2 ^ 28 }
+    requires few { length rows.now ≤ held_bytes }
     requires placed { All (IsPlaced bytes.now) rows.now }
-    ensures content { AfterPut (O.written out.old) (O.written out.new)
-        (answer_text bytes.now now.now (shown_rows rows.now)) result }
-    ensures cause { HasPutCause (O.faults out.old) (O.faults out.new) result }
-    ensures lack { HasLack (O.lacks out.old) (O.lacks out.new) result }
+    ensures puts { PutsText (answer_text bytes.now now.now (shown_rows rows.now)) result O.Sink
+        out.old out.new }
 {
     let mut pending = Pending::new();
     let shown = first_rows(rows, now.most);
@@ -121,15 +113,11 @@ fn answer_terms<O: Sink>(
     now: &Settings,
     out: &mut O,
 ) -> Result<(), ShowErr>
-    requires small { length bytes.now ≤ 2 ^ 28 }
-    requires few { length terms.now ≤ 64 }
-    ensures content { AfterPut (O.written out.old) (O.written out.new)
-        (answer_text bytes.now now.now (ranked_as (hits_over bytes.now terms.now))) result }
-    ensures later { O.faults out.old ≤ O.faults out.new }
-    ensures cause { IfErr result (AnswerStops (Rose (O.faults out.old) (O.faults out.new))
-        (Rose (O.lacks out.old) (O.lacks out.new))) }
-    ensures silent { IsErrOf result (ShowErr.Part PartErr.Memory) →
-        O.written out.new ≡ O.written out.old }
+    requires small { length bytes.now ≤ held_bytes }
+    requires few { length terms.now ≤ ranked_terms }
+    ensures replies { WritesReply
+        (answer_text bytes.now now.now (ranked_as (hits_over bytes.now terms.now))) result O.Sink
+        out.old out.new }
 {
     let mut rows = rows_of(alloc, bytes, terms)?;
     sort_rows(&mut rows);
@@ -147,15 +135,10 @@ pub(crate) fn answer_ranked<O: Sink>(
     now: &Settings,
     out: &mut O,
 ) -> Result<(), ShowErr>
-    requires small { length bytes.now ≤ 2 ^ 28 }
-    requires short { length line.now ≤ 1024 }
-    ensures content { AfterPut (O.written out.old) (O.written out.new)
-        (ranked_reply bytes.now now.now (ranked line.now)) result }
-    ensures later { O.faults out.old ≤ O.faults out.new }
-    ensures cause { IfErr result (AnswerStops (Rose (O.faults out.old) (O.faults out.new))
-        (Rose (O.lacks out.old) (O.lacks out.new))) }
-    ensures silent { IsErrOf result (ShowErr.Part PartErr.Memory) →
-        O.written out.new ≡ O.written out.old }
+    requires small { length bytes.now ≤ held_bytes }
+    requires short { length line.now ≤ line_bytes }
+    ensures replies { WritesReply (ranked_reply bytes.now now.now (ranked line.now)) result O.Sink
+        out.old out.new }
 {
     match parse_ranked(alloc, line) {
         Ok(terms) => answer_terms(alloc, bytes, &terms, now, out),

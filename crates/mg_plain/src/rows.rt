@@ -1,6 +1,7 @@
 //! The documents of a ranked answer, found and scored in two passes over the collection.
 ghost use Rattle.std.specs.Prelude.{◌≡◌, ℕ, ◌+◌, ◌^◌, ◌<◌, ◌≤◌, length, get_or, nat_lt, cond, All, IfOk};
 ghost use Rattle.std.specs.List.{list_any};
+ghost use Rattle.mg_defs.specs.Limits.{held_bytes, ranked_terms};
 ghost use Rattle.mg_defs.specs.Split.{documents};
 ghost use Rattle.mg_defs.specs.Terms.{docs};
 ghost use Rattle.mg_defs.specs.Weights.{hits_over, weight_of_term, wt};
@@ -35,7 +36,7 @@ fn add_document(counts: &[u32], found: &mut [u32])
 /// How many documents there are; `found` is left with how many of them have each term. `counts` is
 /// room for the counts of one document.
 fn count_documents(bytes: &[u8], terms: &[Term], counts: &mut [u32], found: &mut [u32]) -> u32
-    requires small { length bytes.now ≤ 2 ^ 28 }
+    requires small { length bytes.now ≤ held_bytes }
     requires counts { length counts.old ≡ length terms.now }
     requires found { length found.old ≡ length terms.now }
     ensures all { result ≡ length (documents bytes.now) }
@@ -81,19 +82,6 @@ fn weigh_each(found: &mut [u32], all: u32)
     }
 }
 
-/// Leaves the weight of each term in `weights`. `counts` is room for the counts of one document.
-fn weigh_terms(bytes: &[u8], terms: &[Term], counts: &mut [u32], weights: &mut [u32])
-    requires small { length bytes.now ≤ 2 ^ 28 }
-    requires counts { length counts.old ≡ length terms.now }
-    requires weights { length weights.old ≡ length terms.now }
-    ensures weights { AreCounts (wt bytes.now) terms.now weights.new }
-    ensures light { (k : ℕ) → k < length weights.new → get_or weights.new k 0 < 2 ^ 14 }
-    ensures counts { length counts.new ≡ length terms.now }
-{
-    let all = count_documents(bytes, terms, counts, weights);
-    weigh_each(weights, all);
-}
-
 /// Whether some count is not 0.
 #[inline]
 fn has_some(counts: &[u32]) -> bool
@@ -111,8 +99,8 @@ fn score_where_found<'a>(
     weights: &[u32],
     words: &mut Vec<&'a [u8]>,
 ) -> Result<Option<u64>, AllocError>
-    requires small { length doc.now ≤ 2 ^ 28 }
-    requires few { length terms.now ≤ 64 }
+    requires small { length doc.now ≤ held_bytes }
+    requires few { length terms.now ≤ 2 ^ 10 }
     requires counts { length counts.old ≡ length terms.now }
     requires weights { length weights.now ≡ length terms.now }
     requires light { (k : ℕ) → k < length weights.now → get_or weights.now k 0 < 2 ^ 14 }
@@ -135,8 +123,8 @@ fn rows_by(
     counts: &mut [u32],
     weights: &[u32],
 ) -> Result<Vec<Row>, AllocError>
-    requires small { length bytes.now ≤ 2 ^ 28 }
-    requires few { length terms.now ≤ 64 }
+    requires small { length bytes.now ≤ held_bytes }
+    requires few { length terms.now ≤ 2 ^ 10 }
     requires counts { length counts.old ≡ length terms.now }
     requires weights { AreCounts (wt bytes.now) terms.now weights.now }
     requires light { (k : ℕ) → k < length weights.now → get_or weights.now k 0 < 2 ^ 14 }
@@ -165,13 +153,17 @@ fn rows_by(
 
 /// The documents with a term of the query, rising, each with its score and where it begins.
 pub(crate) fn rows_of(alloc: Global, bytes: &[u8], terms: &Terms) -> Result<Vec<Row>, AllocError>
-    requires small { length bytes.now ≤ 2 ^ 28 }
-    requires few { length terms.now ≤ 64 }
+    requires small { length bytes.now ≤ held_bytes }
+    requires few { length terms.now ≤ ranked_terms }
     ensures hits { IfOk result (λ rows. hits_of rows.items ≡ hits_over bytes.now terms.now) }
     ensures placed { IfOk result (λ rows. All (IsPlaced bytes.now) rows.items) }
 {
-    let mut counts = vec![in alloc; 0u32; terms.len()]?;
-    let mut weights = vec![in alloc; 0u32; terms.len()]?;
-    weigh_terms(bytes, terms.as_slice(), &mut counts, &mut weights);
-    rows_by(alloc, bytes, terms.as_slice(), &mut counts, &weights)
+    let mut room = vec![in alloc; 0u32; terms.len()]?;
+    let mut found = vec![in alloc; 0u32; terms.len()]?;
+    let terms = terms.as_slice();
+    let counts = room.as_mut_slice();
+    let weights = found.as_mut_slice();
+    let all = count_documents(bytes, terms, counts, weights);
+    weigh_each(weights, all);
+    rows_by(alloc, bytes, terms, counts, weights)
 }

@@ -1,4 +1,4 @@
-use Rattle.std.proofs.Common.{arith, sym, ◌∙◌}
+use Rattle.std.proofs.Common.{arith, rules, sym, ◌∙◌}
 use Rattle.mg_plain.proofs.BooleanAnswerLaws.{so_far_start, so_far_miss, so_far_hit, so_far_part, so_far_count, counted_text, refused_text}
 use Rattle.mg_plain.proofs.boolean.put_found.Goals as goal
 
@@ -28,9 +28,14 @@ docs-preserved-then-not-is_satisfied g c = record {
   lacks = omega arith;
 }
 
-pub returns-in-Err-clause-content : goal.returns-in-Err-clause-content
-returns-in-Err-clause-content g c =
-    so_far_part c.docs.invariant.scanned c.in-Some.ensures (sym c.is_satisfied.ensures.value ∙ c.if-not-is_satisfied.false) c.in-Err.ensures.content
+pub returns-in-Err : goal.returns-in-Err
+returns-in-Err g c = record {
+  puts = record {
+    content = so_far_part c.docs.invariant.scanned c.in-Some.ensures (sym c.is_satisfied.ensures.value ∙ c.if-not-is_satisfied.false) c.in-Err.ensures.content;
+    cause = search rules;
+    lack = search rules;
+  };
+}
 
 pub overflow_add-total : goal.overflow_add-total
 overflow_add-total g c = omega (arith, (so_far_count c.docs.invariant.scanned c.in-Some.ensures c.requires.small).0, c.docs.invariant.few)
@@ -45,9 +50,20 @@ docs-preserved g c = record {
   lacks = omega arith;
 }
 
-pub returns-in-Ok-count-clause-content : goal.returns-in-Ok-count-clause-content
-returns-in-Ok-count-clause-content g c =
-    counted_text _ c.flush.result c.docs.invariant.scanned c.in_default.ensures.0 c.in-Ok-count.ensures.content c.flush.ensures.content
+pub returns-in-Ok-count : goal.returns-in-Ok-count
+returns-in-Ok-count g c = record {
+  puts = record {
+    content = counted_text _ c.flush.result c.docs.invariant.scanned c.in_default.ensures.0 c.in-Ok-count.ensures.content c.flush.ensures.content;
+    cause = search rules;
+    lack = search rules;
+  };
+}
 
-pub returns-in-Err-count-clause-content : goal.returns-in-Err-count-clause-content
-returns-in-Err-count-clause-content g c = refused_text c.docs.invariant.scanned c.in_default.ensures.0 c.in-Err-count.ensures.content
+pub returns-in-Err-count : goal.returns-in-Err-count
+returns-in-Err-count g c = record {
+  puts = record {
+    content = refused_text c.docs.invariant.scanned c.in_default.ensures.0 c.in-Err-count.ensures.content;
+    cause = search rules;
+    lack = search rules;
+  };
+}

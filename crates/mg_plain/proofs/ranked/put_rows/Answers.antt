@@ -1,4 +1,4 @@
-use Rattle.std.proofs.Common.{arith}
+use Rattle.std.proofs.Common.{arith, rules}
 use Rattle.mg_plain.proofs.RankedAnswerLaws.{rows_start, rows_more, rows_part}
 use Rattle.mg_plain.proofs.ranked.put_rows.Goals as goal
 
@@ -11,10 +11,16 @@ loop-row-init g c = record {
 
 pub loop-row-preserved : goal.loop-row-preserved
 loop-row-preserved g c = record {
-  passed = rows_more c.args.bytes.now c.args.mode c.args.rows.now c.loop-row.row-index _ _ _ _ _ _ _ (omega arith) c.loop-row.invariant.passed c.in-Ok.ensures.content;
-  faults = omega (arith, c.in-Ok.ensures.cause);
-  lacks = omega (arith, c.in-Ok.ensures.lack);
+  passed = rows_more c.args.bytes.now c.args.mode c.args.rows.now c.loop-row.row-index _ _ _ _ _ _ _ (omega arith) c.loop-row.invariant.passed c.in-Ok.ensures.passes.content;
+  faults = omega (arith, c.in-Ok.ensures.passes.cause);
+  lacks = omega (arith, c.in-Ok.ensures.passes.lack);
 }
 
-pub returns-in-Err-clause-content : goal.returns-in-Err-clause-content
-returns-in-Err-clause-content g c = rows_part c.args.bytes.now c.args.mode c.args.rows.now c.loop-row.row-index _ _ _ _ _ _ (omega arith) c.loop-row.invariant.passed c.in-Err.ensures.content
+pub returns-in-Err : goal.returns-in-Err
+returns-in-Err g c = record {
+  passes = record {
+    content = rows_part c.args.bytes.now c.args.mode c.args.rows.now c.loop-row.row-index _ _ _ _ _ _ (omega arith) c.loop-row.invariant.passed c.in-Err.ensures.passes.content;
+    cause = search rules;
+    lack = search rules;
+  };
+}
