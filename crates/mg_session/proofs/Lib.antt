@@ -33,3 +33,4 @@ mod MatchedLaws
 mod LineLaws
 pub mod PhraseExamples
 pub mod AllowedExamples
+pub mod PhraseTextsLaws

@@ -25,3 +25,5 @@ pub mod Replying
 pub mod Queried
 pub mod Phrased
 pub mod Matched
+pub mod PhraseTexts
+pub mod PhraseMarks

@@ -13,11 +13,11 @@
 mod boolean_answer;
 mod document_set;
 mod documents;
-mod held_text;
 mod hit;
 mod laws;
 mod lists;
 mod lookup;
+mod marked;
 mod phrase;
 mod phrase_answer;
 mod phrase_rows;
@@ -32,6 +32,7 @@ mod total;
 mod wild;
 mod wild_answer;
 mod wild_searcher;
+mod word_texts;
 
 pub use laws::query_lines_allow;
 pub use phrase::serve_phrase;

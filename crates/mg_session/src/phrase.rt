@@ -12,10 +12,11 @@ use std::alloc::Global;
 /// Prints the session that the input asks of the files under a base, each line a phrase.
 ///
 /// The head and the lexicon's places are loaded before the first line; nothing is printed where one of
-/// them is refused. A document is decoded only where it has all words of the phrase, and the models are
-/// loaded when there is a first one. One document is held at a time, of no more bytes than the head tells
-/// of the collection. Where the files stand for a collection, the output is the session over its
-/// documents, and where the session stops early, a prefix of it.
+/// them is refused. A document is read only where it has all words of the phrase, and the models are
+/// loaded when there is a first one. The words of one document are held at a time, by their symbols, and
+/// one of more bytes than the head tells of the collection is refused. Where the files stand for a
+/// collection, the output is the session over its documents, and where the session stops early, a prefix
+/// of it.
 ///
 /// # Errors
 ///

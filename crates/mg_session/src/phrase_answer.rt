@@ -1,5 +1,5 @@
 //! The documents that have a phrase, sought among those that have all its words.
-ghost use Rattle.std.specs.Prelude.{◌≡◌, ◌≤◌, ◌<◌, ℕ, List, OnOk, Some, length};
+ghost use Rattle.std.specs.Prelude.{◌≡◌, ◌≤◌, ◌<◌, ℕ, List, [], OnOk, Some, length};
 ghost use Rattle.mg_bool.specs.Matches.{MatchesFit};
 ghost use Rattle.mg_bool.specs.Shown.{MatchesStand};
 ghost use Rattle.mg_defs.specs.QueryTerms.{query_terms};
@@ -9,6 +9,7 @@ ghost use Rattle.mg_query.specs.QueryOf.{query_of};
 ghost use Rattle.mg_session.specs.Calls.{IsShowable, StepsText};
 ghost use Rattle.mg_session.specs.Decided.{PassesRow, PhraseRow, PrintsMatches, PrintsQuery};
 ghost use Rattle.mg_session.specs.Parts.{ShownIn, Stepped};
+ghost use Rattle.mg_session.specs.PhraseTexts.{AreMarksOf};
 ghost use Rattle.mg_session.specs.Replying.{AnswersCandidates, AnswersPhrase, SearchesDocument};
 ghost use Rattle.mg_session.specs.Texts.{TextsFit};
 
@@ -19,29 +20,32 @@ use crate::searched::Searched;
 use crate::total::put_total;
 use mg_bool::Matches;
 use mg_dev::{PartErr, ShowErr, Sink, Store};
+use mg_phrase::Marks;
 use mg_query::Terms;
 
-/// Seeks a phrase in a document, and passes on its row if the phrase has places there.
+/// Seeks the phrase of the marks in a document, and passes on its row if the phrase has places there.
 fn search_document<S: Store, T: Searched<S>, O: Sink>(
     texts: &mut T,
     store: &mut S,
-    phrase: &Terms,
+    marks: &mut Marks<'_>,
     number: u32,
     rows: &mut PhraseRows,
     out: &mut O,
 ) -> Result<(), ShowErr>
-    requires few { length phrase.now ≤ 64 }
     requires showable { IsShowable (S.files store.old) (T.texts texts.old) number }
+    requires marked { AreMarksOf (T.texts texts.old).reader marks.old }
     requires room { rows.old.total < number }
     ensures most { OnOk result (rows.new.total ≤ number) }
     ensures searched { SearchesDocument S.Store O.Sink store.old store.new out.old out.new result
-        (T.texts texts.old) rows.old rows.new phrase.now number }
+        (T.texts texts.old) rows.old rows.new marks.old.phrase number }
+    ensures marked { AreMarksOf (T.texts texts.new).reader marks.new }
+    ensures phrase { marks.new.phrase ≡ marks.old.phrase }
     ensures passed { PassesRow (O.written out.old) (O.written out.new) rows.old rows.new result
         number }
     ensures stepped { StepsText S.Store O.Sink store.old store.new out.old out.new result
         (T.texts texts.old) (T.texts texts.new) (ShownIn mode.Text) }
 {
-    let places = match texts.places(store, phrase, number) {
+    let places = match texts.places(store, marks, number) {
         Ok(places) => places,
         Err(refusal) => return Err(ShowErr::from(refusal)),
     };
@@ -51,24 +55,24 @@ fn search_document<S: Store, T: Searched<S>, O: Sink>(
     }
 }
 
-/// Shows the documents that have a phrase among those that satisfy a query, of which none was asked for
-/// yet; `query` joins the phrase's words by `&`.
+/// Shows the documents that have the phrase of the marks among those that satisfy a query, of which none
+/// was asked for yet; `query` joins the phrase's words by `&`. No mark is kept yet.
 fn search_matches<S: Store, T: Searched<S>, O: Sink>(
     texts: &mut T,
     store: &mut S,
     matches: &mut Matches<'_, S>,
-    phrase: &Terms,
+    marks: &mut Marks<'_>,
     out: &mut O,
 ) -> Result<(), ShowErr>
-    requires few { length phrase.now ≤ 64 }
-    requires joined { IsAllOf phrase.now (Some matches.old.asks) }
+    requires unmarked { marks.old.marks ≡ [] }
+    requires joined { IsAllOf marks.old.phrase (Some matches.old.asks) }
     requires fits { TextsFit (S.files store.old) (T.texts texts.old) }
     requires on { (base : List ℕ) × MatchesFit base (S.files store.old) matches.old }
     requires stands { MatchesStand (S.files store.old) matches.old }
     requires first { matches.old.decided ≡ 0 }
     requires all { (T.texts texts.old).head.documents ≡ matches.old.all }
     ensures answer { AnswersCandidates S.Store O.Sink store.old store.new out.old out.new result
-        (T.texts texts.old) matches.old phrase.now }
+        (T.texts texts.old) matches.old marks.old.phrase }
     ensures printed { PrintsMatches (O.written out.old) (O.written out.new) result
         (S.files store.old) matches.old PhraseRow }
     ensures stepped { StepsText S.Store O.Sink store.old store.new out.old out.new result
@@ -81,7 +85,7 @@ fn search_matches<S: Store, T: Searched<S>, O: Sink>(
             Ok(None) => return put_total(&mut rows.pending, out, rows.total),
             Err(refusal) => return Err(ShowErr::from(refusal)),
         };
-        match search_document(texts, store, phrase, number, &mut rows, out) {
+        match search_document(texts, store, marks, number, &mut rows, out) {
             Ok(()) => {}
             Err(refusal) => return Err(refusal),
         }
@@ -124,5 +128,6 @@ pub(crate) fn answer_phrase<S: Store, T: Searched<S>, O: Sink>(
         Ok(matches) => matches,
         Err(_) => return Err(ShowErr::Part(PartErr::Memory)),
     };
-    search_matches(texts, store, &mut matches, phrase, out)
+    let mut marks = Marks::new(lists.alloc, phrase);
+    search_matches(texts, store, &mut matches, &mut marks, out)
 }

@@ -14,11 +14,10 @@ ghost use Rattle.mg_session.specs.Served.{LineAnswered};
 ghost use Rattle.mg_session.specs.PrintedLaws.{PhraseRule as Prints, phrase_later as prints_later};
 ghost use Rattle.mg_session.specs.Searching.{Fits, MayStop, OpenedOver, SearchFits, Searching, opened_at, state_of};
 
-use crate::held_text::HeldText;
 use crate::lists::Lists;
 use crate::lookup::{Sought, find_terms};
 use crate::phrase_answer::answer_phrase;
-use crate::texts::Texts;
+use crate::word_texts::WordTexts;
 use mg_defs::Settings;
 use mg_dev::{Fault, PartErr, ShowErr, Sink, Store};
 use mg_layout::Head;
@@ -31,13 +30,13 @@ use std::marker::Model;
 
 /// Answers the lines of a session of phrases from the parts of a base.
 ///
-/// One document is held at a time, and none that is longer than the collection by its head. Contracts see
-/// the parts that are open.
+/// The words of one document are held at a time, by their symbols, and of none that is longer than the
+/// collection by its head. Contracts see the parts that are open.
 #[derive(Drop)]
 pub(crate) struct PhraseSearcher<'a, S: Store> {
     lists: Lists<'a>,
     lex: Lex<'a, S>,
-    texts: HeldText<S, Texts<'a, S>>,
+    texts: WordTexts<'a, S>,
 }
 
 impl<'a, S: Store> Model for PhraseSearcher<'a, S> {
@@ -45,7 +44,7 @@ impl<'a, S: Store> Model for PhraseSearcher<'a, S> {
 
     ghost Value = { Opened };
 
-    ghost view = { λ s. record { base = s.lists.base.now; lex = s.lex; texts = s.texts.texts; all = s.lists.all } };
+    ghost view = { λ s. record { base = s.lists.base.now; lex = s.lex; texts = s.texts; all = s.lists.all } };
 }
 
 impl<'a, S: Store> PhraseSearcher<'a, S> {
@@ -58,11 +57,10 @@ impl<'a, S: Store> PhraseSearcher<'a, S> {
             base,
             all: head.documents,
         };
-        let texts = Texts::new(alloc, base, head);
         PhraseSearcher {
             lists,
             lex,
-            texts: HeldText::new(alloc, texts, head.collection),
+            texts: WordTexts::new(alloc, base, head),
         }
     }
 

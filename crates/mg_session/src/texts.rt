@@ -36,7 +36,7 @@ impl<'a, S: Store> Model for Texts<'a, S> {
 }
 
 // Keeps a value in place of what was there. Who calls it sees nothing of what is dropped.
-fn keep<T: Drop>(place: &mut Option<T>, value: T)
+pub(crate) fn keep<T: Drop>(place: &mut Option<T>, value: T)
     ensures { place.new ≡ Some value }
 {
     *place = Some(value);

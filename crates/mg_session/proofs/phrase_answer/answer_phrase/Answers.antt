@@ -1,4 +1,5 @@
-use Rattle.std.proofs.Common.{◌∙◌, Some, subst, sym}
+use Rattle.std.proofs.Common.{◌∙◌, ap, Some, subst, sym}
+use Rattle.mg_phrase.specs.Marks.{Marking}
 use Rattle.mg_query.specs.AllOf.{IsAllOf}
 use Rattle.mg_query.specs.declared.query.Query.{Query}
 use Rattle.mg_session.specs.Decided.{PhraseRow}
@@ -11,13 +12,16 @@ pub returns-in-Err-clause-answer : goal.returns-in-Err-clause-answer
 returns-in-Err-clause-answer g c = λ code collection stands told. none_answered _ collection c.args.phrase.now _ _
 
 pub search_matches-requires-clause-joined : goal.search_matches-requires-clause-joined
-search_matches-requires-clause-joined g c = subst (λ (q : Query). IsAllOf c.args.phrase.now (Some q)) (sym c.in-Ok.ensures.asks) c.requires.joined
+search_matches-requires-clause-joined g c = rw c.new-marks.ensures (subst (λ (q : Query). IsAllOf c.args.phrase.now (Some q)) (sym c.in-Ok.ensures.asks) c.requires.joined)
 
 pub returns-clause-answer : goal.returns-clause-answer
 returns-clause-answer g c = λ code collection stands told.
-    c.search_matches.ensures.answer c.args.lists.now.base.now code collection
+    rw c.new-marks.ensures at (c.search_matches.ensures.answer c.args.lists.now.base.now code collection
     (record { weights = stands.weights; texts_are = stands.texts_are; all_is = c.in-Ok.ensures.all ∙ stands.all_is })
-    (c.in-Ok.ensures.over collection told stands.all_is)
+    (c.in-Ok.ensures.over collection told stands.all_is))
+
+pub search_matches-requires-clause-unmarked : goal.search_matches-requires-clause-unmarked
+search_matches-requires-clause-unmarked g c = ap (λ (m : Marking). m.marks) c.new-marks.ensures
 
 pub search_matches-requires-clause-stands : goal.search_matches-requires-clause-stands
 search_matches-requires-clause-stands g c = c.in-Ok.ensures.stands _

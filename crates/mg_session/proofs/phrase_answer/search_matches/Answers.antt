@@ -12,6 +12,7 @@ use Rattle.mg_query.specs.declared.query.Query.{Query}
 use Rattle.mg_session.specs.SearchLaws.{texts_later, weights_later}
 use Rattle.mg_session.specs.Texts.{TextsFit}
 use Rattle.mg_session.proofs.CallLaws.{text_refused, text_shown, text_start, text_written}
+use Rattle.mg_session.proofs.PhraseTextsLaws.{none_marked}
 use Rattle.mg_session.proofs.PhraseWalkLaws.{joined, walked_cut, walked_end, walked_searched, walked_start, walked_stop}
 use Rattle.mg_session.proofs.ReplyLaws.{list_sound}
 use Rattle.mg_session.proofs.DecidedLaws.{printing_end, printing_hit, printing_start}
@@ -24,10 +25,12 @@ matches-init g c = record {
   so_far = text_start c.requires.fits;
   on = c.requires.on;
   kept = record { asks = refl; all = refl };
+  marked = none_marked _ _ c.requires.unmarked;
+  phrase = refl;
   few = omega (arith, c.new-rows.ensures.total);
   within = omega (arith, c.requires.first);
   printing = printing_start c.requires.stands c.requires.first c.new-rows.ensures.waiting c.new-rows.ensures.total;
-  walked = λ base code collection stands over. walked_start c.args.phrase.now c.new-rows.ensures.waiting c.new-rows.ensures.total c.requires.first over;
+  walked = λ base code collection stands over. walked_start c.args.marks.now.phrase c.new-rows.ensures.waiting c.new-rows.ensures.total c.requires.first over;
 }
 
 pub returns-in-Err-clause-answer : goal.returns-in-Err-clause-answer
@@ -39,7 +42,7 @@ returns-in-Err-clause-answer g c = λ base code collection stands over.
     (pages_read c.next.new.self.places) (g.S.Store.reads c.matches.store) (g.S.Store.reads c.next.new.store)) inv.kept.asks
     (c.in-Err.ensures.pages base collection lists walked.over) in
     walked_stop c.matches.matches c.next.new.self (g.S.Store.reads c.matches.store) (g.S.Store.reads c.next.new.store)
-    (joined code collection c.args.phrase.now c.args.matches.now.asks c.requires.joined) walked pages (lists_text _ _ c.in-Err.ensures.reads)
+    (joined code collection c.args.marks.now.phrase c.args.matches.now.asks c.requires.joined) walked pages (lists_text _ _ c.in-Err.ensures.reads)
     (list_sound c.in-Err.refusal _ _ c.from.ensures (c.in-Err.ensures.answer base collection lists walked.over))
 
 pub returns-in-Err-search_document-clause-answer : goal.returns-in-Err-search_document-clause-answer
@@ -53,11 +56,11 @@ returns-in-Err-search_document-clause-answer g c = λ base code collection stand
     (c.in-Ok-Some.ensures.pages base collection lists walked.over) in
     let answer = c.in-Ok-Some.ensures.answer base collection lists walked.over in
     walked_cut c.matches.matches c.next.new.self (g.S.Store.reads c.matches.store) (g.S.Store.reads c.next.new.store)
-    (joined code collection c.args.phrase.now c.args.matches.now.asks c.requires.joined) walked
+    (joined code collection c.args.marks.now.phrase c.args.matches.now.asks c.requires.joined) walked
     (subst (GoesOn (left_of collection c.matches.matches) (left_of collection c.next.new.self)) c.in-Ok-Some.field-0-is answer.0) pages
     (lists_text _ _ c.in-Ok-Some.ensures.reads)
     (shown_post _ _ _ _ _ _ _ c.in-Err-search_document.ensures.stepped.step)
-    (c.in-Err-search_document.ensures.searched code collection text)
+    (rw inv.phrase at (c.in-Err-search_document.ensures.searched code collection text))
 
 pub matches-preserved : goal.matches-preserved
 matches-preserved g c =
@@ -69,6 +72,8 @@ matches-preserved g c =
       so_far = text_shown inv.so_far (lists_step _ _ _ _ _ _ _ c.in-Ok-Some.ensures.files c.in-Ok-Some.ensures.cause.later c.in-Ok-Some.ensures.reads) c.in-Ok.ensures.stepped;
       on = (inv.on.0, fit_later _ _ _ _ c.in-Ok.ensures.stepped.step.files (c.in-Ok-Some.ensures.fits inv.on.0 inv.on.1));
       kept = record { asks = kept.asks ∙ inv.kept.asks; all = kept.all ∙ inv.kept.all };
+      marked = c.in-Ok.ensures.marked;
+      phrase = c.in-Ok.ensures.phrase ∙ inv.phrase;
       few = omega (arith, range, c.in-Ok.ensures.most);
       within = omega (arith, range, kept.all);
       printing = printing_hit c.next.new.self inv.printing inv.kept inv.so_far.step.files _ c.in-Ok-Some.ensures.shows c.in-Ok-Some.number c.in-Ok-Some.field-0-is
@@ -84,7 +89,7 @@ matches-preserved g c =
           (c.in-Ok-Some.ensures.pages base collection lists walked.over)
           (lists_text _ _ c.in-Ok-Some.ensures.reads)
           (shown_post _ _ _ _ _ _ _ c.in-Ok.ensures.stepped.step)
-          (c.in-Ok.ensures.searched code collection text);
+          (rw inv.phrase at (c.in-Ok.ensures.searched code collection text));
     }
 
 pub returns-in-Ok-None-clause-answer : goal.returns-in-Ok-None-clause-answer
@@ -97,7 +102,7 @@ returns-in-Ok-None-clause-answer g c = λ base code collection stands over.
     (c.in-Ok-None.ensures.pages base collection lists walked.over) in
     let answer = c.in-Ok-None.ensures.answer base collection lists walked.over in
     walked_end c.matches.matches c.next.new.self (g.S.Store.reads c.matches.store) (g.S.Store.reads c.next.new.store)
-    (joined code collection c.args.phrase.now c.args.matches.now.asks c.requires.joined) walked
+    (joined code collection c.args.marks.now.phrase c.args.matches.now.asks c.requires.joined) walked
     (subst (GoesOn (left_of collection c.matches.matches) (left_of collection c.next.new.self)) c.in-Ok-None.field-0-is answer.0) pages
     (lists_text _ _ c.in-Ok-None.ensures.reads)
     c.put_total.ensures.content
@@ -134,6 +139,9 @@ returns-in-Ok-None-clause-stepped g c =
     text_written c.matches.invariant.so_far (lists_step _ _ _ _ _ _ _ e.files e.cause.later e.reads) c.put_total.ensures.alone
 
 -- ---- the document that is found
+
+pub search_document-requires-clause-marked : goal.search_document-requires-clause-marked
+search_document-requires-clause-marked g c = c.matches.invariant.marked
 
 pub search_document-requires-clause-showable : goal.search_document-requires-clause-showable
 search_document-requires-clause-showable g c =

@@ -34,7 +34,7 @@ answer_phrase-requires-clause-size g c =
 pub returns : goal.returns
 returns g c = record {
   answer = λ code collection over.
-      let own : Opened = record { base = c.self.inside.lists.base.now; lex = c.self.inside.lex; texts = c.self.inside.texts.texts; all = c.self.inside.lists.all } in
+      let own : Opened = record { base = c.self.inside.lists.base.now; lex = c.self.inside.lex; texts = c.self.inside.texts; all = c.self.inside.lists.all } in
       let own_over : OpenedOver (g.S.Store.files c.args.store.now) own code collection = subst
       (λ (o : Opened). OpenedOver (g.S.Store.files c.args.store.now) o code collection) (sym c.self.view_is) over in
       let told = c.in-Ok.ensures.answer own_over.version collection own_over.limits own_over.lex in
