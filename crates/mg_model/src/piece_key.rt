@@ -84,7 +84,7 @@ impl PieceKey {
     }
 
     // The key of a piece that it holds.
-    fn short(piece: &[u8]) -> PieceKey
+    pub(crate) fn short(piece: &[u8]) -> PieceKey
         requires { length piece.now ≤ 15 }
         ensures { result.entry ≡ short_key piece.now }
     {
@@ -101,7 +101,6 @@ impl PieceKey {
 }
 
 /// The key of a piece. One of more than fifteen bytes has none where it is not among the longer ones.
-#[inline]
 pub(crate) fn key_of(longer: &IndexSet<Vec<u8>>, piece: &[u8]) -> Option<PieceKey>
     ensures key { IfSome result (λ key. IsKeyOf longer.now.keys key.entry piece.now) }
     ensures none { IfNone result (HasNoNumber longer.now.keys piece.now) }

@@ -9,6 +9,7 @@ ghost use Rattle.mg_defs.specs.Vocabulary.{has_piece, counted, total, sorted_of,
 ghost use Rattle.mg_model.specs.Vocabularies.{IsVocabulary, pieces_of, entry_counts};
 
 use crate::VocabErr;
+use crate::block::SHORT;
 use crate::piece_key::{PieceKey, key_of, new_key, order, piece_of};
 use indexmap::{IndexMap, IndexSet};
 use std::alloc::{AllocError, Global};
@@ -159,6 +160,18 @@ impl Vocab {
 
     /// The place of a piece among the entries.
     pub(crate) fn place_of(&self, piece: &[u8]) -> Option<u32>
+        ensures { result ≡ position (bytes_eq piece.now) (pieces_of self.now) }
+    {
+        if piece.len() <= SHORT {
+            return place_in(&self.counts, &PieceKey::short(piece));
+        }
+        self.place_by_key(piece)
+    }
+
+    // The same, of a longer piece too. It stands apart, so that above the key of a short piece stays a
+    // number.
+    #[inline(never)]
+    fn place_by_key(&self, piece: &[u8]) -> Option<u32>
         ensures { result ≡ position (bytes_eq piece.now) (pieces_of self.now) }
     {
         match key_of(&self.longer, piece) {
