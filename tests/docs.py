@@ -51,6 +51,10 @@ def spans(text):
     return re.findall(r"`([^`\n]+)`", text)
 
 
+# A cell that only lists files by crate is no sentence, however many there are.
+FILES = re.compile(r"(?:\w+: `\w+`(?:, `\w+`)*(?:; |$))+")
+
+
 def paragraphs(path):
     """What a page says in sentences: its paragraphs, items and cells, without its blocks of code and its headings."""
     text = re.sub(r"^```.*?^```$", "", path.read_text(), flags=re.M | re.S)
@@ -60,7 +64,7 @@ def paragraphs(path):
         if line.startswith("    ") and not found[-1] or not words or words.startswith("#"):
             found.append([])
         elif words.startswith("|"):
-            found += [[cell] for cell in cells(words)] + [[]]
+            found += [[cell] for cell in cells(words) if not FILES.fullmatch(cell)] + [[]]
         elif item := re.match(r"(?:[-*]|\d+\.) (.*)", words):
             found.append([item[1]])
         else:
