@@ -95,7 +95,8 @@ queried_as base run r is served printed broken texts_unread = record {
 pub no_head : (base : List ℕ) (s0 s1 : StoreAt) (i : SourceAt) (o e e1 : SinkAt) (f : Fault) → HeadOpened base s0 s1 (Err f) → Queried base (run_of s0 s1 i i o o e e1 (Err f))
 no_head base s0 s1 i o e e1 f h =
     queried_as base (run_of s0 s1 i i o o e e1 (Err f)) (Err f) refl (head_stopped queries base s0 s1 i o e e1 f h)
-    (λ given told some end. when_ok {T = Unit {0}} _ (Err f) end tt) (λ given told some end. none_answered Commands (PrintsOver QuestionPrints base s0.files) given refl refl some) (λ given some asks p of_text. h.unread p (text_behind p of_text))
+    (λ given told some end. when_ok {T = Unit {0}} _ (Err f) end tt) (λ given told some end. none_answered Commands (PrintsOver QuestionPrints base s0.files) given refl refl some)
+    (λ given some asks p of_text. h.unread p (text_behind p of_text))
 
 pub no_set : (base : List ℕ) (s0 s1 s2 : StoreAt) (i : SourceAt) (o e e1 : SinkAt) (head : Head) (f : Fault) → HeadOpened base s0 s1 (Ok head) →
     SetOpened (OpenedOver s2.files) KeptByQueries (λ count. ⊥) head base s1 s2 (Err f) → Queried base (run_of s0 s2 i i o o e e1 (Err f))
