@@ -3,9 +3,11 @@ use Rattle.std.specs.Prelude.{◌≡◌, ◌<◌, ◌≤◌, ℕ, true, List, le
 use Rattle.std.specs.declared.option.Option.{Option}
 use Rattle.std.specs.declared.result.Result.{Result}
 use Rattle.mg_dev.specs.Causes.{Rose}
+use Rattle.mg_dev.specs.Each.{ForEach}
 use Rattle.mg_dev.specs.Files.{Files, file_at}
 use Rattle.mg_dev.specs.declared.fault.Fault.{Fault}
 use Rattle.mg_dev.specs.declared.fault.Fault.TheVariants.{StoreFault, WriteFault, TooLarge, TooManyDocuments, TooManyPieces, Memory}
+use Rattle.mg_dev.specs.declared.store.Store as stores
 use Rattle.mg_defs.specs.declared.Stream.{Stream}
 use Rattle.mg_defs.specs.Limits.{held_bytes, version_2}
 use Rattle.mg_defs.specs.WithinLimits.{IsWithinLimits}
@@ -53,6 +55,18 @@ abbrev pub Lacks : Type 0 → Fault → Type 0
 Lacks store_rose StoreFault = store_rose
 Lacks store_rose Memory = Unit {0}
 Lacks store_rose _ = ⊥
+
+-- a call over a store stops only where that failed or memory was wanting
+pub record StopsLacking {X T : Type 0} (result : Result T Fault) (of : stores.Ghosts X) (store store_now : X) : Type 0 where
+  pub cause : IfErr result (Lacks (Rose (of.faults store) (of.faults store_now)))
+  pub later : of.faults store ≤ of.faults store_now
+
+-- questions are asked over a store, which keeps its files; of each collection that is built there, they stop only so
+pub record AsksBuilt {X T : Type 0} (result : Result T Fault) (of : stores.Ghosts X) (store store_now : X) : Type 0 where
+  pub files : of.files store_now ≡ of.files store
+  pub cause : ForEach (IsBuilt (of.files store))
+      (λ collection. IfErr result (Lacks (Rose (of.faults store) (of.faults store_now))))
+  pub later : of.faults store ≤ of.faults store_now
 
 -- the cause of each refusal of a trial, by the collection that it makes
 abbrev pub TrialStops : Type 0 → Type 0 → List ℕ → Fault → Type 0

@@ -1,11 +1,10 @@
 //! What a set and the collection's text tell, compared.
 ghost use Rattle.std.specs.Prelude.{◌≡◌, ◌≤◌, true, length, IfErr, IfOk, Ok};
-ghost use Rattle.mg_dev.specs.Causes.{Rose};
 ghost use Rattle.mg_dev.specs.Each.{ForEach};
 ghost use Rattle.mg_layout.specs.Stands.{Stands};
 ghost use Rattle.mg_defs.specs.Generator.{made_session};
 ghost use Rattle.mg_defs.specs.Replies.{session};
-ghost use Rattle.mg_top.specs.Trials.{HoldsText, IsBuilt, Lacks, replies_of, set_name};
+ghost use Rattle.mg_top.specs.Trials.{AsksBuilt, HoldsText, IsBuilt, Lacks, StopsLacking, replies_of, set_name};
 
 use crate::trials::{SET, TEXT};
 use mg_decode::decode;
@@ -23,9 +22,8 @@ const STEP: usize = 4096;
 pub(crate) fn is_decoded<S: Store>(alloc: Global, store: &mut S, text: &[u8]) -> Result<bool, Fault>
     requires stands { Stands (S.files store.old) set_name text.now }
     ensures same { IfOk result (λ same. same ≡ true) }
-    ensures cause { IfErr result (Lacks (Rose (S.faults store.old) (S.faults store.new))) }
     ensures files { S.files store.new ≡ S.files store.old }
-    ensures later { S.faults store.old ≤ S.faults store.new }
+    ensures stops { StopsLacking result S.Store store.old store.new }
 {
     let mut out = SureSink::new(alloc);
     match decode(alloc, store, SET, &mut out) {
@@ -40,10 +38,7 @@ fn served<S: Store>(alloc: Global, store: &mut S, questions: &[u8]) -> Result<Su
     ensures replies { ForEach (IsBuilt (S.files store.old))
         (λ collection. HoldsText ⟦<SureSink as Sink>⟧.written result
         (session collection questions.now)) }
-    ensures cause { ForEach (IsBuilt (S.files store.old))
-        (λ collection. IfErr result (Lacks (Rose (S.faults store.old) (S.faults store.new)))) }
-    ensures files { S.files store.new ≡ S.files store.old }
-    ensures later { S.faults store.old ≤ S.faults store.new }
+    ensures asks { AsksBuilt result S.Store store.old store.new }
 {
     let mut input = match SureSource::new(alloc, questions, STEP) {
         Ok(input) => input,
@@ -62,10 +57,7 @@ fn scanned<S: Store>(alloc: Global, store: &mut S, questions: &[u8]) -> Result<S
     ensures replies { ForEach (IsBuilt (S.files store.old))
         (λ collection. HoldsText ⟦<SureSink as Sink>⟧.written result
         (session collection questions.now)) }
-    ensures cause { ForEach (IsBuilt (S.files store.old))
-        (λ collection. IfErr result (Lacks (Rose (S.faults store.old) (S.faults store.new)))) }
-    ensures files { S.files store.new ≡ S.files store.old }
-    ensures later { S.faults store.old ≤ S.faults store.new }
+    ensures asks { AsksBuilt result S.Store store.old store.new }
 {
     let mut input = match SureSource::new(alloc, questions, STEP) {
         Ok(input) => input,
@@ -105,10 +97,7 @@ pub(crate) fn ask_both<S: Store>(alloc: Global, store: &mut S, seed: u64) -> Res
     ensures replies { ForEach (IsBuilt (S.files store.old))
         (λ collection. IfOk result (λ replies. replies ≡
         replies_of collection (made_session seed))) }
-    ensures cause { ForEach (IsBuilt (S.files store.old))
-        (λ collection. IfErr result (Lacks (Rose (S.faults store.old) (S.faults store.new)))) }
-    ensures files { S.files store.new ≡ S.files store.old }
-    ensures later { S.faults store.old ≤ S.faults store.new }
+    ensures asks { AsksBuilt result S.Store store.old store.new }
 {
     let questions = match made_questions(alloc, seed) {
         Ok(questions) => questions,

@@ -4,9 +4,8 @@
 //! budget left none.
 ghost use Rattle.std.specs.Prelude.{[], codes};
 ghost use Rattle.std.specs.List.{flat_map};
-ghost use Rattle.mg_dev.specs.Streams.{AfterPut};
-ghost use Rattle.mg_dev.specs.Causes.{HasPutCause, HasLack};
 ghost use Rattle.mg_defs.specs.Summaries.{number_line};
+ghost use Rattle.mg_plain.specs.Printing.{PutsText};
 ghost use Rattle.mg_top.specs.Lines.{line_text, bytes_line, compared_line, summary_lines, pool_line, stands_line, trial_summary_lines};
 
 use crate::trial_summary::TrialSummary;
@@ -28,10 +27,7 @@ pub(crate) enum Line<'a> {
 
 #[tactic(auto, unfolding(crate::specs::Lines::pool_line))]
 fn put_pool<O: Sink>(out: &mut O, peak: u64, budget: u64) -> Result<(), PutErr>
-    ensures content { AfterPut (O.written out.old) (O.written out.new) (pool_line peak budget)
-        result }
-    ensures cause { HasPutCause (O.faults out.old) (O.faults out.new) result }
-    ensures lack { HasLack (O.lacks out.old) (O.lacks out.new) result }
+    ensures { PutsText (pool_line peak budget) result O.Sink out.old out.new }
 {
     let pieces = [
         Piece::Text("pool "),
@@ -44,10 +40,7 @@ fn put_pool<O: Sink>(out: &mut O, peak: u64, budget: u64) -> Result<(), PutErr>
 }
 
 fn put_number<O: Sink>(out: &mut O, name: &str, number: u64) -> Result<(), PutErr>
-    ensures content { AfterPut (O.written out.old) (O.written out.new) (number_line name.now number)
-        result }
-    ensures cause { HasPutCause (O.faults out.old) (O.faults out.new) result }
-    ensures lack { HasLack (O.lacks out.old) (O.lacks out.new) result }
+    ensures { PutsText (number_line name.now number) result O.Sink out.old out.new }
 {
     let pieces = [
         Piece::Text(name),
@@ -60,10 +53,7 @@ fn put_number<O: Sink>(out: &mut O, name: &str, number: u64) -> Result<(), PutEr
 
 #[tactic(auto, unfolding(crate::specs::Lines::bytes_line))]
 fn put_bytes<O: Sink>(out: &mut O, name: &str, number: u64) -> Result<(), PutErr>
-    ensures content { AfterPut (O.written out.old) (O.written out.new) (bytes_line name.now number)
-        result }
-    ensures cause { HasPutCause (O.faults out.old) (O.faults out.new) result }
-    ensures lack { HasLack (O.lacks out.old) (O.lacks out.new) result }
+    ensures { PutsText (bytes_line name.now number) result O.Sink out.old out.new }
 {
     let pieces = [
         Piece::Text(name),
@@ -76,10 +66,7 @@ fn put_bytes<O: Sink>(out: &mut O, name: &str, number: u64) -> Result<(), PutErr
 
 #[tactic(auto, unfolding(crate::specs::Lines::compared_line))]
 fn put_compared<O: Sink>(out: &mut O, name: &str, same: bool) -> Result<(), PutErr>
-    ensures content { AfterPut (O.written out.old) (O.written out.new) (compared_line name.now same)
-        result }
-    ensures cause { HasPutCause (O.faults out.old) (O.faults out.new) result }
-    ensures lack { HasLack (O.lacks out.old) (O.lacks out.new) result }
+    ensures { PutsText (compared_line name.now same) result O.Sink out.old out.new }
 {
     let how = if same { "same" } else { "different" };
     let pieces = [
@@ -92,10 +79,7 @@ fn put_compared<O: Sink>(out: &mut O, name: &str, same: bool) -> Result<(), PutE
 }
 
 fn put_line<O: Sink>(out: &mut O, line: Line<'_>) -> Result<(), PutErr>
-    ensures content { AfterPut (O.written out.old) (O.written out.new) (line_text line.entry)
-        result }
-    ensures cause { HasPutCause (O.faults out.old) (O.faults out.new) result }
-    ensures lack { HasLack (O.lacks out.old) (O.lacks out.new) result }
+    ensures { PutsText (line_text line.entry) result O.Sink out.old out.new }
 {
     match line {
         Line::Number { name, number } => put_number(out, name, number),
@@ -107,10 +91,7 @@ fn put_line<O: Sink>(out: &mut O, line: Line<'_>) -> Result<(), PutErr>
 
 #[tactic(auto, using(mg_dev::specs::StreamLaws::stream_laws))]
 fn put_lines<O: Sink>(out: &mut O, lines: &[Line<'_>]) -> Result<(), PutErr>
-    ensures content { AfterPut (O.written out.old) (O.written out.new)
-        (flat_map line_text lines.now) result }
-    ensures cause { HasPutCause (O.faults out.old) (O.faults out.new) result }
-    ensures lack { HasLack (O.lacks out.old) (O.lacks out.new) result }
+    ensures { PutsText (flat_map line_text lines.now) result O.Sink out.old out.new }
 {
     match lines {
         [] => Ok(()),
@@ -124,10 +105,7 @@ fn put_lines<O: Sink>(out: &mut O, lines: &[Line<'_>]) -> Result<(), PutErr>
 /// Writes that a set stands: how many documents and bytes its collection has.
 #[tactic(auto, unfolding(crate::specs::Lines::stands_line))]
 pub(crate) fn put_standing<O: Sink>(out: &mut O, documents: u32, bytes: u64) -> Result<(), PutErr>
-    ensures content { AfterPut (O.written out.old) (O.written out.new) (stands_line documents bytes)
-        result }
-    ensures cause { HasPutCause (O.faults out.old) (O.faults out.new) result }
-    ensures lack { HasLack (O.lacks out.old) (O.lacks out.new) result }
+    ensures { PutsText (stands_line documents bytes) result O.Sink out.old out.new }
 {
     let pieces = [
         Piece::Text("stands "),
@@ -141,10 +119,7 @@ pub(crate) fn put_standing<O: Sink>(out: &mut O, documents: u32, bytes: u64) -> 
 
 /// Writes how many documents a set has.
 pub(crate) fn put_documents<O: Sink>(out: &mut O, documents: u32) -> Result<(), PutErr>
-    ensures content { AfterPut (O.written out.old) (O.written out.new)
-        (number_line (codes "documents") documents) result }
-    ensures cause { HasPutCause (O.faults out.old) (O.faults out.new) result }
-    ensures lack { HasLack (O.lacks out.old) (O.lacks out.new) result }
+    ensures { PutsText (number_line (codes "documents") documents) result O.Sink out.old out.new }
 {
     put_number(out, "documents", u64::from(documents))
 }
@@ -152,10 +127,7 @@ pub(crate) fn put_documents<O: Sink>(out: &mut O, documents: u32) -> Result<(), 
 /// Writes the seven lines of a build's summary.
 #[tactic(auto, unfolding(crate::specs::Lines::summary_lines))]
 pub(crate) fn put_summary<O: Sink>(out: &mut O, summary: &Summary) -> Result<(), PutErr>
-    ensures content { AfterPut (O.written out.old) (O.written out.new) (summary_lines summary.now)
-        result }
-    ensures cause { HasPutCause (O.faults out.old) (O.faults out.new) result }
-    ensures lack { HasLack (O.lacks out.old) (O.lacks out.new) result }
+    ensures { PutsText (summary_lines summary.now) result O.Sink out.old out.new }
 {
     let lines = [
         Line::Number {
@@ -193,10 +165,7 @@ pub(crate) fn put_summary<O: Sink>(out: &mut O, summary: &Summary) -> Result<(),
 /// Writes the seven lines of a trial's summary.
 #[tactic(auto, unfolding(crate::specs::Lines::trial_summary_lines))]
 pub(crate) fn put_trial_summary<O: Sink>(out: &mut O, summary: &TrialSummary) -> Result<(), PutErr>
-    ensures content { AfterPut (O.written out.old) (O.written out.new)
-        (trial_summary_lines summary.now) result }
-    ensures cause { HasPutCause (O.faults out.old) (O.faults out.new) result }
-    ensures lack { HasLack (O.lacks out.old) (O.lacks out.new) result }
+    ensures { PutsText (trial_summary_lines summary.now) result O.Sink out.old out.new }
 {
     let lines = [
         Line::Number {

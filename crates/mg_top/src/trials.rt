@@ -11,7 +11,7 @@ ghost use Rattle.mg_defs.specs.Marks.{start as start_mark, piece as piece_mark};
 ghost use Rattle.mg_defs.specs.Summaries.{trial_text};
 ghost use Rattle.mg_dev.specs.Runs.{IsDone, RefusedFor};
 ghost use Rattle.mg_top.specs.Ends.{SilentAfter};
-ghost use Rattle.mg_top.specs.Trials.{HoldsText, IsBuilt, Lacks, TrialStopsBy, WhereAllowed, WhereBeyond, WorkEnds, text_name};
+ghost use Rattle.mg_top.specs.Trials.{HoldsText, IsBuilt, Lacks, StopsLacking, TrialStopsBy, WhereAllowed, WhereBeyond, WorkEnds, text_name};
 
 use crate::comparing::{ask_both, is_decoded};
 use crate::lines::put_trial_summary;
@@ -48,8 +48,7 @@ fn made_text(alloc: Global, seed: u64, docs: u32) -> Result<SureSink, Fault>
 fn put_text<S: Store>(store: &mut S, text: &[u8]) -> Result<(), Fault>
     requires none { S.files store.old ≡ Some no_files }
     ensures there { OnOk result (file_at (S.files store.new) text_name ≡ Some text.now) }
-    ensures cause { IfErr result (Lacks (Rose (S.faults store.old) (S.faults store.new))) }
-    ensures later { S.faults store.old ≤ S.faults store.new }
+    ensures stops { StopsLacking result S.Store store.old store.new }
 {
     let file = FileRef {
         base: TEXT,

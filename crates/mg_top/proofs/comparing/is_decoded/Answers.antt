@@ -1,4 +1,4 @@
-use Rattle.std.proofs.Common.{◌≡◌, ◌∙◌, refl}
+use Rattle.std.proofs.Common.{rules, ◌≡◌, ◌∙◌, refl}
 use Rattle.mg_top.proofs.TrialSteps.{decode_lacks, never_rose, no_sink, no_source, put_first, same_bytes, told_same}
 use Rattle.mg_top.proofs.comparing.is_decoded.Goals as goal
 
@@ -12,8 +12,11 @@ returns-in-Ok-clause-same g c =
 pub returns-in-Ok-clause-files : goal.returns-in-Ok-clause-files
 returns-in-Ok-clause-files g c = (c.in-Ok.ensures.decoded no_source no_sink no_sink).files
 
-pub returns-clause-cause : goal.returns-clause-cause
-returns-clause-cause g c = decode_lacks _ _ _ _ c.args.text.now c.in-Err.fault never_rose c.requires.stands (c.in-Err.ensures.decoded no_source no_sink no_sink).cause
+pub returns-clause-stops : goal.returns-clause-stops
+returns-clause-stops g c = record {
+  cause = decode_lacks _ _ _ _ c.args.text.now c.in-Err.fault never_rose c.requires.stands (c.in-Err.ensures.decoded no_source no_sink no_sink).cause;
+  later = search rules;
+}
 
 pub returns-clause-files : goal.returns-clause-files
 returns-clause-files g c = (c.in-Err.ensures.decoded no_source no_sink no_sink).files

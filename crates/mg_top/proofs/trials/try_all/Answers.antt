@@ -16,7 +16,7 @@ returns-in-Err-build-clause-ends g c =
     let few : length c.bytes-text.result.now ≤ held_bytes = omega arith in
     subst (λ (b : List ℕ). WorkEnds (Rose (g.S.Store.faults c.args.store.now) (g.S.Store.faults c.build.new.store)) c.args.docs b (made_session c.args.seed) (Err c.in-Err-build.fault)) same
     (refused_ends _ _ _ c.bytes-text.result.now c.in-Ok-put_text.ensures.there (told _ _ _ c.in-Ok-put_text.ensures.there) few
-    _ c.args.docs (made_session c.args.seed) c.in-Err-build.fault (λ rose. rose_within _ _ _ _ c.in-Ok-put_text.ensures.later (omega arith) rose) c.in-Err-build.ensures.made)
+    _ c.args.docs (made_session c.args.seed) c.in-Err-build.fault (λ rose. rose_within _ _ _ _ c.in-Ok-put_text.ensures.stops.later (omega arith) rose) c.in-Err-build.ensures.made)
 
 pub is_decoded-requires : goal.is_decoded-requires
 is_decoded-requires g c = record {
@@ -31,8 +31,8 @@ returns-in-Err-ask_both-clause-ends g c =
     built_by _ _ _ _ _ c.in-Ok-put_text.ensures.there ((c.in-Ok-build.ensures.made.done (told _ _ _ c.in-Ok-put_text.ensures.there) refl).stands)
     c.in-Ok-build.ensures.made.others c.in-Ok-is_decoded.ensures.files few in
     lacking_ends _ _ _ _ _ c.in-Err-ask_both.fault
-    (λ rose. rose_within _ _ _ _ (omega (arith, c.in-Ok-put_text.ensures.later, c.in-Ok-build.ensures.later, c.in-Ok-is_decoded.ensures.later)) (omega arith) rose)
-    (c.in-Err-ask_both.ensures.cause c.bytes-text.result.now built)
+    (λ rose. rose_within _ _ _ _ (omega (arith, c.in-Ok-put_text.ensures.stops.later, c.in-Ok-build.ensures.later, c.in-Ok-is_decoded.ensures.stops.later)) (omega arith) rose)
+    (c.in-Err-ask_both.ensures.asks.cause c.bytes-text.result.now built)
 
 pub returns-clause-ends : goal.returns-clause-ends
 returns-clause-ends g c =
@@ -56,4 +56,4 @@ returns-clause-built g c =
     let built : IsBuilt (g.S.Store.files c.is_decoded.new.store) c.bytes-text.result.now =
     built_by _ _ _ _ _ there (c.in-Ok-build.ensures.made.done (told _ _ _ there) refl).stands c.in-Ok-build.ensures.made.others c.in-Ok-is_decoded.ensures.files few in
     subst (λ (b : List ℕ). IsBuilt (g.S.Store.files c.ask_both.new.store) b) same
-    (subst (λ f. IsBuilt f c.bytes-text.result.now) (sym c.in-Ok-ask_both.ensures.files) built)
+    (subst (λ f. IsBuilt f c.bytes-text.result.now) (sym c.in-Ok-ask_both.ensures.asks.files) built)
