@@ -145,8 +145,7 @@ lines_all {hearing} {IsPrinted} {left} {w0} {w1} s end all told =
 -- a line ends the session
 pub lines_quit : {A : Type 0} {hearing : Hearing} {After : A → A → List Question → Type 0} {IsPrinted : PrintRule} {old new : A}
     {before left next w0 w1 : Option (List ℕ)} {now : Settings} {line cut : List ℕ} {size : ℕ} (w2 : Option (List ℕ)) →
-    AnsweredLines hearing After IsPrinted old new before left w0 w1 now → IsFirst line size left next → length line ≤ 1024 → cut ≡ without_return line →
-    stops (command cut now) ≡ true →
+    AnsweredLines hearing After IsPrinted old new before left w0 w1 now → IsFirst line size left next → length line ≤ 1024 → cut ≡ without_return line → stops (command cut now) ≡ true →
     CommandPrints IsPrinted now cut (heard hearing now cut) w1 w2 → (all : List ℕ) → before ≡ Some all → InputPrints hearing IsPrinted w0 w2 all
 lines_quit {hearing} {IsPrinted} {left} {next} {w0} {w1} {now} {line} {cut} {size} w2 s first short cut_is quits printed all told =
     let r = s.goes_on all told in

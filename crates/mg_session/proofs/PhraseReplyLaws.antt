@@ -1,5 +1,5 @@
 -- The reply to a phrase.
-use Rattle.std.proofs.Common.{arith, ◌≡◌, ℕ, ◌+◌, ◌≤◌, List, [], ◌∷◌, ◌++◌, length, None, Some, Err, refl, sym, ◌∙◌, ap, subst, sum_by, length-append}
+use Rattle.std.proofs.Common.{arith, ◌≡◌, ℕ, ◌+◌, ◌≤◌, List, [], ◌∷◌, ◌++◌, length, None, Err, refl, sym, ◌∙◌, ap, subst, sum_by, length-append}
 use Rattle.std.specs.Prelude.{IfSome, IfErr, map, nat_le, nat_lt}
 use Rattle.std.specs.declared.option.Option.{Option}
 use Rattle.std.specs.declared.result.Result.{Result}
@@ -8,7 +8,7 @@ use Rattle.std.proofs.lemmas.Option.{IfSome_then}
 use Rattle.std.proofs.lemmas.List.Sums.{sum_by-append, sum_by-cons}
 use Rattle.mg_dev.specs.Bads.{IsNotBad}
 use Rattle.mg_dev.specs.Files.{Reads}
-use Rattle.mg_dev.specs.Streams.{AfterPut, appended}
+use Rattle.mg_dev.specs.Streams.{AfterPut}
 use Rattle.mg_dev.specs.StreamLaws.{grew_nothing}
 use Rattle.mg_dev.specs.declared.part.Part.TheVariants as part
 use Rattle.mg_dev.specs.declared.part_err.PartErr.{PartErr}
@@ -173,14 +173,6 @@ pub decoded_sound : (refusal : PartErr) (error : ShowErr) → error ≡ show.Par
 decoded_sound Device error is sound = subst (λ e. ShowIsNotBad (Err e)) (sym is) tt
 decoded_sound Memory error is sound = subst (λ e. ShowIsNotBad (Err e)) (sym is) tt
 decoded_sound (Bad bad) error is sound = absurd sound
-
--- what an empty sink in memory took
-pub held_whole : (before now doc : List ℕ) → before ≡ [] → Some now ≡ appended (Some before) doc → now ≡ doc
-unfolding appended
-held_whole before now doc empty put = inside now (before ++ doc) put ∙ ap (λ (b : List ℕ). b ++ doc) empty
-  where
-    inside : (x y : List ℕ) → Some x ≡ Some y → x ≡ y
-    inside x y same = cc
 
 -- ---- a session
 
