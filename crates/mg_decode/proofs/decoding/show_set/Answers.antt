@@ -1,4 +1,7 @@
-use Rattle.std.proofs.Common.{arith, ◌≡◌, ◌∙◌, ap, length, refl, sym}
+use Rattle.std.proofs.Common.{arith, ◌≡◌, ◌≤◌, ◌<◌, ◌∙◌, ap, false, length, refl, sym}
+use Rattle.std.proofs.lemmas.Bool.Decides.{nat_tests}
+use Rattle.mg_dev.specs.Names.{number, same_part}
+use Rattle.mg_dev.specs.declared.part.Part.{Part}
 use Rattle.mg_dev.specs.StreamLaws.{grew_nothing}
 use Rattle.mg_dev.specs.declared.part.Part.TheVariants as part
 use Rattle.mg_defs.specs.Heads as defs
@@ -45,3 +48,12 @@ returns-clause-added g c = rw (ap (λ (b : Gathering). b.left) c.in-Ok.ensures) 
 
 pub returns-clause-cause : goal.returns-clause-cause
 returns-clause-cause g c = show_stops c.show_documents.result _ _ _ _ _ _ _ c.in-Ok-load.ensures.looked.faults c.show_documents.ensures.cause
+
+-- a part behind the places is none of those before it
+behind : (p q : Part) → 5 ≤ number p → number q < 5 → same_part p q ≡ false
+behind p q high low = grind (arith, nat_tests)
+
+pub returns-clause-reads : goal.returns-clause-reads
+returns-clause-reads g c = λ p high.
+    c.show_documents.ensures.looked.others p (behind p part.Text high (omega arith)) (behind p part.Places high (omega arith))
+    ∙ c.in-Ok-load.ensures.looked.others p (behind p part.Words high (omega arith)) (behind p part.Nonwords high (omega arith))
