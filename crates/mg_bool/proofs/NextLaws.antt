@@ -15,6 +15,7 @@ use Rattle.mg_defs.specs.ShownAnswers.{plain, found}
 use Rattle.mg_defs.proofs.ReplyLaws.{found-hit, found-miss}
 use Rattle.mg_defs.proofs.ListLaws.{list_rises}
 use Rattle.mg_defs.specs.PageBounds.{leading, leftmost_fewest, asked_of, asked_by_leader, numbers_in, all_numbers, is_met, in_range}
+use Rattle.mg_defs.proofs.TermLaws.{document_is}
 use Rattle.mg_laws.proofs.BoundLaws.{range_true}
 use Rattle.mg_laws.proofs.BoundsInWords.{number_there}
 use Rattle.mg_laws.proofs.LedLists.{first_of, list_from, from_front, length_front, docs_from, lead_skips, lead_ends, Skips}
@@ -107,6 +108,7 @@ docs_at collection doc some le =
     let split : ds ≡ take d ds ++ get_or ds d [] ∷ drop (d + 1) ds = docs_from ds d (omega (arith, some, le)) in
     ap (drop d) split ∙ ap (λ k. drop k (take d ds ++ get_or ds d [] ∷ drop (d + 1) ds)) (sym (length_front ds d (omega (arith, le))))
     ∙ drop_front (take d ds) (get_or ds d [] ∷ drop (d + 1) ds) ∙ ap (λ k. get_or ds d [] ∷ drop k ds) e
+    ∙ ap (λ x. x ∷ drop doc ds) (sym (document_is collection doc some))
 
 pub decided_miss : (collection : List ℕ) (q : Query) (d doc : ℕ) → IsNextDoc collection q d doc → satisfies q (document collection doc) ≡ false → left_in collection q d ≡ left_in collection q doc
 decided_miss collection q d doc next miss =

@@ -1,13 +1,8 @@
--- The documents of a collection, and the terms of a document, by their numbers among those of a collection.
-use Rattle.std.specs.Prelude.{ℕ, nat_lt, List, [], get_or, map, filter}
+-- The terms of a document, by their numbers among those of a collection.
+use Rattle.std.specs.Prelude.{ℕ, nat_lt, List, map, filter}
 use Rattle.std.specs.List.{enumerate_from}
 use Rattle.mg_defs.specs.Sorted.{number_of}
-use Rattle.mg_defs.specs.Split.{documents}
 use Rattle.mg_defs.specs.Terms.{freq_in, terms}
-
--- the document of a collection at a place, from 0; where there is none, it has no bytes
-abbrev pub doc_at : List ℕ → ℕ → List ℕ
-doc_at collection place = get_or (documents collection) place []
 
 -- the number among these of each term of a document, in reading order
 abbrev pub numbers_in : List (List ℕ) → List ℕ → List ℕ

@@ -7,10 +7,10 @@ use Rattle.std.proofs.lemmas.List.{get_or_past}
 use Rattle.std.proofs.lemmas.List.Sums.{sum_by_more_le}
 use Rattle.std.proofs.lemmas.Bool.{cases_lt}
 use Rattle.mg_defs.specs.Split.{documents, joined}
-use Rattle.mg_defs.specs.Terms.{dictionary, docs}
+use Rattle.mg_defs.specs.Terms.{dictionary, docs, document}
 use Rattle.mg_defs.proofs.SplitLaws.{docs_within, split_unique}
 use Rattle.mg_defs.proofs.StandDocs.{docs-codable, most}
-use Rattle.mg_defs.proofs.TermLaws.{dictionary-of_words}
+use Rattle.mg_defs.proofs.TermLaws.{dictionary-of_words, document_behind}
 use Rattle.mg_defs.specs.CodedText.{TextCode, IsTextCode, places_part, text_part}
 use Rattle.mg_defs.specs.Means.{IsCodable, docs_bytes}
 use Rattle.mg_dev.specs.Files.{Files, file_at, bytes_at}
@@ -54,12 +54,16 @@ pub doc_codable : (r : TextReading) (files : Option Files) (collection : List �
     IsCodable r.code (get_or (documents collection) n [])
 doc_codable r files collection n lt stand = all_at (IsCodable r.code) (documents collection) n [] lt (docs-codable r.code collection stand.code stand.few)
 
-pub doc_short : (collection : List ℕ) (n : ℕ) → length collection < 2 ^ 32 → length (get_or (documents collection) n []) ≤ 2 ^ 32 - 1
-doc_short collection n few = by_place (cases_lt n (length (documents collection)))
+place_short : (collection : List ℕ) (n : ℕ) → length collection < 2 ^ 32 → length (get_or (documents collection) n []) ≤ 2 ^ 32 - 1
+place_short collection n few = by_place (cases_lt n (length (documents collection)))
   where
     by_place : (n < length (documents collection)) ⊎ (length (documents collection) ≤ n) → length (get_or (documents collection) n []) ≤ 2 ^ 32 - 1
     by_place (inl lt) = omega (arith, few, docs_within collection, sum_by_more_le (λ (d : List ℕ). length d) (documents collection) n [] lt)
     by_place (inr past) = omega (arith, ap (λ (d : List ℕ). length d) (get_or_past (documents collection) n [] past))
+
+pub doc_short : (collection : List ℕ) (number : ℕ) → length collection < 2 ^ 32 → length (document collection number) ≤ 2 ^ 32 - 1
+doc_short collection zero few = omega arith
+doc_short collection (suc n) few = place_short collection n few
 
 -- what stands for a reader does so for what the reader became, while no file changes
 pub stands_on : (r now : TextReading) (files files_now : Option Files) (collection : List ℕ) → SameText r now → files_now ≡ files → TextStands r files collection → TextStands now files_now collection
@@ -68,8 +72,8 @@ stands_on r now files files_now collection same stay stands = text_stays r now f
 
 -- ---- a document that was read
 
-pub doc_of_reader : (collection : List ℕ) (before : ℕ) (held bytes : List ℕ) → held ≡ get_or (documents collection) (before + 1 - 1) [] → bytes ≡ held → bytes ≡ get_or (documents collection) before []
-doc_of_reader collection before held bytes is same = let at : before + 1 - 1 ≡ before = omega arith in same ∙ is ∙ ap (λ k. get_or (documents collection) k []) at
+pub doc_of_reader : (collection : List ℕ) (before : ℕ) (held bytes : List ℕ) → held ≡ document collection (before + 1) → bytes ≡ held → bytes ≡ get_or (documents collection) before []
+doc_of_reader collection before held bytes is same = same ∙ is ∙ document_behind collection before
 
 pub known_is : (r now : TextReading) (files : Option Files) (code : TextCode) (doc : List ℕ) (collection : List ℕ) (before : ℕ) → SameText r now →
     code ≡ now.code → doc ≡ get_or (documents collection) before [] → before < r.documents → TextStands r files collection → IsCodable code doc

@@ -19,6 +19,7 @@ use Rattle.mg_defs.specs.Stands.{Parts}
 use Rattle.mg_defs.specs.Vocabulary.{piece_of_pair, pieces_in}
 use Rattle.mg_defs.proofs.ParseLaws.{parse_short}
 use Rattle.mg_defs.proofs.SplitLaws.{documents_split}
+use Rattle.mg_defs.specs.Terms.{document}
 use Rattle.mg_layout.specs.HeadAnswers.{fields_of}
 use Rattle.mg_layout.specs.Stands.{parts_at}
 use Rattle.mg_layout.specs.declared.head.Head.{Head}
@@ -54,10 +55,10 @@ ok-so P (Err refusal) so = tt
 -- ---- a document that was decoded
 
 -- the most bytes are enough for the next document
-pub room-for : (collection : List ℕ) (n left most : ℕ) → length (get_or (documents collection) n []) ≤ left → most ≡ left → length (get_or (documents collection) (n + 1 - 1) []) ≤ most
+pub room-for : (collection : List ℕ) (n left most : ℕ) → length (document collection (suc n)) ≤ left → most ≡ left → length (document collection (n + 1)) ≤ most
 room-for collection n left most short is =
-    let same : n + 1 - 1 ≡ n = omega arith in
-    subst (λ (m : ℕ). length (get_or (documents collection) m []) ≤ most) (sym same) (omega (arith, short, is))
+    let same : n + 1 ≡ suc n = omega arith in
+    subst (λ (m : ℕ). length (document collection m) ≤ most) (sym same) (omega (arith, short, is))
 
 -- what is decoded of a collection closes nothing within
 pub doc-fine : (collection : List ℕ) (n : ℕ) (doc : List ℕ) (r : Result (Unit {0}) PartErr) → doc ≡ get_or (documents collection) n [] →

@@ -13,6 +13,7 @@ use Rattle.mg_defs.specs.Means.{BeginsWithDocuments, IsCodable, IsUsedWell, Mean
 use Rattle.mg_defs.specs.Split.{IsDocument, IsSplit, joined}
 use Rattle.mg_defs.specs.Stands.{Parts}
 use Rattle.mg_defs.specs.Vocabulary.{pieces_in}
+use Rattle.mg_defs.specs.Terms.{document}
 use Rattle.mg_layout.specs.Contents.{StandAt}
 use Rattle.mg_layout.specs.HeadAnswers.{fields_of}
 use Rattle.mg_layout.specs.Stands.{parts_at}
@@ -21,7 +22,6 @@ use Rattle.mg_text.specs.Places.{place_width}
 use Rattle.mg_text.specs.Reading.{IsTextReader, TextReading, TextStands}
 use Rattle.mg_text_writer.specs.Writing.{starts}
 use Rattle.mg_check_parts.specs.Decoding.{AreCounts, Counted, IsUsed}
-use Rattle.mg_check_parts.specs.Documents.{doc_at}
 use Rattle.mg_check_text.specs.declared.progress.Progress.{Progress}
 
 -- ---- the head and the codes
@@ -46,7 +46,7 @@ pub record IsLoaded (files : Option Files) (base : List ℕ) (head : Head) (r : 
 -- The reader reads the text of this collection, whose document at a place, from 0, has at most so many bytes.
 pub record HasDoc (r : TextReading) (files : Option Files) (collection : List ℕ) (place most : ℕ) : Type 0 where
   pub stands : TextStands r files collection
-  pub short : length (doc_at collection place) ≤ most
+  pub short : length (document collection (suc place)) ≤ most
 
 -- where each of these documents begins
 abbrev pub docs_places : ℕ → TextCode → List (List ℕ) → List ℕ
@@ -151,7 +151,7 @@ pub record FoundText (parts : Parts) (h : defs.Head) (code : TextCode) : Type 0 
 -- for each collection whose text the reader reads, and whose document at a place, from 0, has at most so many bytes: that document
 abbrev pub ForDoc : TextReading → Option Files → ℕ → ℕ → (List ℕ → Type 0) → Type 0
 ForDoc r files place most claim = (collection : List ℕ) → HasDoc r files collection place most →
-    claim (doc_at collection place)
+    claim (document collection (suc place))
 
 -- the same for the next document, which has no more bytes than the head leaves
 abbrev pub ForNextDoc : TextReading → Option Files → Head → Progress → (List ℕ → Type 0) → Type 0

@@ -10,6 +10,7 @@ use Rattle.mg_dev.specs.declared.show_err.ShowErr.{ShowErr}
 use Rattle.mg_dev.specs.declared.show_err.ShowErr.TheVariants as show
 use Rattle.mg_defs.specs.Split.{close, documents, has_open_end, is_closed, joined}
 use Rattle.mg_defs.proofs.SplitLaws.{documents_split, joined_next}
+use Rattle.mg_defs.specs.Terms.{document}
 use Rattle.mg_front.specs.Reading.{LookedAt}
 use Rattle.mg_text.specs.Decoding.{Gathering, IsPutCaused, Shown, bytes_to_come}
 use Rattle.mg_text.specs.Reading.{SameText, ShowIsNotBad, TextReading, TextStands}
@@ -117,42 +118,42 @@ next_whole collection bytes i all count more whole =
 -- the next document may come where the collection may
 pub next_fits : (collection : List ℕ) (i number all most : ℕ) (open_end closed : Bool) (w0 w1 : Option (List ℕ)) (b : Gathering) →
     all ≡ length (documents collection) → i < all → number ≡ i + 1 → has_open_end collection ≡ open_end → closed ≡ is_closed number all open_end →
-    (first : ShownFirst i w0 w1 b collection most) → length collection ≡ most → length (first.bytes ++ (get_or (documents collection) (number - 1) [] ++ close closed)) ≤ most
+    (first : ShownFirst i w0 w1 b collection most) → length collection ≡ most → length (first.bytes ++ (document collection number ++ close closed)) ≤ most
 next_fits collection i number all most open_end closed w0 w1 b count more at ends is first size =
     let e : closed ≡ is_closed (i + 1) all (has_open_end collection) = is ∙ ap (λ n. is_closed n all open_end) at ∙ ap (is_closed (i + 1) all) (sym ends) in
-    let place : number - 1 ≡ i = omega (arith, at) in
+    let place : number ≡ suc i = omega (arith, at) in
     let here = first.bytes ++ (get_or (documents collection) i [] ++ close (is_closed (i + 1) all (has_open_end collection))) in
     let rest = joined (drop (i + 1) (documents collection)) (has_open_end collection) in
     let short : length here ≤ most = omega (arith, ap length (next_whole collection first.bytes i all count more first.whole), length-append here rest, size) in
-    subst (λ n. length (first.bytes ++ (get_or (documents collection) n [] ++ close closed)) ≤ most) (sym place)
+    subst (λ n. length (first.bytes ++ (document collection n ++ close closed)) ≤ most) (sym place)
     (subst (λ c. length (first.bytes ++ (get_or (documents collection) i [] ++ close c)) ≤ most) (sym e) short)
 
 -- one document more was shown
 pub shown_next : (collection : List ℕ) (i number all most : ℕ) (open_end closed : Bool) (w0 w1 w2 : Option (List ℕ)) (b0 b : Gathering) →
     all ≡ length (documents collection) → i < all → number ≡ i + 1 → has_open_end collection ≡ open_end → closed ≡ is_closed number all open_end →
-    (first : ShownFirst i w0 w1 b0 collection most) → Shown w0 w2 b (first.bytes ++ (get_or (documents collection) (number - 1) [] ++ close closed)) most →
+    (first : ShownFirst i w0 w1 b0 collection most) → Shown w0 w2 b (first.bytes ++ (document collection number ++ close closed)) most →
     ShownFirst (i + 1) w0 w2 b collection most
 shown_next collection i number all most open_end closed w0 w1 w2 b0 b count more at ends is first shown =
     let e : closed ≡ is_closed (i + 1) all (has_open_end collection) = is ∙ ap (λ n. is_closed n all open_end) at ∙ ap (is_closed (i + 1) all) (sym ends) in
-    let place : number - 1 ≡ i = omega (arith, at) in
+    let place : number ≡ suc i = omega (arith, at) in
     record {
       bytes = first.bytes ++ (get_or (documents collection) i [] ++ close (is_closed (i + 1) all (has_open_end collection)));
-      shown = subst (λ n. Shown w0 w2 b (first.bytes ++ (get_or (documents collection) n [] ++ close (is_closed (i + 1) all (has_open_end collection)))) most)
-          place (subst (λ c. Shown w0 w2 b (first.bytes ++ (get_or (documents collection) (number - 1) [] ++ close c)) most) e shown);
+      shown = subst (λ n. Shown w0 w2 b (first.bytes ++ (document collection n ++ close (is_closed (i + 1) all (has_open_end collection)))) most)
+          place (subst (λ c. Shown w0 w2 b (first.bytes ++ (document collection number ++ close c)) most) e shown);
       whole = next_whole collection first.bytes i all count more first.whole;
     }
 
 -- the next document was refused
 pub refused_next : (collection : List ℕ) (i number all most : ℕ) (open_end closed : Bool) (w0 w1 w2 : Option (List ℕ)) (b0 : Gathering) →
     all ≡ length (documents collection) → i < all → number ≡ i + 1 → has_open_end collection ≡ open_end → closed ≡ is_closed number all open_end →
-    (first : ShownFirst i w0 w1 b0 collection most) → GrewByPrefix w0 w2 (first.bytes ++ (get_or (documents collection) (number - 1) [] ++ close closed)) → GrewByPrefix w0 w2 collection
+    (first : ShownFirst i w0 w1 b0 collection most) → GrewByPrefix w0 w2 (first.bytes ++ (document collection number ++ close closed)) → GrewByPrefix w0 w2 collection
 refused_next collection i number all most open_end closed w0 w1 w2 b0 count more at ends is first grew =
     let e : closed ≡ is_closed (i + 1) all (has_open_end collection) = is ∙ ap (λ n. is_closed n all open_end) at ∙ ap (is_closed (i + 1) all) (sym ends) in
-    let place : number - 1 ≡ i = omega (arith, at) in
+    let place : number ≡ suc i = omega (arith, at) in
     let bytes = first.bytes ++ (get_or (documents collection) i [] ++ close (is_closed (i + 1) all (has_open_end collection))) in
     let here : GrewByPrefix w0 w2 bytes =
-    subst (λ n. GrewByPrefix w0 w2 (first.bytes ++ (get_or (documents collection) n [] ++ close (is_closed (i + 1) all (has_open_end collection))))) place
-    (subst (λ b. GrewByPrefix w0 w2 (first.bytes ++ (get_or (documents collection) (number - 1) [] ++ close b))) e grew) in
+    subst (λ n. GrewByPrefix w0 w2 (first.bytes ++ (document collection n ++ close (is_closed (i + 1) all (has_open_end collection))))) place
+    (subst (λ b. GrewByPrefix w0 w2 (first.bytes ++ (document collection number ++ close b))) e grew) in
     subst (GrewByPrefix w0 w2) (next_whole collection first.bytes i all count more first.whole) (grew_first w0 w2 bytes (joined (drop (i + 1) (documents collection)) (has_open_end collection)) here)
 
 -- all documents were shown

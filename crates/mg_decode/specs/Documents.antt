@@ -5,6 +5,7 @@ use Rattle.std.specs.declared.result.Result.{Result}
 use Rattle.mg_dev.specs.Files.{Files}
 use Rattle.mg_dev.specs.declared.show_err.ShowErr.{ShowErr}
 use Rattle.mg_defs.specs.Split.{close, documents, has_open_end, joined}
+use Rattle.mg_defs.specs.Terms.{document}
 use Rattle.mg_text.specs.Decoding.{Gathering, Gathers, Shown}
 use Rattle.mg_text.specs.Reading.{ShowIsNotBad, TextReading, TextStands}
 
@@ -28,8 +29,8 @@ IfShown reader files written b holds =
 abbrev pub GathersClosed : ℕ → Bool → Option (List ℕ) → Gathering → Result (Unit {0}) ShowErr → List ℕ →
     Option (List ℕ) → List ℕ → ℕ → Type 0
 GathersClosed number closed written b result collection before bytes most =
-    length (bytes ++ (get_or (documents collection) (number - 1) [] ++ close closed)) ≤ most →
-    Gathers result before written b (bytes ++ (get_or (documents collection) (number - 1) [] ++ close closed)) most
+    length (bytes ++ (document collection number ++ close closed)) ≤ most →
+    Gathers result before written b (bytes ++ (document collection number ++ close closed)) most
     × ShowIsNotBad result
 
 -- this is so of the collection of a text, if its end is open as told and it has as many bytes as told

@@ -5,10 +5,10 @@ use Rattle.mg_defs.specs.declared.Stream.TheVariants.{Words, Others}
 use Rattle.mg_defs.specs.Split.{documents, has_open_end, closed_count}
 use Rattle.mg_defs.specs.Parse.{Pair, parse}
 use Rattle.mg_defs.specs.Pieces.{pieces}
-use Rattle.mg_defs.specs.Terms.{terms, dictionary, docs, freq, term_number}
+use Rattle.mg_defs.specs.Terms.{document, terms, dictionary, docs, freq, term_number}
 use Rattle.mg_defs.specs.Sat.{both, term, without, satisfies}
 use Rattle.mg_defs.specs.Vocabulary.{all_pieces, vocabulary, sorted_pieces, piece_counts, sorted_of, counts_of, total}
-use Rattle.mg_defs.specs.Limits.{version_1, version_2, piece_bytes, held_bytes, least_budget, greatest_budget, least_cap, greatest_cap}
+use Rattle.mg_defs.specs.Limits.{version_1, version_2, piece_bytes, held_bytes, least_budget, greatest_budget, default_budget, most_rotations, least_cap, greatest_cap}
 use Rattle.mg_defs.specs.Summaries.{run_cap}
 use Rattle.mg_defs.specs.TextBits.{head_bits, text_bits}
 use Rattle.mg_defs.specs.Codes.{gamma, unary, ones}
@@ -27,6 +27,10 @@ k_length = refl
 
 k_split : (documents k ≡ codes "the cat sat\n" ∷ codes "the dog\n" ∷ codes "Cat, cat & dog!\n" ∷ []) × (has_open_end k ≡ false) × (closed_count k ≡ 3)
 k_split = (refl, refl, refl)
+
+-- what lies outside the numbers of its documents is empty
+k_documents : (document k 1 ≡ codes "the cat sat\n") × (document k 3 ≡ codes "Cat, cat & dog!\n") × (document k 0 ≡ []) × (document k 4 ≡ [])
+k_documents = (refl, refl, refl, refl)
 
 k_pairs : map parse (documents k) ≡
     (pair_of (codes "the") (codes " ") ∷ pair_of (codes "cat") (codes " ") ∷ pair_of (codes "sat") (codes "\n") ∷ [])
@@ -107,7 +111,8 @@ high_bytes = (refl, refl)
 
 limits_are : (version_1.collection ≡ 268435456) × (version_1.documents ≡ 1048576) × (version_1.pieces ≡ 1048576) × (version_2.collection ≡ 4294967295)
     × (version_2.documents ≡ 16777216) × (version_2.pieces ≡ 4194304) × (piece_bytes ≡ 255) × (held_bytes ≡ 268435456) × (greatest_budget ≡ 1073741824)
-limits_are = (refl, refl, refl, refl, refl, refl, refl, refl, refl)
+    × (default_budget ≡ 16777216) × (most_rotations ≡ 134217728)
+limits_are = (refl, refl, refl, refl, refl, refl, refl, refl, refl, refl, refl)
 
 -- a pool of the least budget holds as many occurrences as the least full run has, and one of the greatest as many as the greatest
 caps_are : (run_cap least_budget ≡ least_cap) × (run_cap greatest_budget ≡ greatest_cap)

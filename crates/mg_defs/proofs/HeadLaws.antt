@@ -357,9 +357,9 @@ eight_of (a ∷ b ∷ c ∷ d ∷ f ∷ g ∷ h ∷ []) e = absurd (omega arith)
 eight_of (a ∷ b ∷ c ∷ d ∷ f ∷ g ∷ h ∷ i ∷ []) e = refl
 eight_of (a ∷ b ∷ c ∷ d ∷ f ∷ g ∷ h ∷ i ∷ j ∷ xs) e = absurd (omega arith)
 
-same_eight : (a b c d f g h a2 b2 c2 d2 f2 g2 h2 v v2 : ℕ) → a ≡ a2 → b ≡ b2 → c ≡ c2 → d ≡ d2 → f ≡ f2 → g ≡ g2 → v ≡ v2 → h ≡ h2 →
+same_eight : {a b c d f g h a2 b2 c2 d2 f2 g2 h2 v v2 : ℕ} → a ≡ a2 → b ≡ b2 → c ≡ c2 → d ≡ d2 → f ≡ f2 → g ≡ g2 → v ≡ v2 → h ≡ h2 →
     ◌≡◌ {A = List ℕ} (a ∷ b ∷ c ∷ d ∷ f ∷ g ∷ v ∷ h ∷ []) (a2 ∷ b2 ∷ c2 ∷ d2 ∷ f2 ∷ g2 ∷ v2 ∷ h2 ∷ [])
-same_eight a b c d f g h a2 b2 c2 d2 f2 g2 h2 v v2 p q r s t u w x = λ i. p i ∷ q i ∷ r i ∷ s i ∷ t i ∷ u i ∷ w i ∷ x i ∷ []
+same_eight p q r s t u w x = λ i. p i ∷ q i ∷ r i ∷ s i ∷ t i ∷ u i ∷ w i ∷ x i ∷ []
 
 pub is_exactly : (at wanted found : ℕ) → is_wrong (exactly at wanted found) ≡ false → found ≡ wanted
 is_exactly at wanted found pass = grind (arith, nat_tests)
@@ -373,11 +373,11 @@ open_number (suc (suc n)) h = absurd (omega arith)
 magic_read : (low high version : ℕ) (bytes : List ℕ) → 8 ≤ length bytes → version + 48 ≡ slice_index bytes 6 → AllPass (magic_checks low high bytes) → magic version ≡ take 8 bytes
 unfolding AllPass
 magic_read low high version bytes long digit pass =
-    same_eight 77 71 82 79 87 118 10 _ _ _ _ _ _ _ _ _
+    same_eight
     (sym (is_exactly 0 77 _ pass.0)) (sym (is_exactly 1 71 _ pass.1.0)) (sym (is_exactly 2 82 _ pass.1.1.0)) (sym (is_exactly 3 79 _ pass.1.1.1.0))
     (sym (is_exactly 4 87 _ pass.1.1.1.1.0)) (sym (is_exactly 5 118 _ pass.1.1.1.1.1.0)) (omega (arith, digit))
     (sym (is_exactly 7 10 _ pass.1.1.1.1.1.1.1.0))
-    ∙ same_eight _ _ _ _ _ _ _ _ _ _ _ _ _ _ _ _
+    ∙ same_eight
     (at 0 (omega arith)) (at 1 (omega arith)) (at 2 (omega arith)) (at 3 (omega arith)) (at 4 (omega arith)) (at 5 (omega arith)) (at 6 (omega arith)) (at 7 (omega arith))
     ∙ sym (eight_of (take 8 bytes) (omega (arith, length-take 8 bytes)))
   where

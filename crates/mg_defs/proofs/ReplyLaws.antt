@@ -13,6 +13,7 @@ use Rattle.mg_defs.specs.ShownAnswers.{Shown, plain, found, shown, shown_as, ans
 use Rattle.mg_defs.specs.Replies.{shows, hit_text}
 use Rattle.mg_defs.specs.Texts.{count}
 use Rattle.mg_defs.specs.declared.session.Settings.{Settings}
+use Rattle.mg_defs.proofs.TermLaws.{document_behind}
 
 pub found-hit : (q : Query) (n : ℕ) (doc : List ℕ) (docs : List (List ℕ)) → satisfies q doc ≡ true → found q n (doc ∷ docs) ≡ plain n ∷ found q (n + 1) docs
 unfolding found
@@ -46,8 +47,7 @@ shown-full f most xs x h = ap (flat_map f) (first-full most xs x h)
 -- the document after those in front
 pub document_at : (collection doc : List ℕ) (front rest : List (List ℕ)) (number : ℕ) → documents collection ≡ front ++ (doc ∷ rest) → number ≡ length front + 1 → document collection number ≡ doc
 document_at collection doc front rest number e n =
-    let place : number - 1 ≡ length front = omega (arith, n) in
-    ap (λ ds. get_or ds (number - 1) []) e ∙ ap (λ k. get_or (front ++ (doc ∷ rest)) k []) place ∙ at front
+    ap (document collection) n ∙ document_behind collection (length front) ∙ ap (λ ds. get_or ds (length front) []) e ∙ at front
   where
     at : (front : List (List ℕ)) → get_or (front ++ (doc ∷ rest)) (length front) [] ≡ doc
     at [] = refl

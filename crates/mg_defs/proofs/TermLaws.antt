@@ -1,5 +1,5 @@
 -- Laws of terms.
-use Rattle.std.proofs.Common.{arith, ◌≡◌, ◌==◌, ℕ, suc, ◌<◌, ◌≤◌, Bool, true, false, not, List, [], ◌∷◌, ◌++◌, length, get_or, refl, sym, ◌∙◌, ap, inl, inr, Contains, map, filter}
+use Rattle.std.proofs.Common.{arith, ◌≡◌, ◌==◌, ◌+◌, ◌-◌, ℕ, zero, suc, ◌<◌, ◌≤◌, Bool, true, false, not, List, [], ◌∷◌, ◌++◌, length, get_or, refl, sym, ◌∙◌, ap, inl, inr, Contains, map, filter}
 use Rattle.std.specs.List.{list_any, flat_map}
 use Rattle.std.specs.Str.{bytes_eq}
 use Rattle.std.proofs.lemmas.Bool.{and_right, or_cases, or_left, or_right, false≢true, cases_Bool}
@@ -9,12 +9,21 @@ use Rattle.std.proofs.lemmas.List.Elements.{filter-append}
 use Rattle.mg_defs.specs.declared.Stream.TheVariants.{Words}
 use Rattle.mg_defs.specs.Split.{documents}
 use Rattle.mg_defs.specs.Sorted.{IsSortedDistinct, sorted_distinct}
-use Rattle.mg_defs.specs.Terms.{folded, is_empty, same_term, terms_of_words, terms, all_terms, dictionary, term_number}
+use Rattle.mg_defs.specs.Terms.{document, folded, is_empty, same_term, terms_of_words, terms, all_terms, dictionary, term_number}
 use Rattle.mg_defs.specs.Vocabulary.{pieces_in, all_pieces, sorted_pieces}
 use Rattle.mg_defs.proofs.SortedLaws.{distinct_short, same-is, same-refl, sorted-is, sorted-rising, rising-unique, has-sorted, has-from, contains-from, number-found, number-missing, number-at}
 
 abbrev has : List (List ℕ) → List ℕ → Bool
 has strings s = list_any (bytes_eq s) strings
+
+-- document d stands in place d - 1
+pub document_is : (collection : List ℕ) (d : ℕ) → 1 ≤ d → document collection d ≡ get_or (documents collection) (d - 1) []
+document_is collection zero some = absurd (omega arith)
+document_is collection (suc d) some = let place : d ≡ suc d - 1 = omega arith in ap (λ k. get_or (documents collection) k []) place
+
+-- and the one behind d documents in place d
+pub document_behind : (collection : List ℕ) (d : ℕ) → document collection (d + 1) ≡ get_or (documents collection) d []
+document_behind collection d = let next : d + 1 ≡ suc d = omega arith in ap (document collection) next
 
 -- ---- the terms are the folded words
 

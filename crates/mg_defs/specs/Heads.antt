@@ -80,6 +80,38 @@ pub record IsHead (low high : ℕ) (bytes : List ℕ) (h : Head) : Type 0 where
   pub from : low ≤ h.version
   pub to : h.version ≤ high
 
+-- ---- read back
+
+-- the fields of version 1, as bytes have them
+abbrev pub narrow_head : List ℕ → Head
+narrow_head bytes = record {
+  version = 1;
+  documents = four_at bytes 8;
+  words = four_at bytes 12;
+  others = four_at bytes 16;
+  terms = four_at bytes 20;
+  cap = four_at bytes 24;
+  open_end = four_at bytes 28 == 1;
+  collection = four_at bytes 32;
+  occurrences = four_at bytes 36;
+  runs = four_at bytes 40;
+  text_bytes = four_at bytes 44;
+  post_bytes = eight_at bytes 48;
+  skip_count = eight_at bytes 56;
+}
+
+-- those of version 2: its first ones stand in the same places
+abbrev pub wide_head : List ℕ → Head
+wide_head bytes = record (narrow_head bytes) {
+  version = slice_index bytes 6 - 48;
+  collection = eight_at bytes 32;
+  occurrences = eight_at bytes 40;
+  runs = four_at bytes 48;
+  text_bytes = eight_at bytes 56;
+  post_bytes = eight_at bytes 64;
+  skip_count = eight_at bytes 72;
+}
+
 -- ---- damage
 
 -- what is found at a place, and the range in which it is to be
@@ -108,24 +140,24 @@ magic_checks low high bytes =
 -- the fields that stand at one place in every version
 abbrev pub first_checks : Limits → List ℕ → List Check
 first_checks most bytes =
-    within 8 0 most.documents (four_at bytes 8) ∷ within 12 0 most.pieces (four_at bytes 12) ∷
-    within 16 0 most.pieces (four_at bytes 16) ∷ within 20 0 (four_at bytes 12) (four_at bytes 20) ∷
-    within 24 least_cap greatest_cap (four_at bytes 24)
-    ∷ within 28 0 1 (four_at bytes 28) ∷ []
+    let h = narrow_head bytes in
+    within 8 0 most.documents h.documents ∷ within 12 0 most.pieces h.words ∷ within 16 0 most.pieces h.others ∷
+    within 20 0 h.words h.terms ∷ within 24 least_cap greatest_cap h.cap ∷ within 28 0 1 (four_at bytes 28) ∷ []
 
 -- the others of version 1
 abbrev pub narrow_checks : List ℕ → List Check
-narrow_checks bytes = within 32 0 version_1.collection (four_at bytes 32) ∷
-    within 36 0 (four_at bytes 32) (four_at bytes 36) ∷ exactly 40 (run_count (four_at bytes 36) (four_at bytes 24))
-    (four_at bytes 40) ∷ within 56 0 (four_at bytes 36) (eight_at bytes 56) ∷ []
+narrow_checks bytes =
+    let h = narrow_head bytes in
+    within 32 0 version_1.collection h.collection ∷ within 36 0 h.collection h.occurrences ∷
+    exactly 40 (run_count h.occurrences h.cap) h.runs ∷ within 56 0 h.occurrences h.skip_count ∷ []
 
 -- and of version 2
 abbrev pub wide_checks : List ℕ → List Check
 wide_checks bytes =
-    within 32 0 version_2.collection (eight_at bytes 32) ∷ within 40 0 (eight_at bytes 32) (eight_at bytes 40) ∷
-    exactly 48 (run_count (eight_at bytes 40) (four_at bytes 24)) (four_at bytes 48) ∷
-    exactly 52 0 (four_at bytes 52)
-    ∷ within 72 0 (eight_at bytes 40) (eight_at bytes 72) ∷ []
+    let h = wide_head bytes in
+    within 32 0 version_2.collection h.collection ∷ within 40 0 h.collection h.occurrences ∷
+    exactly 48 (run_count h.occurrences h.cap) h.runs ∷ exactly 52 0 (four_at bytes 52) ∷
+    within 72 0 h.occurrences h.skip_count ∷ []
 
 -- the size that the version asks for, and then the fields
 abbrev pub rest_checks : List ℕ → List Check
@@ -138,41 +170,6 @@ rest_checks bytes =
 unfoldable pub first_damage : ℕ → ℕ → List ℕ → Option Check
 first_damage low high bytes = if nat_lt (length bytes) 64 then Some (exactly 0 64 (length bytes))
     else find is_wrong (magic_checks low high bytes ++ rest_checks bytes)
-
--- the head that bytes with no damage write
-abbrev pub narrow_head : List ℕ → Head
-narrow_head bytes = record {
-  version = 1;
-  documents = four_at bytes 8;
-  words = four_at bytes 12;
-  others = four_at bytes 16;
-  terms = four_at bytes 20;
-  cap = four_at bytes 24;
-  open_end = four_at bytes 28 == 1;
-  collection = four_at bytes 32;
-  occurrences = four_at bytes 36;
-  runs = four_at bytes 40;
-  text_bytes = four_at bytes 44;
-  post_bytes = eight_at bytes 48;
-  skip_count = eight_at bytes 56;
-}
-
-abbrev pub wide_head : List ℕ → Head
-wide_head bytes = record {
-  version = slice_index bytes 6 - 48;
-  documents = four_at bytes 8;
-  words = four_at bytes 12;
-  others = four_at bytes 16;
-  terms = four_at bytes 20;
-  cap = four_at bytes 24;
-  open_end = four_at bytes 28 == 1;
-  collection = eight_at bytes 32;
-  occurrences = eight_at bytes 40;
-  runs = four_at bytes 48;
-  text_bytes = eight_at bytes 56;
-  post_bytes = eight_at bytes 64;
-  skip_count = eight_at bytes 72;
-}
 
 -- the bytes have no damage as a head of a version from low to high
 abbrev pub HasNoDamage : ℕ → ℕ → List ℕ → Type 0

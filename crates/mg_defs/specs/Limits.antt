@@ -58,8 +58,12 @@ abbrev pub shown_digits : ℕ
 shown_digits = 7
 
 -- rotations of all terms, which a session of patterns may order
-abbrev pub rotations : ℕ
-rotations = 134217728
+abbrev pub most_rotations : ℕ
+most_rotations = 134217728
+
+-- documents of a trial
+abbrev pub trial_documents : ℕ
+trial_documents = 20000
 
 -- ---- of a build
 
@@ -70,7 +74,15 @@ least_budget = 4096
 abbrev pub greatest_budget : ℕ
 greatest_budget = 2 ^ 30
 
--- occurrences of a full run: as many as the pool holds, of 12 bytes each
+-- and where none are asked for
+abbrev pub default_budget : ℕ
+default_budget = 2 ^ 24
+
+-- bytes of the pool that an occurrence takes
+abbrev pub occurrence_bytes : ℕ
+occurrence_bytes = 12
+
+-- occurrences of a full run: as many as the pool holds
 abbrev pub least_cap : ℕ
 least_cap = 341
 

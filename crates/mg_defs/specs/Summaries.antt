@@ -7,16 +7,17 @@ use Rattle.mg_defs.specs.Vocabulary.{sorted_pieces}
 use Rattle.mg_defs.specs.Terms.{dictionary}
 use Rattle.mg_defs.specs.Occurrences.{occurrences}
 use Rattle.mg_defs.specs.Heads.{run_count}
+use Rattle.mg_defs.specs.Limits.{occurrence_bytes}
 use Rattle.mg_defs.specs.Replies.{session}
 use Rattle.mg_defs.specs.Generator.{made_collection, made_session}
 
--- the occurrences that one run has at most: each takes 12 bytes of the budget
+-- the occurrences that one run has at most: each takes its bytes of the budget
 abbrev pub run_cap : ℕ → ℕ
-run_cap budget = budget / 12
+run_cap budget = budget / occurrence_bytes
 
 -- the most bytes of the pool at one time: an occurrence takes 12, a run that is merged 64
 abbrev pub pool_peak : ℕ → ℕ → ℕ
-pool_peak occurrences budget = max (12 * min occurrences (run_cap budget))
+pool_peak occurrences budget = max (occurrence_bytes * min occurrences (run_cap budget))
     (64 * min (run_count occurrences (run_cap budget)) (budget / 64))
 
 -- a name, a blank, a number and the line's end

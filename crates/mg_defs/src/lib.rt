@@ -31,9 +31,9 @@ pub use heads::{damage_decides, one_head};
 pub use huffman::{cost_in_any_order, first_is_exact, no_codeword_is_a_front};
 pub use lexicon::terms_are_entries;
 pub use limits::{
-    COLLECTION_BYTES, DOCUMENTS, GREATEST_BUDGET, HELD_BYTES, INPUT_BYTES, LEAST_BUDGET,
-    LINE_BYTES, OCCURRENCE_BYTES, OPEN_PARENTHESES, PHRASE_WORDS, PIECE_BYTES, PIECES,
-    RANKED_TERMS, ROTATIONS, limits_are_defined,
+    COLLECTION_BYTES, DEFAULT_BUDGET, DOCUMENTS, GREATEST_BUDGET, HELD_BYTES, INPUT_BYTES,
+    LEAST_BUDGET, LINE_BYTES, OCCURRENCE_BYTES, OPEN_PARENTHESES, PHRASE_WORDS, PIECE_BYTES,
+    PIECES, RANKED_TERMS, ROTATIONS, TRIAL_DOCUMENTS, limits_are_defined,
 };
 pub use lines::{lines_of, quit_always};
 pub use lists::{block_stands, list_rises, one_range};

@@ -41,6 +41,12 @@ pub const LEAST_BUDGET: u64 = 4096;
 /// The bytes of the pool that a build sorts in: the most that may be asked for.
 pub const GREATEST_BUDGET: u64 = 1 << 30;
 
+/// The bytes of that pool where none are asked for.
+pub const DEFAULT_BUDGET: u64 = 1 << 24;
+
+/// The documents of a trial, at most.
+pub const TRIAL_DOCUMENTS: u64 = 20_000;
+
 /// The bytes of the pool that each occurrence takes.
 pub const OCCURRENCE_BYTES: u64 = 12;
 
@@ -56,8 +62,12 @@ pub fn limits_are_defined()
     ensures parentheses { OPEN_PARENTHESES ≡ Limits.open_parentheses }
     ensures terms { RANKED_TERMS ≡ Limits.ranked_terms }
     ensures words { PHRASE_WORDS ≡ Limits.phrase_words }
-    ensures rotations { ROTATIONS ≡ Limits.rotations }
+    ensures rotations { ROTATIONS ≡ Limits.most_rotations }
     ensures least { LEAST_BUDGET ≡ Limits.least_budget }
     ensures greatest { GREATEST_BUDGET ≡ Limits.greatest_budget }
+    ensures default { DEFAULT_BUDGET ≡ Limits.default_budget }
+    ensures trial { TRIAL_DOCUMENTS ≡ Limits.trial_documents }
+    ensures occurrence { OCCURRENCE_BYTES ≡ Limits.occurrence_bytes }
     ensures cap { Limits.greatest_cap ≡ GREATEST_BUDGET / OCCURRENCE_BYTES }
+    ensures low { Limits.least_cap ≡ LEAST_BUDGET / OCCURRENCE_BYTES }
 {}

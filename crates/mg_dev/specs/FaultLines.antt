@@ -1,7 +1,7 @@
 -- The lines of faults.
 use Rattle.std.specs.Prelude.{ℕ, List, [], ◌∷◌, codes, decimal}
 use Rattle.std.specs.List.{concat}
-use Rattle.mg_defs.specs.Limits.{input_limit, rotations, version_2}
+use Rattle.mg_defs.specs.Limits.{input_limit, most_rotations, version_2}
 use Rattle.mg_defs.specs.declared.Stream.{Stream}
 use Rattle.mg_defs.specs.declared.Stream.TheVariants.{Words, Others}
 use Rattle.mg_dev.specs.declared.fault.Fault.{Fault}
@@ -44,4 +44,4 @@ fault_line (NameClash part) = concat (codes "mg: the collection has the name of 
 fault_line InputTooLong = concat (codes "mg: the input is longer than " ∷ decimal input_limit ∷ codes " bytes\n" ∷ [])
 fault_line SameName = codes "mg: both names are the same\n"
 fault_line (TooManyRotations count) = concat (codes "mg: the terms have " ∷ decimal count ∷
-    codes " rotations, more than " ∷ decimal rotations ∷ codes "\n" ∷ [])
+    codes " rotations, more than " ∷ decimal most_rotations ∷ codes "\n" ∷ [])

@@ -21,7 +21,7 @@ use Rattle.std.proofs.lemmas.List.Folds.{list_any-append}
 use Rattle.std.proofs.lemmas.List.{get_or_default}
 use Rattle.std.proofs.lemmas.List.Elements.{Contains-append_left, Contains-append_right}
 use Rattle.mg_defs.proofs.SortedLaws.{has-sorted, sorted-rising, rising-unique}
-use Rattle.mg_defs.proofs.TermLaws.{term-number}
+use Rattle.mg_defs.proofs.TermLaws.{document_is, term-number}
 
 -- ---- documents
 
@@ -143,13 +143,16 @@ sorted_pieces_joined kind a b = ap sorted_distinct (pieces_joined kind a b) ∙ 
 -- ---- a document by its number
 
 pub first_document : (a b : List ℕ) (d : ℕ) → 1 ≤ d → d ≤ length (documents a) → document (join a b) d ≡ document a d
-first_document a b d l m = ap (λ docs. get_or docs (d - 1) []) (documents_joined a b) ∙ get_or_append_left (documents a) (documents b) [] (d - 1) (omega (arith, l, m))
+first_document a b d l m =
+    document_is (join a b) d l ∙ ap (λ docs. get_or docs (d - 1) []) (documents_joined a b)
+    ∙ get_or_append_left (documents a) (documents b) [] (d - 1) (omega (arith, l, m)) ∙ sym (document_is a d l)
 
 pub second_document : (a b : List ℕ) (d : ℕ) → 1 ≤ d → document (join a b) (length (documents a) + d) ≡ document b d
 second_document a b d l =
     let same : length (documents a) + d - 1 - length (documents a) ≡ d - 1 = omega (arith, l) in
-    ap (λ docs. get_or docs (length (documents a) + d - 1) []) (documents_joined a b)
+    document_is (join a b) (length (documents a) + d) (omega (arith, l)) ∙ ap (λ docs. get_or docs (length (documents a) + d - 1) []) (documents_joined a b)
     ∙ (get_or-append_right (documents a) (documents b) (length (documents a)) (length (documents a) + d - 1) [] refl (omega (arith, l)) ∙ rw same refl)
+    ∙ sym (document_is b d l)
 
 -- ---- occurrences
 

@@ -14,6 +14,8 @@ use Rattle.mg_defs.specs.ShownAnswers.{found}
 use Rattle.mg_defs.proofs.ListLaws.{from_here, from_next}
 use Rattle.mg_defs.proofs.ReplyLaws.{found-miss}
 use Rattle.mg_defs.specs.PageBounds.{leading, leftmost_fewest, fewer}
+use Rattle.mg_defs.specs.Terms.{document}
+use Rattle.mg_defs.proofs.TermLaws.{document_is}
 pub use Rattle.mg_laws.proofs.InOrderLaws.{posting_in, list_from, list_hit, list_miss, some_freq, length_postings}
 
 abbrev pub first_of : List Posting → Option ℕ
@@ -146,12 +148,13 @@ length_front ds d le = omega (arith, length-take d ds)
 
 -- a list has a posting of the document exactly where the document has the term
 pub posting_is : (collection t : List ℕ) (doc : ℕ) → 1 ≤ doc → doc ≤ length (documents collection) →
-    is_number (first_of (from_doc doc (postings collection t))) doc ≡ has_term (get_or (documents collection) (doc - 1) []) t
+    is_number (first_of (from_doc doc (postings collection t))) doc ≡ has_term (document collection doc) t
 posting_is collection t doc some le =
     let ds = documents collection in
     let d = doc - 1 in
-    let split : ds ≡ take d ds ++ get_or ds d [] ∷ drop (d + 1) ds = docs_from ds d (omega (arith, some, le)) in
+    let one = document collection doc in
+    let split : ds ≡ take d ds ++ one ∷ drop (d + 1) ds = docs_from ds d (omega (arith, some, le)) ∙ ap (λ x. take d ds ++ x ∷ drop (d + 1) ds) (sym (document_is collection doc some)) in
     let at : doc ≡ 1 + length (take d ds) = omega (arith, length_front ds d (omega (arith, le)), some) in
-    let from : from_doc doc (list_from t 1 ds) ≡ list_from t doc (get_or ds d [] ∷ drop (d + 1) ds) = ap (λ l. from_doc doc (list_from t 1 l)) split
-    ∙ from_front t 1 doc (take d ds) (get_or ds d [] ∷ drop (d + 1) ds) at in
-    ap (λ l. is_number (first_of l) doc) from ∙ first_is t doc (get_or ds d []) (drop (d + 1) ds)
+    let from : from_doc doc (list_from t 1 ds) ≡ list_from t doc (one ∷ drop (d + 1) ds) = ap (λ l. from_doc doc (list_from t 1 l)) split
+    ∙ from_front t 1 doc (take d ds) (one ∷ drop (d + 1) ds) at in
+    ap (λ l. is_number (first_of l) doc) from ∙ first_is t doc one (drop (d + 1) ds)

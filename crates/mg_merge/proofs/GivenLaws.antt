@@ -3,8 +3,9 @@ use Rattle.std.proofs.Common.{arith, ◌≡◌, ◌≤◌, ◌<◌, ◌+◌, ◌
 use Rattle.std.proofs.lemmas.List.{append_assoc, length-append, take-append-drop}
 use Rattle.mg_dev.specs.Files.{Files}
 use Rattle.mg_defs.specs.Split.{close, documents, has_open_end, is_closed, joined}
+use Rattle.mg_defs.specs.Terms.{document}
 use Rattle.mg_merge.specs.Passes.{AreAllGiven, AreGiven}
-use Rattle.mg_merge.specs.Texts.{AreFirst, TextsFit, TextsStand, TwoTexts, closed_document, numbered}
+use Rattle.mg_merge.specs.Texts.{AreFirst, TextsFit, TextsStand, TwoTexts, closed_document}
 use Rattle.mg_merge.proofs.JoinedLaws.{given_all, given_next, given_none}
 use Rattle.mg_merge.proofs.TextLaws.{documents_of_texts}
 
@@ -39,9 +40,9 @@ given_one_more t files fed held i left found fits more given is count within = r
 
 -- a document has no more bytes than are left
 pub short_next : (t : TwoTexts) (files : Option Files) (collection fed : List ℕ) (i left : ℕ) → TextsFit t files → i < t.all → AreGiven t files i left fed →
-    TextsStand t files collection → length (numbered (i + 1) collection) ≤ left
+    TextsStand t files collection → length (document collection (i + 1)) ≤ left
 short_next t files collection fed i left fits more given stand =
-    let doc = numbered (i + 1) collection in
+    let doc = document collection (i + 1) in
     let closing = close (is_closed (i + 1) (length (documents collection)) (has_open_end collection)) in
     let rest = joined (drop (i + 1) (documents collection)) (has_open_end collection) in
     let whole : length ((fed ++ (doc ++ closing)) ++ rest) ≡ length collection = ap length (first_next t files collection fed (doc ++ closing) i left fits more given stand refl) in

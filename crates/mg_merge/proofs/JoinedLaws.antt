@@ -3,17 +3,15 @@ use Rattle.std.proofs.Common.{arith, ◌≡◌, ◌+◌, ◌-◌, ◌/◌, ◌�
 use Rattle.mg_defs.specs.Join.{join}
 use Rattle.mg_defs.specs.Split.{close, documents, has_open_end, is_closed, joined}
 use Rattle.mg_defs.proofs.SplitLaws.{documents_split, joined_next}
-use Rattle.mg_laws.proofs.JoinLaws.{first_document, second_document}
+use Rattle.mg_defs.specs.Terms.{document}
+use Rattle.mg_laws.proofs.JoinLaws.{second_document}
 use Rattle.mg_merge.specs.Merging.{budget_of}
-use Rattle.mg_merge.specs.Texts.{AreFirst, closed_document, numbered}
+use Rattle.mg_merge.specs.Texts.{AreFirst, closed_document}
 
 -- ---- documents of both collections
 
-pub numbered_first : (a b : List ℕ) (n : ℕ) → 1 ≤ n → n ≤ length (documents a) → numbered n (join a b) ≡ numbered n a
-numbered_first a b n low high = first_document a b n low high
-
-pub numbered_second : (a b : List ℕ) (n m : ℕ) → 1 ≤ m → n ≡ length (documents a) + m → numbered n (join a b) ≡ numbered m b
-numbered_second a b n m low is = ap (λ k. numbered k (join a b)) is ∙ second_document a b m low
+pub document_second : (a b : List ℕ) (n m : ℕ) → 1 ≤ m → n ≡ length (documents a) + m → document (join a b) n ≡ document b m
+document_second a b n m low is = ap (document (join a b)) is ∙ second_document a b m low
 
 -- ---- the next document
 

@@ -10,16 +10,17 @@ use Rattle.mg_dev.specs.declared.part_err.PartErr.TheVariants.{Bad, Device, Memo
 use Rattle.mg_dev.specs.Bads.{IsNotBad}
 use Rattle.mg_defs.specs.Join.{join}
 use Rattle.mg_defs.specs.Split.{close, documents, has_open_end, is_closed}
-use Rattle.mg_laws.proofs.JoinLaws.{count_joined, end_joined, size_joined}
+use Rattle.mg_laws.proofs.JoinLaws.{count_joined, end_joined, first_document, size_joined}
 use Rattle.mg_layout.specs.HeadAnswers.{fields_of}
 use Rattle.mg_layout.specs.declared.head.Head as layout
 use Rattle.mg_defs.specs.Stands.{head_of}
+use Rattle.mg_defs.specs.Terms.{document}
 use Rattle.mg_text.specs.Held.{HasShortDocument}
 use Rattle.mg_text.specs.Reading.{SameText, TextFits, TextReading, TextStands}
 use Rattle.mg_text.proofs.CallerLemmas.{text_stays}
 use Rattle.mg_merge.specs.Merging.{joined_size}
-use Rattle.mg_merge.specs.Texts.{AreSetsBy, HaveShort, SameTexts, TextsFit, TextsStand, TwoTexts, closed_document, numbered}
-use Rattle.mg_merge.proofs.JoinedLaws.{numbered_first, numbered_second}
+use Rattle.mg_merge.specs.Texts.{AreSetsBy, HaveShort, SameTexts, TextsFit, TextsStand, TwoTexts, closed_document}
+use Rattle.mg_merge.proofs.JoinedLaws.{document_second}
 
 -- ---- one text
 
@@ -85,17 +86,17 @@ end_of_texts t files collection stand = stand.open_end ∙ sym (ap has_open_end 
 
 -- the document of a number that is one of the first text, and of one that is behind them
 pub document_ahead : (t : TwoTexts) (files : Option Files) (collection : List ℕ) (number : ℕ) → TextsFit t files → 1 ≤ number → number ≤ t.ahead →
-    (stand : TextsStand t files collection) → get_or (documents stand.a) (number - 1) [] ≡ numbered number collection
+    (stand : TextsStand t files collection) → document stand.a number ≡ document collection number
 document_ahead t files collection number fits low high stand =
     let few : number ≤ length (documents stand.a) = omega (arith, high, fits.ahead, stand.first.documents) in
-    sym (ap (numbered number) stand.joins ∙ numbered_first stand.a stand.b number low few)
+    sym (ap (λ (c : List ℕ). document c number) stand.joins ∙ first_document stand.a stand.b number low few)
 
 pub document_behind : (t : TwoTexts) (files : Option Files) (collection : List ℕ) (number : ℕ) → TextsFit t files → t.ahead < number →
-    (stand : TextsStand t files collection) → get_or (documents stand.b) (number - t.ahead - 1) [] ≡ numbered number collection
+    (stand : TextsStand t files collection) → document stand.b (number - t.ahead) ≡ document collection number
 document_behind t files collection number fits high stand =
     let low : 1 ≤ number - t.ahead = omega (arith, high) in
     let place : number ≡ length (documents stand.a) + (number - t.ahead) = omega (arith, high, fits.ahead, stand.first.documents) in
-    sym (ap (numbered number) stand.joins ∙ numbered_second stand.a stand.b number (number - t.ahead) low place)
+    sym (ap (λ (c : List ℕ). document c number) stand.joins ∙ document_second stand.a stand.b number (number - t.ahead) low place)
 
 -- it has at most so many bytes
 pub short_ahead : (t : TwoTexts) (files : Option Files) (collection : List ℕ) (number most now : ℕ) → TextsFit t files →
@@ -129,10 +130,10 @@ pub without_close : (closed : Bool) (doc : List ℕ) → closed ≡ false → do
 without_close closed doc is = sym (append-nil doc) ∙ ap (λ c. doc ++ close c) (sym is)
 
 pub closes : (t : TwoTexts) (files : Option Files) (collection held now : List ℕ) (closed : Bool) (number : ℕ) → TextsFit t files →
-    closed ≡ is_closed number t.all t.open_end → held ≡ numbered number collection → now ≡ held ++ close closed → TextsStand t files collection →
+    closed ≡ is_closed number t.all t.open_end → held ≡ document collection number → now ≡ held ++ close closed → TextsStand t files collection →
     now ≡ closed_document number collection
 closes t files collection held now closed number fits is held_is now_is stand =
-    now_is ∙ ap (λ h. h ++ close closed) held_is ∙ ap (λ c. numbered number collection ++ close c)
+    now_is ∙ ap (λ h. h ++ close closed) held_is ∙ ap (λ c. document collection number ++ close c)
     (is ∙ ap (λ n. is_closed number n t.open_end) (documents_of_texts t files collection fits stand) ∙ ap (is_closed number (length (documents collection))) (end_of_texts t files collection stand))
 
 -- ---- heads

@@ -8,6 +8,7 @@ use Rattle.mg_dev.specs.declared.part.Part.TheVariants.{Places, Text}
 use Rattle.mg_defs.specs.Join.{join}
 use Rattle.mg_defs.specs.Split.{close, documents, has_open_end, is_closed, joined}
 use Rattle.mg_defs.specs.CodedText.{TextCode}
+use Rattle.mg_defs.specs.Terms.{document}
 use Rattle.mg_layout.specs.Stands.{StandsBy}
 use Rattle.mg_layout.specs.declared.head.Head as layout
 use Rattle.mg_text.specs.Reading.{IsTextReader, SameText, TextFits, TextReading, TextStands}
@@ -82,18 +83,15 @@ pub record AreTextsOf (t : TwoTexts) (first second : List ℕ) : Type 0 where
 
 -- ---- documents
 
-abbrev pub numbered : ℕ → List ℕ → List ℕ
-numbered n collection = get_or (documents collection) (n - 1) []
-
 -- document n of a collection, from 1, with the byte that closes it
 abbrev pub closed_document : ℕ → List ℕ → List ℕ
-closed_document n collection = numbered n collection
+closed_document n collection = document collection n
     ++ close (is_closed n (length (documents collection)) (has_open_end collection))
 
 -- the texts stand for this collection, whose document n has at most so many bytes
 pub record HaveShort (t : TwoTexts) (files : Option Files) (n most : ℕ) (collection : List ℕ) : Type 0 where
   pub stands : TextsStand t files collection
-  pub short : length (numbered n collection) ≤ most
+  pub short : length (document collection n) ≤ most
 
 -- they do so for some collection
 abbrev pub AreShort : TwoTexts → Option Files → ℕ → ℕ → Type 0

@@ -6,11 +6,12 @@ ghost use Rattle.mg_dev.specs.Causes.{Rose};
 ghost use Rattle.mg_dev.specs.Faults.{ReadStops};
 ghost use Rattle.mg_dev.specs.PartCauses.{HasPartCause};
 ghost use Rattle.mg_defs.specs.Heads.{IsWithin};
+ghost use Rattle.mg_defs.specs.Terms.{document};
 ghost use Rattle.mg_layout.specs.HeadAnswers.{fields_of};
 ghost use Rattle.mg_layout.specs.Stands.{ForSetBy, IsSetBy};
 ghost use Rattle.mg_text.specs.Reading.{IsTextReader, TextFits};
 ghost use Rattle.mg_merge.specs.Looks.{LooksAtTexts};
-ghost use Rattle.mg_merge.specs.Texts.{AreReaders, AreSomeSets, BothTextsStand, ForShort, LoadsText, SameTexts, TextsFit, WhereSetsStand, numbered};
+ghost use Rattle.mg_merge.specs.Texts.{AreReaders, AreSomeSets, BothTextsStand, ForShort, LoadsText, SameTexts, TextsFit, WhereSetsStand};
 
 use crate::documents::Documents;
 use crate::dropping::without;
@@ -103,7 +104,7 @@ impl<'a, S: Store> Texts<'a, S> {
         ensures fits { TextsFit self.new (S.files store.new) }
         ensures same { SameTexts self.old self.new }
         ensures held { ForShort self.old (S.files store.old) number most
-            (λ collection. OnOk result (self.new.held ≡ numbered number collection)) }
+            (λ collection. OnOk result (self.new.held ≡ document collection number)) }
         ensures short { OnOk result (length self.new.held ≤ most) }
         ensures never_bad { ForShort self.old (S.files store.old) number most
             (λ _. IfErr result IsNotBad) }

@@ -23,6 +23,7 @@ use Rattle.mg_defs.proofs.ListLaws.{documents_short}
 use Rattle.mg_defs.proofs.SortedLaws.{has-sorted}
 use Rattle.mg_defs.proofs.WeightLaws.{weight_root}
 use Rattle.mg_defs.specs.Stands.{weights_part}
+use Rattle.mg_defs.proofs.TermLaws.{document_is}
 use Rattle.mg_rank.specs.declared.best.Kept.{Kept}
 use Rattle.mg_rank.specs.Best.{Offered, kept_cmp}
 use Rattle.mg_rank.specs.Ranked.{so_far, part_sum}
@@ -71,7 +72,7 @@ pub weight_stands : (collection bytes : List ℕ) (d : ℕ) → bytes ≡ weight
 weight_stands collection bytes d stand some le =
     let ds = documents collection in
     ap (λ b. take 4 (drop (4 * (d - 1)) b)) stand ∙ four_part (map weight ds) (d - 1) (omega (arith, some, le, length-map ds weight))
-    ∙ ap four (get_or-map weight ds (d - 1) [] 0 (omega (arith, some, le)))
+    ∙ ap four (get_or-map weight ds (d - 1) [] 0 (omega (arith, some, le))) ∙ ap (λ (x : List ℕ). four (weight x)) (sym (document_is collection d some))
 
 -- ---- how great it is
 
@@ -113,7 +114,7 @@ pub weight_some : (collection : List ℕ) (ts : List (List ℕ)) (d : ℕ) → l
 weight_some collection ts d short some =
     let doc = document collection d in
     let t = one_there doc ts some in
-    let root = weight_root doc (omega (arith, short, short_at (length collection) (documents collection) (d - 1) (documents_short collection))) in
+    let root = weight_root doc (omega (arith, short, short_at (length collection) ([] ∷ documents collection) d (omega arith, documents_short collection))) in
     let sum = sum_some doc t.0 (sorted_distinct (terms doc)) (has-sorted (terms doc) t.0 ∙ t.1) in
     elim (cases_lt 0 (weight doc)) [
       | inl lt ↦ omega (arith, lt)

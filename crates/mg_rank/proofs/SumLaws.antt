@@ -16,6 +16,7 @@ use Rattle.mg_defs.specs.Terms.{document, freq_in}
 use Rattle.mg_defs.specs.Weights.{has_term, wd, wt, weight_in_doc}
 use Rattle.mg_defs.specs.Lists.{postings, from_doc, Rises, Follows}
 use Rattle.mg_defs.proofs.ListLaws.{from_here, from_next}
+use Rattle.mg_defs.proofs.TermLaws.{document_is}
 use Rattle.mg_post.specs.Cursor.{head_of}
 use Rattle.mg_post.proofs.CallerLemmas.{has_at, later}
 use Rattle.mg_laws.proofs.LedLists.{list_from, from_front, docs_from, length_front, some_freq}
@@ -45,7 +46,7 @@ unfolding parse
 none_in t = refl
 
 pub out_at : (collection t : List ℕ) (d : ℕ) → length (documents collection) < d → has_term (document collection d) t ≡ false
-out_at collection t d lt = ap (λ doc. has_term doc t) (get_or-eq_default (documents collection) [] (omega (arith, lt))) ∙ none_in t
+out_at collection t d lt = ap (λ doc. has_term doc t) (get_or-eq_default ([] ∷ documents collection) [] (omega (arith, lt))) ∙ none_in t
 
 -- the count of a posting is the document's
 head_list : (t : List ℕ) (n : ℕ) (doc : List ℕ) (ds : List (List ℕ)) (p : Posting) → has_term doc t ≡ true → head_of (list_from t n (doc ∷ ds)) ≡ Some p → p.freq ≡ freq_in doc t
@@ -66,11 +67,12 @@ pub freq_is : (collection t : List ℕ) (p : Posting) → 1 ≤ p.doc → p.doc 
 freq_is collection t p some le is h =
     let ds = documents collection in
     let d = p.doc - 1 in
-    let split : ds ≡ take d ds ++ get_or ds d [] ∷ drop (d + 1) ds = docs_from ds d (omega (arith, some, le)) in
+    let one = document collection p.doc in
+    let split : ds ≡ take d ds ++ one ∷ drop (d + 1) ds = docs_from ds d (omega (arith, some, le)) ∙ ap (λ x. take d ds ++ x ∷ drop (d + 1) ds) (sym (document_is collection p.doc some)) in
     let at : p.doc ≡ 1 + length (take d ds) = omega (arith, length_front ds d (omega (arith, le)), some) in
-    let from : from_doc p.doc (list_from t 1 ds) ≡ list_from t p.doc (get_or ds d [] ∷ drop (d + 1) ds) = ap (λ l. from_doc p.doc (list_from t 1 l)) split
-    ∙ from_front t 1 p.doc (take d ds) (get_or ds d [] ∷ drop (d + 1) ds) at in
-    head_list t p.doc (get_or ds d []) (drop (d + 1) ds) p h (sym (ap head_of from) ∙ is)
+    let from : from_doc p.doc (list_from t 1 ds) ≡ list_from t p.doc (one ∷ drop (d + 1) ds) = ap (λ l. from_doc p.doc (list_from t 1 l)) split
+    ∙ from_front t 1 p.doc (take d ds) (one ∷ drop (d + 1) ds) at in
+    head_list t p.doc one (drop (d + 1) ds) p h (sym (ap head_of from) ∙ is)
 
 pub head_freq : (collection t : List ℕ) (last : ℕ) (p : Posting) → head_of (from_doc (last + 1) (postings collection t)) ≡ Some p → last < p.doc →
     p.doc ≤ length (documents collection) → p.freq ≡ freq_in (document collection p.doc) t

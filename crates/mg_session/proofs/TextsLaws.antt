@@ -91,7 +91,7 @@ pub short_document : (r : TextReading) (files : Option Files) (number most : ℕ
     length collection ≤ most → HasShortDocument r files number most collection
 short_document r files number most collection stands short = record {
   stands = stands;
-  short = omega (arith, short_at (length collection) (documents collection) (number - 1) (documents_short collection), short);
+  short = omega (arith, short_at (length collection) ([] ∷ documents collection) number (omega arith, documents_short collection), short);
 }
 
 -- ---- a document is shown

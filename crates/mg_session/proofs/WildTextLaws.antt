@@ -25,6 +25,7 @@ use Rattle.mg_defs.specs.Weights.{has_term}
 use Rattle.mg_defs.specs.WildSession.{match_text, numbers_text, term_row, with_match}
 use Rattle.mg_defs.proofs.ReplyLaws.{document_at}
 use Rattle.mg_defs.proofs.SortedLaws.{same-refl}
+use Rattle.mg_defs.proofs.TermLaws.{document_is}
 use Rattle.mg_laws.proofs.MatchLists.{match_lists}
 use Rattle.mg_layout.specs.Infos.{IsInfoOf}
 use Rattle.mg_layout.specs.declared.term_info.TermInfo.{TermInfo}
@@ -351,7 +352,7 @@ marks_matches collection p ts old new none added is doc some within =
     added.each doc some within
     ∙ ap (λ b. b || list_any (has_term (document collection doc)) ts) (none doc)
     ∙ ap (list_any (has_term (document collection doc))) is
-    ∙ sym (match_lists collection p (document collection doc) (in_them (documents collection) (doc - 1) (omega (arith, some, within))))
+    ∙ sym (match_lists collection p (document collection doc) (rw (document_is collection doc some) (in_them (documents collection) (doc - 1) (omega (arith, some, within)))))
 
 -- ---- the whole answer
 

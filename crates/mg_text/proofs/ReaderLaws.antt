@@ -42,6 +42,8 @@ use Rattle.mg_bits.specs.Pages.{Paging, feeding_of}
 use Rattle.mg_defs.specs.CodedText.{coded_doc, doc_range, place_after}
 use Rattle.mg_defs.specs.Parse.{parse}
 use Rattle.std.proofs.Common.{get_or}
+use Rattle.mg_defs.specs.Terms.{document}
+use Rattle.mg_defs.proofs.TermLaws.{document_is}
 use Rattle.mg_bits.proofs.CallerLemmas.{held_page_stays}
 
 -- every version but 1 has places of one width
@@ -142,7 +144,7 @@ pub record DocAt (code : TextCode) (source : Option (List ℕ)) (place end : ℕ
 
 pub doc_at : (r : TextReading) (files mid : Option Files) (collection : List ℕ) (number from place : ℕ) (feed : Paging) → TextStands r files collection → 1 ≤ number → number ≤ r.documents → mid ≡ files →
     from ≡ place_after r.code collection (number - 1) → place ≡ 8 * from → feed ≡ r.text →
-    DocAt r.code (told_at mid feed.name) place (8 * place_after r.code collection number) (get_or (documents collection) (number - 1) [])
+    DocAt r.code (told_at mid feed.name) place (8 * place_after r.code collection number) (document collection number)
 doc_at r files mid collection number from place feed stands some within same at place_is fed =
     let i = number - 1 in
     let doc = get_or (documents collection) i [] in
@@ -151,7 +153,7 @@ doc_at r files mid collection number from place feed stands some within same at 
     let next : i + 1 ≡ number = omega (arith, some) in
     let ends : place + length (coded_doc r.code doc) ≤ 8 * place_after r.code collection number =
     subst (λ n. place + length (coded_doc r.code doc) ≤ 8 * place_after r.code collection n) next (omega (arith, here, doc_ends r collection i lt)) in
-    record {
+    let whole : DocAt r.code (told_at mid feed.name) place (8 * place_after r.code collection number) doc = record {
       pairs = doc_pieces r.code collection i stands.code lt;
       few = few_pairs collection i stands.few;
       small = omega (arith, ends, small_place r files collection number stands);
@@ -159,20 +161,21 @@ doc_at r files mid collection number from place feed stands some within same at 
           (subst (λ f. Shows (told_at f r.text.name) place (coded_doc r.code doc)) (sym same)
           (subst (λ n. Shows (told_at files r.text.name) n (coded_doc r.code doc)) (sym here) (doc_shown r files collection i stands lt)));
       ends = ends;
-    }
+    } in
+    subst (DocAt r.code (told_at mid feed.name) place (8 * place_after r.code collection number)) (sym (document_is collection number some)) whole
 
 -- what is shown from the place of a document
 pub doc_told : (result : Result (Unit {0}) ShowErr) (r : TextReading) (files mid : Option Files) (collection : List ℕ) (number from place : ℕ) (feed : Paging)
     (f1 : Feeding) (d0 d1 : Seen) (before most : ℕ) (w0 w1 : Option (List ℕ)) →
     TextStands r files collection → 1 ≤ number → number ≤ r.documents → mid ≡ files → from ≡ place_after r.code collection (number - 1) → place ≡ 8 * from →
-    feed ≡ r.text → r.text.part ≡ part.Text → d0.reads part.Text ≡ before → length (get_or (documents collection) (number - 1) []) ≤ most →
+    feed ≡ r.text → r.text.part ≡ part.Text → d0.reads part.Text ≡ before → length (document collection number) ≤ most →
     ((doc : List ℕ) → PairsIn r.code (parse doc) → length (parse doc) < 2 ^ 32 → length doc ≤ most →
     place + length (coded_doc r.code doc) ≤ 2 ^ 63 → Shows (told_at mid feed.name) place (coded_doc r.code doc) →
     Ends result (WholeDoc (feeding_of 4096 feed) f1 d0 d1 place (place + length (coded_doc r.code doc)) w0 w1 doc)
     (Stopped (feeding_of 4096 feed) f1 d0 d1 place (place + length (coded_doc r.code doc)) w0 w1 doc)) →
-    AnswersDoc result w0 w1 (get_or (documents collection) (number - 1) []) before (d1.reads part.Text) (pages (doc_range r.code collection number).from (doc_range r.code collection number).to)
+    AnswersDoc result w0 w1 (document collection number) before (d1.reads part.Text) (pages (doc_range r.code collection number).from (doc_range r.code collection number).to)
 doc_told result r files mid collection number from place feed f1 d0 d1 before most w0 w1 stands some within same at place_is fed own e short told =
-    let doc = get_or (documents collection) (number - 1) [] in
+    let doc = document collection number in
     let stood = doc_at r files mid collection number from place feed stands some within same at place_is fed in
     let here : place ≡ 8 * place_after r.code collection (number - 1) = omega (arith, at, place_is) in
     subst (λ n. AnswersDoc result w0 w1 doc before (d1.reads part.Text) (pages n (8 * place_after r.code collection number))) here
@@ -184,15 +187,15 @@ doc_told result r files mid collection number from place feed f1 d0 d1 before mo
 pub gather_told : (result : Result (Unit {0}) ShowErr) (r : TextReading) (files mid : Option Files) (collection : List ℕ) (number from place next : ℕ)
     (feed : Paging) (f1 : Feeding) (d0 d1 : Seen) (before : ℕ) (w0 w1 w2 : Option (List ℕ)) (b0 b : Gathering) (bytes : List ℕ) {most : ℕ} →
     TextStands r files collection → 1 ≤ number → number ≤ r.documents → mid ≡ files → from ≡ place_after r.code collection (number - 1) → place ≡ 8 * from →
-    feed ≡ r.text → r.text.part ≡ part.Text → d0.reads part.Text ≡ before → Shown w0 w1 b0 bytes most → length (bytes ++ get_or (documents collection) (number - 1) []) ≤ most →
+    feed ≡ r.text → r.text.part ≡ part.Text → d0.reads part.Text ≡ before → Shown w0 w1 b0 bytes most → length (bytes ++ document collection number) ≤ most →
     ((doc : List ℕ) → PairsIn r.code (parse doc) → length (parse doc) < 2 ^ 32 → (w : Option (List ℕ)) (bytes : List ℕ) (most : ℕ) → place + length (coded_doc r.code doc) ≤ 2 ^ 63 →
     Shows (told_at mid feed.name) place (coded_doc r.code doc) → Shown w w1 b0 bytes most → length (bytes ++ doc) ≤ most →
     Ends result (Decoded (feeding_of 4096 feed) f1 d0 d1 place (place + length (coded_doc r.code doc)) next w w2 b (bytes ++ doc) most)
     (Stopped (feeding_of 4096 feed) f1 d0 d1 place (place + length (coded_doc r.code doc)) w w2 (bytes ++ doc))) →
-    AnswersGathered result w0 w2 b (bytes ++ get_or (documents collection) (number - 1) []) most before (d1.reads part.Text)
+    AnswersGathered result w0 w2 b (bytes ++ document collection number) most before (d1.reads part.Text)
     (pages (doc_range r.code collection number).from (doc_range r.code collection number).to)
 gather_told result r files mid collection number from place next feed f1 d0 d1 before w0 w1 w2 b0 b bytes {most} stands some within same at place_is fed own e shown fits told =
-    let doc = get_or (documents collection) (number - 1) [] in
+    let doc = document collection number in
     let stood = doc_at r files mid collection number from place feed stands some within same at place_is fed in
     let here : place ≡ 8 * place_after r.code collection (number - 1) = omega (arith, at, place_is) in
     subst (λ n. AnswersGathered result w0 w2 b (bytes ++ doc) most before (d1.reads part.Text) (pages n (8 * place_after r.code collection number))) here

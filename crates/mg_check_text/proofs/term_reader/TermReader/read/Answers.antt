@@ -2,6 +2,7 @@ use Rattle.std.proofs.Common.{rules, arith, ◌≡◌, ◌<◌, ◌≤◌, ◌-�
 use Rattle.mg_dev.specs.declared.part_err.PartErr.TheVariants.{Bad, Memory}
 use Rattle.mg_defs.specs.CodedText.{TextCode}
 use Rattle.mg_defs.specs.Terms.{document}
+use Rattle.mg_defs.proofs.TermLaws.{document_is}
 use Rattle.mg_model.specs.Terms.{terms_and_numbers}
 use Rattle.mg_check_text.proofs.CallerLemmas.{doc_short, known_is}
 use Rattle.mg_check_text.proofs.ReadLaws.{text_bad, text_ok, text_read}
@@ -9,7 +10,7 @@ use Rattle.mg_check_text.proofs.term_reader.TermReader.read.Goals as goal
 
 pub returns-in-Err-clause-never_bad : goal.returns-in-Err-clause-never_bad
 returns-in-Err-clause-never_bad g c = λ collection stand.
-    let short : length (document collection c.args.number) ≤ c.self.inside.held.most = omega (arith, doc_short collection (c.args.number - 1) stand.few, c.self.invariant) in
+    let short : length (document collection c.args.number) ≤ c.self.inside.held.most = omega (arith, doc_short collection c.args.number stand.few, c.self.invariant) in
     c.in-Err.ensures.never_bad collection (record { stands = stand; short = short })
 
 pub returns-in-Err-clause-text : goal.returns-in-Err-clause-text
@@ -29,7 +30,7 @@ returns-clause-terms g c = record {
   doc = c.bytes.result.now;
   terms = c.in-Ok-true.ensures.terms (search rules);
   own = λ collection stand.
-      let short : length (document collection c.args.number) ≤ c.self.inside.held.most = omega (arith, doc_short collection (c.args.number - 1) stand.few, c.self.invariant) in
+      let short : length (document collection c.args.number) ≤ c.self.inside.held.most = omega (arith, doc_short collection c.args.number stand.few, c.self.invariant) in
       c.bytes.ensures ∙ c.in-Ok.ensures.content collection (record { stands = stand; short = short });
 }
 
@@ -38,10 +39,10 @@ returns-clause-text g c = text_ok (text_read c.read.ensures.fits c.read.ensures.
 
 pub returns-in-Ok-false-clause-never_bad : goal.returns-in-Ok-false-clause-never_bad
 returns-in-Ok-false-clause-never_bad g c = λ collection stand.
-    let short : length (document collection c.args.number) ≤ c.self.inside.held.most = omega (arith, doc_short collection (c.args.number - 1) stand.few, c.self.invariant) in
+    let short : length (document collection c.args.number) ≤ c.self.inside.held.most = omega (arith, doc_short collection c.args.number stand.few, c.self.invariant) in
     let doc : c.bytes.result.now ≡ document collection c.args.number = c.bytes.ensures ∙ c.in-Ok.ensures.content collection (record { stands = stand; short = short }) in
     let within : c.args.number - 1 < c.args.reader.now.documents = omega (arith, c.requires.some, c.requires.within) in
-    let codable = known_is c.args.reader.now c.read.new.reader _ c.model.result.now c.bytes.result.now collection (c.args.number - 1) c.in-Ok.ensures.same c.model.ensures doc within stand in
+    let codable = known_is c.args.reader.now c.read.new.reader _ c.model.result.now c.bytes.result.now collection (c.args.number - 1) c.in-Ok.ensures.same c.model.ensures (doc ∙ document_is collection c.args.number c.requires.some) within stand in
     let known = c.in-Ok-false.ensures.known codable in
     search rules
 

@@ -1,6 +1,5 @@
 use Rattle.std.proofs.Common.{◌-◌}
 use Rattle.mg_defs.specs.Terms.{document}
-use Rattle.mg_merge.specs.Texts.{numbered}
 use Rattle.mg_merge.proofs.LookLaws.{looks_text}
 use Rattle.mg_merge.proofs.TextLaws.{document_ahead, document_behind, held_is, held_short, short_ahead, short_behind}
 use Rattle.mg_merge.proofs.texts.Texts.decode.Goals as goal
@@ -12,7 +11,7 @@ returns-then-number-self-clause-held g c =
     (λ collection has.
     let short = short_ahead _ (g.S.Store.files c.args.store.now) collection c.args.number c.args.most c.set_most.new.self.most fits c.requires.some c.if-number-self.true c.set_most.ensures.most has in
     let is = document_ahead _ (g.S.Store.files c.args.store.now) collection c.args.number fits c.requires.some c.if-number-self.true has.stands in
-    held_is c.read.result c.read.new.self.bytes.items (document has.stands.a c.args.number) (numbered c.args.number collection) is (c.read.ensures.content has.stands.a short))
+    held_is c.read.result c.read.new.self.bytes.items (document has.stands.a c.args.number) (document collection c.args.number) is (c.read.ensures.content has.stands.a short))
 
 pub returns-then-number-self-clause-never_bad : goal.returns-then-number-self-clause-never_bad
 returns-then-number-self-clause-never_bad g c =
@@ -29,7 +28,7 @@ returns-clause-held g c =
     (λ collection has.
     let short = short_behind _ (g.S.Store.files c.args.store.now) collection c.args.number c.args.most c.set_most.new.self.most fits c.if-number-self.false c.set_most.ensures.most has in
     let is = document_behind _ (g.S.Store.files c.args.store.now) collection c.args.number fits c.if-number-self.false has.stands in
-    held_is c.read-2.result c.read-2.new.self.bytes.items (document has.stands.b (c.args.number - c.self.inside.ahead)) (numbered c.args.number collection) is
+    held_is c.read-2.result c.read-2.new.self.bytes.items (document has.stands.b (c.args.number - c.self.inside.ahead)) (document collection c.args.number) is
     (c.read-2.ensures.content has.stands.b short))
 
 pub returns-clause-never_bad : goal.returns-clause-never_bad
