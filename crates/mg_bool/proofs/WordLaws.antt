@@ -11,6 +11,7 @@ use Rattle.mg_defs.specs.Sat.{Query, term}
 use Rattle.mg_defs.specs.QueryTerms.{query_terms}
 use Rattle.mg_defs.specs.PageBounds.{asked_of}
 use Rattle.mg_defs.specs.Weights.{has_term}
+use Rattle.mg_defs.proofs.TermLaws.{document_is}
 use Rattle.mg_post.specs.TermLists.{PagesWithin}
 use Rattle.mg_laws.proofs.LedLists.{first_after, first_of, list_from, list_hit, list_miss}
 use Rattle.mg_bool.specs.Places.{AnswersPlace, IsInRange, Place}
@@ -41,7 +42,9 @@ word_has collection t d m le is =
     let ds = documents collection in
     let first : first_of (list_from t (d + 1) (drop d ds)) ≡ Some m = sym (ap first_of (lead_from collection t d le)) ∙ is in
     let place : d + (m - (d + 1)) ≡ m - 1 = omega (arith, first_after t (d + 1) m (drop d ds) first) in
-    ap (λ doc. has_term doc t) (sym (get_or-drop d ds (m - (d + 1)) [] ∙ ap (λ k. get_or ds k []) place)) ∙ first_has t (d + 1) m (drop d ds) first
+    let some : 1 ≤ m = omega (arith, first_after t (d + 1) m (drop d ds) first) in
+    ap (λ (doc : List ℕ). has_term doc t) (document_is collection m some)
+    ∙ ap (λ doc. has_term doc t) (sym (get_or-drop d ds (m - (d + 1)) [] ∙ ap (λ k. get_or ds k []) place)) ∙ first_has t (d + 1) m (drop d ds) first
 
 -- the only list leads
 its_term : (base collection t : List ℕ) (files : Option Files) (places : List Place) (place decided : ℕ) → LeadAsked base collection (term t) files places place decided → get_or (t ∷ []) place [] ≡ t

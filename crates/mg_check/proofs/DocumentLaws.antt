@@ -9,6 +9,7 @@ use Rattle.mg_defs.specs.PostingLists.{postings_upto}
 use Rattle.mg_defs.specs.Split.{documents}
 use Rattle.mg_defs.specs.Terms.{dictionary, docs, freq, freq_in}
 use Rattle.mg_defs.proofs.StandGrow.{docs-are, grown, grows-by}
+use Rattle.mg_defs.proofs.TermLaws.{document_behind}
 use Rattle.mg_dev.specs.Files.{Files}
 use Rattle.mg_model.specs.Terms.{TermNumbers, terms_and_numbers}
 use Rattle.mg_text.specs.Reading.{TextReading, TextStands}
@@ -78,9 +79,8 @@ upto_more : (collection : List ℕ) (n m : ℕ) → n < length (documents collec
     with_document (lists_upto n collection) (n + 1) (counted_in (dictionary collection) (get_or (documents collection) n [])) m ≡ lists_upto (n + 1) collection m
 upto_more collection n m lt within =
     let t = get_or (dictionary collection) m [] in
-    let at : n + 1 - 1 ≡ n = omega arith in
     ap (λ ps. lists_upto n collection m ++ ps) (posting_of_term (n + 1) (get_or (documents collection) n []) 0 m m (dictionary collection) (let e : m ≡ 0 + m = omega arith in e) within)
-    ∙ ap (λ k. lists_upto n collection m ++ one (n + 1) (freq_in (get_or (documents collection) k []) t)) (sym at)
+    ∙ ap (λ (doc : List ℕ). lists_upto n collection m ++ one (n + 1) (freq_in doc t)) (sym (document_behind collection n))
     ∙ sym (grows-by collection t n lt)
 
 pub holds_upto : (w : Ranged) (collection : List ℕ) (n : ℕ) → n < length (documents collection) → w.first + length w.next ≤ length (dictionary collection) →

@@ -4,6 +4,7 @@ use Rattle.mg_defs.specs.Join.{join}
 use Rattle.mg_defs.specs.Split.{close, documents, has_open_end, is_closed, joined}
 use Rattle.mg_defs.proofs.SplitLaws.{documents_split, joined_next}
 use Rattle.mg_defs.specs.Terms.{document}
+use Rattle.mg_defs.proofs.TermLaws.{document_behind}
 use Rattle.mg_laws.proofs.JoinLaws.{second_document}
 use Rattle.mg_merge.specs.Merging.{budget_of}
 use Rattle.mg_merge.specs.Texts.{AreFirst, closed_document}
@@ -22,7 +23,7 @@ given_none collection = (documents_split collection).whole
 pub given_next : (collection bytes held : List ℕ) (i : ℕ) → i < length (documents collection) → held ≡ closed_document (i + 1) collection →
     AreFirst i bytes collection → AreFirst (i + 1) (bytes ++ held) collection
 given_next collection bytes held i more is whole = ap (λ h. (bytes ++ h) ++ joined (drop (i + 1) docs) e) is
-    ∙ append_assoc bytes (closed_document (i + 1) collection) (joined rest e) ∙ ap (λ n. bytes ++ ((get_or docs n [] ++ close (is_closed (i + 1) (length docs) e)) ++ joined rest e)) place
+    ∙ append_assoc bytes (closed_document (i + 1) collection) (joined rest e) ∙ ap (λ (d : List ℕ). bytes ++ ((d ++ close (is_closed (i + 1) (length docs) e)) ++ joined rest e)) (document_behind collection i)
     ∙ ap (λ t. bytes ++ t) (sym (joined_next (get_or docs i []) rest e (i + 1) (length docs) long)) ∙ ap (λ l. bytes ++ joined l e) (sym cut) ∙ whole
   where
     docs : List (List ℕ)
@@ -33,9 +34,6 @@ given_next collection bytes held i more is whole = ap (λ h. (bytes ++ h) ++ joi
 
     rest : List (List ℕ)
     rest = drop (i + 1) docs
-
-    place : i + 1 - 1 ≡ i
-    place = omega arith
 
     cut : drop i docs ≡ get_or docs i [] ∷ rest
     cut = rw (add-one) (drop-cons docs i [] more)

@@ -352,7 +352,8 @@ marks_matches collection p ts old new none added is doc some within =
     added.each doc some within
     ∙ ap (λ b. b || list_any (has_term (document collection doc)) ts) (none doc)
     ∙ ap (list_any (has_term (document collection doc))) is
-    ∙ sym (match_lists collection p (document collection doc) (rw (document_is collection doc some) (in_them (documents collection) (doc - 1) (omega (arith, some, within)))))
+    ∙ sym (match_lists collection p (document collection doc) (ap (λ (x : List ℕ). list_any (same_term x) (documents collection)) (document_is collection doc some)
+    ∙ in_them (documents collection) (doc - 1) (omega (arith, some, within))))
 
 -- ---- the whole answer
 
