@@ -17,57 +17,53 @@ use mg_query::{Query, Terms, parse_boolean};
 use mg_reply::{Pending, answer_refused, pass_hit};
 use std::alloc::{AllocError, Global};
 
-/// Whether a document satisfies a query with these terms. What is counted and what is there is left
-/// from the last one.
-fn is_satisfied(
-    query: &Query,
-    doc: &[u8],
-    terms: &Terms,
-    counts: &mut Vec<u32>,
-    there: &mut Vec<bool>,
-) -> bool
+/// What is counted of a document: how often it has each term of a query, and which it has.
+#[derive(Drop)]
+struct Counted {
+    counts: Vec<u32>,
+    there: Vec<bool>,
+}
+
+impl Counted {
+    /// Room for so many terms.
+    fn new(alloc: Global, terms: usize) -> Result<Self, AllocError>
+        ensures counts { IfOk result (λ counted. vec_len counted.counts ≡ terms) }
+        ensures there { IfOk result (λ counted. vec_len counted.there ≡ terms) }
+    {
+        let counts = vec![in alloc; 0; terms]?;
+        let there = vec![in alloc; false; terms]?;
+        Ok(Counted { counts, there })
+    }
+}
+
+/// Whether a document satisfies a query with these terms. What is counted is left from the last one.
+fn is_satisfied(query: &Query, doc: &[u8], terms: &Terms, counted: &mut Counted) -> bool
     requires terms { terms.now ≡ query_terms (query_of query.now) }
-    requires size { vec_len counts.old ≡ length (query_terms (query_of query.now)) }
-    requires there { vec_len there.old ≡ length (query_terms (query_of query.now)) }
+    requires counts { vec_len counted.old.counts ≡ length (query_terms (query_of query.now)) }
+    requires there { vec_len counted.old.there ≡ length (query_terms (query_of query.now)) }
     requires small { length doc.now ≤ held_bytes }
     ensures value { result ≡ satisfies (query_of query.now) doc.now }
-    ensures size { vec_len counts.new ≡ length (query_terms (query_of query.now)) }
-    ensures there { vec_len there.new ≡ length (query_terms (query_of query.now)) }
+    ensures counts { vec_len counted.new.counts ≡ length (query_terms (query_of query.now)) }
+    ensures there { vec_len counted.new.there ≡ length (query_terms (query_of query.now)) }
 {
-    count_terms(doc, terms.as_slice(), counts);
-    mark_counted(counts, there);
-    query.holds(there)
+    count_terms(doc, terms.as_slice(), &mut counted.counts);
+    mark_counted(&counted.counts, &mut counted.there);
+    query.holds(&counted.there)
 }
 
-/// A count of nothing for each term.
-fn no_counts(alloc: Global, terms: &Terms) -> Result<Vec<u32>, AllocError>
-    ensures { IfOk result (λ counts. vec_len counts ≡ length terms.now) }
-{
-    vec![in alloc; 0; terms.len()]
-}
-
-/// None of the terms is there.
-fn none_there(alloc: Global, terms: &Terms) -> Result<Vec<bool>, AllocError>
-    ensures { IfOk result (λ there. vec_len there ≡ length terms.now) }
-{
-    vec![in alloc; false; terms.len()]
-}
-
-/// Writes the documents that satisfy a query with these terms, rising, and how many they are. What is
-/// counted and what is there is left from the last document.
+/// Writes the documents that satisfy a query with these terms, rising, and how many they are.
 fn put_found<O: Sink>(
     bytes: &[u8],
     query: &Query,
     terms: &Terms,
-    counts: &mut Vec<u32>,
-    there: &mut Vec<bool>,
+    counted: &mut Counted,
     now: &Settings,
     out: &mut O,
 ) -> Result<(), PutErr>
     requires small { length bytes.now ≤ held_bytes }
     requires terms { terms.now ≡ query_terms (query_of query.now) }
-    requires size { vec_len counts.old ≡ length (query_terms (query_of query.now)) }
-    requires there { vec_len there.old ≡ length (query_terms (query_of query.now)) }
+    requires counts { vec_len counted.old.counts ≡ length (query_terms (query_of query.now)) }
+    requires there { vec_len counted.old.there ≡ length (query_terms (query_of query.now)) }
     ensures puts { PutsText
         (answer_text bytes.now now.now (satisfying bytes.now (query_of query.now))) result O.Sink
         out.old out.new }
@@ -78,7 +74,7 @@ fn put_found<O: Sink>(
     let mut total = 0u32;
     'docs: while let Some(doc) = docs.next_doc() {
         number += 1;
-        if !is_satisfied(query, doc, terms, counts, there) {
+        if !is_satisfied(query, doc, terms, counted) {
             continue;
         }
         match pass_hit(&mut pending, out, now, total, number, None, doc) {
@@ -90,6 +86,29 @@ fn put_found<O: Sink>(
     match pending.count(out, total) {
         Ok(()) => pending.flush(out),
         Err(error) => Err(error),
+    }
+}
+
+/// Writes the reply to a query with these terms. It reserves what is counted of a document.
+#[tactic(auto, using(mg_dev::specs::StreamLaws::stream_laws))]
+fn answer_terms<O: Sink>(
+    alloc: Global,
+    bytes: &[u8],
+    query: &Query,
+    terms: &Terms,
+    now: &Settings,
+    out: &mut O,
+) -> Result<(), ShowErr>
+    requires small { length bytes.now ≤ held_bytes }
+    requires terms { terms.now ≡ query_terms (query_of query.now) }
+    ensures replies { WritesReply
+        (answer_text bytes.now now.now (satisfying bytes.now (query_of query.now))) result O.Sink
+        out.old out.new }
+{
+    let mut counted = Counted::new(alloc, terms.len())?;
+    match put_found(bytes, query, terms, &mut counted, now, out) {
+        Ok(()) => Ok(()),
+        Err(error) => Err(ShowErr::from(error)),
     }
 }
 
@@ -108,12 +127,7 @@ fn answer_query<O: Sink>(
         out.old out.new }
 {
     let terms = query.terms(alloc)?;
-    let mut counts = no_counts(alloc, &terms)?;
-    let mut there = none_there(alloc, &terms)?;
-    match put_found(bytes, query, &terms, &mut counts, &mut there, now, out) {
-        Ok(()) => Ok(()),
-        Err(error) => Err(ShowErr::from(error)),
-    }
+    answer_terms(alloc, bytes, query, &terms, now, out)
 }
 
 /// Writes the reply to a Boolean line.

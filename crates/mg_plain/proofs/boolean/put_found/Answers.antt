@@ -6,7 +6,7 @@ pub docs-init : goal.docs-init
 docs-init g c = record {
   scanned = rw (c.new-docs.ensures, c.new-pending.ensures) (so_far_start _ _ _ _);
   few = omega arith;
-  size = c.requires.size;
+  counts = c.requires.counts;
   there = c.requires.there;
   faults = omega arith;
   lacks = omega arith;
@@ -22,7 +22,7 @@ pub docs-preserved-then-not-is_satisfied : goal.docs-preserved-then-not-is_satis
 docs-preserved-then-not-is_satisfied g c = record {
   scanned = so_far_miss c.docs.invariant.scanned c.in-Some.ensures (sym c.is_satisfied.ensures.value ∙ c.if-not-is_satisfied.true);
   few = omega arith;
-  size = c.is_satisfied.ensures.size;
+  counts = c.is_satisfied.ensures.counts;
   there = c.is_satisfied.ensures.there;
   faults = omega arith;
   lacks = omega arith;
@@ -44,7 +44,7 @@ pub docs-preserved : goal.docs-preserved
 docs-preserved g c = record {
   scanned = so_far_hit c.docs.invariant.scanned c.in-Some.ensures (sym c.is_satisfied.ensures.value ∙ c.if-not-is_satisfied.false) c.in-Ok.ensures.content;
   few = omega arith;
-  size = c.is_satisfied.ensures.size;
+  counts = c.is_satisfied.ensures.counts;
   there = c.is_satisfied.ensures.there;
   faults = omega arith;
   lacks = omega arith;

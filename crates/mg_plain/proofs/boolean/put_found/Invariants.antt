@@ -8,8 +8,8 @@ abbrev pub invariant-docs : goal.invariant-docs
 invariant-docs g l = record {
   scanned : FoundSoFar l.fn.bytes (query_of l.fn.query) l.fn.now (g.O.Sink.written l.fn.out) (g.O.Sink.written l.out) l.pending l.number l.total l.docs;
   few : l.total ≤ l.number;
-  size : vec_len l.counts ≡ length (query_terms (query_of l.fn.query));
-  there : vec_len l.there ≡ length (query_terms (query_of l.fn.query));
+  counts : vec_len l.counted.counts ≡ length (query_terms (query_of l.fn.query));
+  there : vec_len l.counted.there ≡ length (query_terms (query_of l.fn.query));
   faults : g.O.Sink.faults l.fn.out ≤ g.O.Sink.faults l.out;
   lacks : g.O.Sink.lacks l.fn.out ≤ g.O.Sink.lacks l.out;
 }
