@@ -1,5 +1,5 @@
 -- Why a call on a whole set stops.
-use Rattle.std.specs.Prelude.{◌≡◌, ◌⊎◌, ℕ, List, Ok, Err}
+use Rattle.std.specs.Prelude.{◌≡◌, ◌⊎◌, ◌≤◌, ℕ, List, Ok, Err}
 use Rattle.std.specs.Option.{IsSome}
 use Rattle.std.specs.declared.option.Option.{Option}
 use Rattle.std.specs.declared.result.Result.{Result}
@@ -7,13 +7,19 @@ use Rattle.mg_dev.specs.Causes.{Rose}
 use Rattle.mg_dev.specs.Files.{Files, Reads}
 use Rattle.mg_dev.specs.Moments.{NothingWritten, SinkAt, sink_at}
 use Rattle.mg_dev.specs.Runs.{IsDone}
+use Rattle.mg_dev.specs.Streams.{AfterPut}
+use Rattle.mg_dev.specs.Names.{number}
+use Rattle.mg_dev.specs.declared.part.Part.{Part}
 use Rattle.mg_dev.specs.declared.part.Part.TheVariants.{Text}
 use Rattle.mg_dev.specs.declared.fault.Fault.{Fault}
 use Rattle.mg_dev.specs.declared.fault.Fault.TheVariants.{Damaged, Memory, NotBuilt, StoreFault, WriteFault}
 use Rattle.mg_dev.specs.declared.part_err.PartErr.TheVariants as part
 use Rattle.mg_dev.specs.declared.show_err.ShowErr.{ShowErr}
 use Rattle.mg_dev.specs.declared.show_err.ShowErr.TheVariants as show
-use Rattle.mg_layout.specs.Stands.{HasNoHead, StandsForNone}
+use Rattle.mg_layout.specs.Stands.{ForSetBy, HasNoHead, StandsForNone}
+use Rattle.mg_layout.specs.declared.head.Head.{Head}
+use Rattle.mg_text.specs.Decoding.{AddsOf}
+use Rattle.mg_text.specs.Reading.{ShowIsNotBad}
 
 -- the cause of each refusal of a decoding
 abbrev pub DecodeStops : Type 0 → Type 0 → Option Files → List ℕ → Fault → Type 0
@@ -48,6 +54,22 @@ abbrev pub ShowRefused : {X Y : Type 0} → (X → Reads) → (X → ℕ) → X 
 ShowRefused reads faults store store_now written failures lacks out out_now result =
     ShowStops result (reads store) (reads store_now) (faults store) (faults store_now)
     (sink_at written failures lacks out) (sink_at written failures lacks out_now)
+
+-- what showing the set with a head does, by what the store and the sink tell before the call and after it
+pub record ShowsSet {X Y : Type 0} (head : Head) (base : List ℕ) (files_of : X → Option Files) (reads_of : X → Reads)
+    (faults_of : X → ℕ) (store store_now : X) (written : Y → Option (List ℕ)) (failures lacks : Y → ℕ) (out out_now : Y)
+    (result : Result (Unit {0}) ShowErr) : Type 0 where
+  -- the collection of this head is written, or after a refusal a prefix
+  pub content : ForSetBy head (files_of store) base
+      (λ _ collection. AfterPut (written out) (written out_now) collection result)
+  pub never_bad : ForSetBy head (files_of store) base (λ _ _. ShowIsNotBad result)
+  -- whatever the files hold, no more bytes are added than the head tells
+  pub added : AddsOf written failures lacks out out_now head.collection 0
+  pub cause : ShowRefused reads_of faults_of store store_now written failures lacks out out_now result
+  -- no file changes, and of the parts only the models, the text and its places are read
+  pub files : files_of store_now ≡ files_of store
+  pub reads : (p : Part) → 5 ≤ number p → reads_of store_now p ≡ reads_of store p
+  pub later : faults_of store ≤ faults_of store_now
 
 -- it is done, or memory lacks, unless the store or the sink fails
 abbrev pub DoneUnlessFails : {X Y T : Type 0} → (X → ℕ) → X → X → (Y → ℕ) → Y → Y → Result T Fault → Type 0

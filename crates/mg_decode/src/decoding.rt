@@ -10,11 +10,10 @@ ghost use Rattle.mg_dev.specs.Streams.{AfterPut};
 ghost use Rattle.mg_dev.specs.declared.fault.Fault.TheVariants as fault;
 ghost use Rattle.mg_dev.specs.declared.part.Part.{Part as AnyPart};
 ghost use Rattle.mg_dev.specs.declared.part.Part.TheVariants as part;
-ghost use Rattle.mg_layout.specs.Stands.{ForSetBy, Stands};
-ghost use Rattle.mg_text.specs.Decoding.{Added, AddsOf};
-ghost use Rattle.mg_text.specs.Reading.{ShowIsNotBad};
+ghost use Rattle.mg_layout.specs.Stands.{Stands};
+ghost use Rattle.mg_text.specs.Decoding.{Added};
 ghost use Rattle.mg_decode.specs.Decoded.{DecodesSet, WithinHead};
-ghost use Rattle.mg_decode.specs.Outcomes.{DecodeStops, DoneUnlessFails, LacksEarly, ShowRefused};
+ghost use Rattle.mg_decode.specs.Outcomes.{DecodeStops, DoneUnlessFails, LacksEarly, ShowsSet};
 
 use crate::documents::show_documents;
 use mg_dev::{Fault, PartErr, ShowErr, Sink, Store};
@@ -104,16 +103,8 @@ fn show_set<S: Store, O: Sink>(
 ) -> Result<(), ShowErr>
     requires words { head.now.words ≤ 2 ^ 22 }
     requires others { head.now.others ≤ 2 ^ 22 }
-    ensures content { ForSetBy head.now (S.files store.old) base.now
-        (λ _ collection. AfterPut (O.written out.old) (O.written out.new) collection result) }
-    ensures never_bad { ForSetBy head.now (S.files store.old) base.now
-        (λ _ _. ShowIsNotBad result) }
-    ensures added { AddsOf O.written O.faults O.lacks out.old out.new head.now.collection 0 }
-    ensures cause { ShowRefused S.reads S.faults store.old store.new O.written O.faults O.lacks
-        out.old out.new result }
-    ensures files { S.files store.new ≡ S.files store.old }
-    ensures reads { (p : AnyPart) → 5 ≤ number p → S.reads store.new p ≡ S.reads store.old p }
-    ensures later { S.faults store.old ≤ S.faults store.new }
+    ensures { ShowsSet head.now base.now S.files S.reads S.faults store.old store.new O.written
+        O.faults O.lacks out.old out.new result }
 {
     let mut buffer = match ShowBuffer::new(alloc, head.collection) {
         Ok(buffer) => buffer,
