@@ -9,7 +9,7 @@ use mg_dev::{Failed, FileRef, Part, PutErr, Store, count_read};
 use std::alloc::{AllocError, Global};
 use std::fs::{Files, OpenFile, OpenOptions};
 use std::io;
-use std::io::{ErrorKind, Seek, SeekFrom};
+use std::io::{ErrorKind, Read, Seek, SeekFrom};
 
 /// The files of the system, which the store does not tell.
 ///
@@ -39,6 +39,34 @@ struct Open<F> {
     appends: bool,
     place: Option<u64>,
     file: F,
+}
+
+impl<F: Read + Seek> Open<F> {
+    /// Reads from a place of the file. It seeks only where the file stands elsewhere.
+    fn read_at(&mut self, at: u64, buf: &mut [u8]) -> io::Result<usize>
+        ensures bound { ReadsAtMost result buf.new }
+    {
+        if self.place != Some(at) {
+            match self.file.seek(SeekFrom::Start(at)) {
+                Ok(_) => {}
+                // No file reaches to a place that the system does not take.
+                Err(e) if e.kind() == ErrorKind::InvalidInput => return Ok(0),
+                Err(e) => return Err(e),
+            }
+        }
+        self.place = None;
+        let count = read_full(&mut self.file, buf)?;
+        self.place = at.checked_add(count as u64);
+        Ok(count)
+    }
+}
+
+/// That there is no file is an answer, and other failures are none.
+fn none_found<T>(e: io::Error) -> io::Result<Option<T>> {
+    match e.kind() {
+        ErrorKind::NotFound => Ok(None),
+        _ => Err(e),
+    }
 }
 
 /// The most files that are kept open: all parts of three sets, as a merge has them, and those of
@@ -73,11 +101,11 @@ impl<R: Files + Drop> HostStore<R> {
     }
 
     fn try_size(&self, file: &FileRef<'_>) -> io::Result<Option<u64>> {
-        match self.rt.metadata(self.name(file)?.as_str()) {
+        let name = self.name(file)?;
+        match self.rt.metadata(name.as_str()) {
             Ok(metadata) if !metadata.is_file() => Err(io::Error::from(ErrorKind::InvalidInput)),
             Ok(metadata) => Ok(Some(metadata.len())),
-            Err(e) if e.kind() == ErrorKind::NotFound => Ok(None),
-            Err(e) => Err(e),
+            Err(e) => none_found(e),
         }
     }
 
@@ -97,6 +125,16 @@ impl<R: Files + Drop> HostStore<R> {
         None
     }
 
+    /// Closes the file that was opened first where there are many.
+    fn leave_room(&mut self)
+        ensures faults { self.new.faults ≡ self.old.faults }
+        ensures reads { self.new.reads ≡ self.old.reads }
+    {
+        if self.kept.len() >= MOST_OPEN {
+            let _ = self.kept.remove(0);
+        }
+    }
+
     /// Keeps a file open, in place of the one that was opened first where there are many.
     fn keep(
         &mut self,
@@ -108,9 +146,7 @@ impl<R: Files + Drop> HostStore<R> {
         ensures faults { self.new.faults ≡ self.old.faults }
         ensures reads { self.new.reads ≡ self.old.reads }
     {
-        if self.kept.len() >= MOST_OPEN {
-            let _ = self.kept.remove(0);
-        }
+        self.leave_room();
         let base = String::from_str(self.alloc, file.base)?;
         self.kept.push(Open {
             base,
@@ -122,35 +158,39 @@ impl<R: Files + Drop> HostStore<R> {
         Ok(self.kept.len() - 1)
     }
 
+    /// Opens a file to be read. None where there is none.
+    fn open_to_read(&self, file: &FileRef<'_>) -> io::Result<Option<R::File>> {
+        let name = self.name(file)?;
+        match OpenOptions::new().read(true).open(&self.rt, name.as_str()) {
+            Ok(opened) => Ok(Some(opened)),
+            Err(e) => none_found(e),
+        }
+    }
+
+    /// The place of the file that is open to be read. None where there is no file.
+    fn opened_to_read(&mut self, file: &FileRef<'_>) -> io::Result<Option<usize>>
+        ensures within { IfOk result (λ found. IfSome found (λ i. i < vec_len self.new.kept)) }
+        ensures faults { self.new.faults ≡ self.old.faults }
+        ensures reads { self.new.reads ≡ self.old.reads }
+    {
+        if let Some(i) = self.find(file, false) {
+            return Ok(Some(i));
+        }
+        match self.open_to_read(file)? {
+            Some(opened) => Ok(Some(self.keep(file, false, opened)?)),
+            None => Ok(None),
+        }
+    }
+
     fn try_read(&mut self, file: &FileRef<'_>, at: u64, buf: &mut [u8]) -> io::Result<usize>
         ensures bound { ReadsAtMost result buf.new }
         ensures faults { self.new.faults ≡ self.old.faults }
         ensures reads { self.new.reads ≡ self.old.reads }
     {
-        let i = match self.find(file, false) {
-            Some(i) => i,
-            None => {
-                let name = self.name(file)?;
-                match OpenOptions::new().read(true).open(&self.rt, name.as_str()) {
-                    Ok(opened) => self.keep(file, false, opened)?,
-                    Err(e) if e.kind() == ErrorKind::NotFound => return Ok(0),
-                    Err(e) => return Err(e),
-                }
-            }
-        };
-        let there = &mut self.kept[i];
-        if there.place != Some(at) {
-            match there.file.seek(SeekFrom::Start(at)) {
-                Ok(_) => {}
-                // No file reaches to a place that the system does not take.
-                Err(e) if e.kind() == ErrorKind::InvalidInput => return Ok(0),
-                Err(e) => return Err(e),
-            }
+        match self.opened_to_read(file)? {
+            Some(i) => self.kept[i].read_at(at, buf),
+            None => Ok(0),
         }
-        there.place = None;
-        let count = read_full(&mut there.file, buf)?;
-        there.place = at.checked_add(count as u64);
-        Ok(count)
     }
 
     fn try_reset(&self, name: &str) -> io::Result<()> {
@@ -162,6 +202,17 @@ impl<R: Files + Drop> HostStore<R> {
         Ok(())
     }
 
+    /// Opens a file to be added to, and makes it where there is none.
+    fn open_to_append(&self, file: &FileRef<'_>) -> Result<io::Result<R::File>, AllocError> {
+        let name = self.name(file)?;
+        Ok(
+            OpenOptions::new()
+                .append(true)
+                .create(true)
+                .open(&self.rt, name.as_str()),
+        )
+    }
+
     /// The place of the file that is open to be added to.
     fn opened_to_append(&mut self, file: &FileRef<'_>) -> Result<usize, PutErr>
         ensures within { IfOk result (λ i. i < vec_len self.new.kept) }
@@ -171,12 +222,7 @@ impl<R: Files + Drop> HostStore<R> {
         if let Some(i) = self.find(file, true) {
             return Ok(i);
         }
-        let name = self.name(file)?;
-        match OpenOptions::new()
-            .append(true)
-            .create(true)
-            .open(&self.rt, name.as_str())
-        {
+        match self.open_to_append(file)? {
             Ok(opened) => Ok(self.keep(file, true, opened)?),
             Err(_) => Err(self.failed().into()),
         }
