@@ -10,5 +10,7 @@ pub use Rattle.mg_post.proofs.TermLaws.{span_in_list, span_is}
 pub use Rattle.mg_post.proofs.WholeListLaws.{pages_in_list}
 -- the pages of the first blocks of a list are within those of the list
 pub use Rattle.mg_post.proofs.ListReadingLaws.{pages_read}
+-- and the pages on which these blocks lie are no more than those on which the list does
+pub use Rattle.mg_post.proofs.WalkPages.{span_within}
 -- what the parts show of a list: it is not before the document, and it is the same for each cursor over the list
 pub use Rattle.mg_post.proofs.ShownLaws.{first_low, first_same, stands_later}

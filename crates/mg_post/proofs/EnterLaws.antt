@@ -99,7 +99,7 @@ block_ends b blocks doc k before last at end ps held found is ends =
 
 -- ---- pages
 
-to_read_most : (held : Option ℕ) (from to : ℕ) → to_read 4096 held from to ≤ pages from to
+pub to_read_most : (held : Option ℕ) (from to : ℕ) → to_read 4096 held from to ≤ pages from to
 to_read_most None from to = grind (arith, common_steps)
 to_read_most (Some h) from to = grind (arith, common_steps)
 
@@ -116,7 +116,7 @@ device_most f0 f1 d0 d1 part from to is own within =
     omega (arith, some, to_read_most f0.held from to)
 
 -- the bit behind a block, by the place where it was read from and to
-end_of : (b post_at place end k before : ℕ) (ps filled : List Posting) → filled ≡ block_of k ps → before ≡ doc_before (64 * k) ps →
+pub end_of : (b post_at place end k before : ℕ) (ps filled : List Posting) → filled ≡ block_of k ps → before ≡ doc_before (64 * k) ps →
     place ≡ post_at + bits_before b (64 * k) ps → end ≡ place + length (bits_after b before filled) → end ≡ post_at + bits_before b (64 * (k + 1)) ps
 end_of b post_at place end k before ps filled is from at ends =
     let e : length (bits_after b before filled) ≡ length (bits_after b (doc_before (64 * k) ps) (block_of k ps)) = ap (λ l. length (bits_after b before l)) is

@@ -15,6 +15,7 @@ mod StepLaws
 mod LifeLaws
 mod TermLaws
 mod WholeListLaws
+mod WalkPages
 mod ListReadingLaws
 pub mod CallerLemmas
 pub mod ListHeads

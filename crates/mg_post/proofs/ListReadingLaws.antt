@@ -6,7 +6,7 @@ use Rattle.mg_dev.specs.Files.{Files, Reads, bytes_at}
 use Rattle.mg_dev.specs.Names.{full_name}
 use Rattle.mg_dev.specs.declared.part.Part.TheVariants.{Post, Skip}
 use Rattle.mg_dev.specs.declared.part_err.PartErr.{PartErr}
-use Rattle.mg_bits.specs.Feed.{Device as Seen, told_at}
+use Rattle.mg_bits.specs.Feed.{Device as Seen, ReadsWithin, told_at}
 use Rattle.mg_bits.specs.Pages.{Fits, Paging, feeding_of}
 use Rattle.mg_bits.specs.Reading.{Reading}
 use Rattle.mg_bits.proofs.CallerLemmas.{is_told}
@@ -17,6 +17,7 @@ use Rattle.mg_defs.specs.Lexicon as defs
 use Rattle.mg_defs.specs.Split.{documents}
 use Rattle.mg_defs.specs.Lists.{Rises, bits_after, bits_before, block_count, block_of, block_pages, doc_before, from_doc, last_doc, list_byte, postings}
 use Rattle.mg_defs.specs.PageBounds.{list_bit, list_pages, parameter_of, whole_pages}
+use Rattle.mg_defs.specs.PagesOf.{pages}
 use Rattle.mg_defs.proofs.ListLaws.{from_above, from_here, from_next, list_rises, rises_right}
 use Rattle.mg_laws.proofs.BoundLaws.{whole_more, whole_rises}
 use Rattle.mg_laws.proofs.LedLists.{length_postings}
@@ -24,17 +25,18 @@ use Rattle.mg_laws.proofs.MetBlocks.{from_from, number_is, term_some}
 use Rattle.mg_layout.specs.declared.term_info.TermInfo.{TermInfo}
 use Rattle.mg_post.specs.Answers.{IsRefused, OnDamage}
 use Rattle.mg_post.specs.Cursor.{HeldRises, IsFrom, head_of, next_doc}
-use Rattle.mg_post.specs.ListReading.{AnswersReader, ListReading, OpensList, ReadStep, ReaderFor, WalksOn, doc_in, left_behind, read_pages}
+use Rattle.mg_post.specs.ListReading.{AnswersReader, ListReading, OpensList, ReadStep, ReaderFor, WalksOn, doc_in, left_behind, read_pages, span_to}
 use Rattle.mg_post.specs.Missing.{LacksPosting}
 use Rattle.mg_post.specs.Reading.{FillsBlock}
 use Rattle.mg_post.specs.TermLists.{ListsStand}
 use Rattle.mg_post.specs.declared.refusal.Refusal.{Refusal}
 use Rattle.mg_post.proofs.CursorLaws.{Suffix, after_current, from_suffix, head_front, order, part_is, refused_answer, same_file}
-use Rattle.mg_post.proofs.EnterLaws.{bits_next, block_answer, block_within, device_most, doc_next, pages_is}
+use Rattle.mg_post.proofs.EnterLaws.{bits_next, block_answer, block_within, device_most, doc_next, end_of, pages_is}
 use Rattle.mg_post.proofs.ForwardLaws.{forward_all}
 use Rattle.mg_post.proofs.SoundLaws.{block_held, in_held, names_own, next_held, own_cause}
 use Rattle.mg_post.proofs.StandLaws.{term_stands}
 use Rattle.mg_post.proofs.StepLaws.{not_memory, part_cause}
+use Rattle.mg_post.proofs.WalkPages.{HoldsLast, span_next, span_within, walk_holds}
 
 -- ---- postings
 
@@ -193,6 +195,7 @@ opens info r v post all place parameter docs reached last held = record {
             let none : bits_before v.parameter (64 * v.reached) (postings collection t) ≡ 0 = ap (λ n. bits_before v.parameter (64 * n) (postings collection t)) reached in
             omega (arith, place, at, bit, list.small, none);
         before = last ∙ sym (ap (λ n. doc_before (64 * n) (postings collection t)) reached);
+        page = λ some. absurd (omega (arith, some, place, at, bit));
         left =
             ap (λ l. drop 1 l ++ drop (64 * v.reached) (postings collection t)) held ∙ ap (λ n. drop (64 * n) (postings collection t)) reached
             ∙ sym (from_first (length (documents collection)) (postings collection t) rises);
@@ -224,11 +227,14 @@ read_inside r held p files reads faults fits rises more went here =
               reached = f.reached;
               place = f.place;
               before = f.before;
+              page = f.page;
               left = next_left (length (documents collection)) last (postings collection t) held rest p (list_rises collection t stand.short) here left;
             };
           };
       post = λ last base collection t stand f. omega arith;
       most = λ last base collection t stand f. omega (arith, pages_read collection t r.reached f.reached);
+      once = λ last base collection t stand f. omega arith;
+      once_most = λ last base collection t stand f. omega (arith, span_within collection t r.reached f.reached);
       sound = subst (λ d. IsFrom d r.all p) (current_next r.last r.held more) (next_held r.all r.last r.held held p rises more went here);
       current = current_is r.last held (Some p) (sym here);
       walk = omega (arith, less, more);
@@ -255,6 +261,8 @@ read_ended r files reads faults fits few all = record {
       record { found_is = ap head_of (sym both ∙ f.left); reader = tt };
   post = λ last base collection t stand f. omega arith;
   most = λ last base collection t stand f. omega (arith, pages_read collection t r.reached f.reached);
+  once = λ last base collection t stand f. omega arith;
+  once_most = λ last base collection t stand f. omega (arith, span_within collection t r.reached f.reached);
   sound = tt;
   current = tt;
   walk = omega (arith, few, all);
@@ -305,12 +313,18 @@ module _ {Dev : Type 0} {device : Dev → Seen} {r : ListReading} {d0 d1 : Dev} 
     most = λ last base collection t stand f.
         let ps = postings collection t in
         let at = list_bit collection t in
-        let l = list_in base collection t last (device d0).files r stand f in
-        let within = block_within (told_at (device d0).files r.post.name) (feeding_of 4096 r.post) (feeding_of 4096 post.feed) (device d0) (device d1) at r.all r.parameter r.place r.last
-        count r.docs r.reached ps k.size f.docs f.before f.place l.rises l.bits l.small w.pages in
+        let within = block_refused last base collection t stand f in
         let most = device_most (feeding_of 4096 r.post) (feeding_of 4096 post.feed) (device d0) (device d1) Post r.place within.0 refl (ap Some k.part) within.1 in
         let own = own_block collection t r.parameter r.reached f.parameter in
         omega (arith, most, within.3, own, whole_more (parameter_of collection t) at r.reached ps, pages_read collection t (r.reached + 1) (omega (arith, k.more, f.docs)));
+    once = λ last base collection t stand f. tt;
+    once_most = λ last base collection t stand f.
+        let within = block_refused last base collection t stand f in
+        omega (
+          arith,
+          span_next collection t r.parameter r.reached r.place within.0 _ _ _ _ Post f.parameter f.place within.2 refl (ap Some k.part) f.page within.1,
+          span_within collection t (r.reached + 1) (omega (arith, k.more, f.docs)),
+        );
     sound = tt;
     current = tt;
     walk = tt;
@@ -324,6 +338,16 @@ module _ {Dev : Type 0} {device : Dev → Seen} {r : ListReading} {d0 d1 : Dev} 
     memory = λ same. not_memory refusal Post e is cc;
     cause = record { later = w.calm.faults; device = part_cause ℕ (Option Posting) refusal Post e _ _ is w.cause };
   }
+    where
+      -- the block is read on its pages alone
+      block_refused : (last : ℕ) (base collection t : List ℕ) → ListsStand base (device d0).files collection → ReaderFor base collection t last r →
+          (to : ℕ) × ReadsWithin (feeding_of 4096 r.post) (feeding_of 4096 post.feed) (device d0) (device d1) r.place to
+          × (to ≡ list_bit collection t + bits_before r.parameter (64 * (r.reached + 1)) (postings collection t))
+          × (pages r.place to ≡ block_pages r.parameter (list_bit collection t) r.reached (postings collection t))
+      block_refused last base collection t stand f =
+          let l = list_in base collection t last (device d0).files r stand f in
+          block_within (told_at (device d0).files r.post.name) (feeding_of 4096 r.post) (feeding_of 4096 post.feed) (device d0) (device d1) (list_bit collection t)
+          r.all r.parameter r.place r.last count r.docs r.reached (postings collection t) k.size f.docs f.before f.place l.rises l.bits l.small w.pages
 
   -- it is at hand
   pub read_filled : {end : ℕ} (found : Option Posting) → FillsBlock r.all r.parameter r.last count block Fits (feeding_of 4096) device (reader r.post r.place) post d0 d1 (Ok end) →
@@ -341,6 +365,9 @@ module _ {Dev : Type 0} {device : Dev → Seen} {r : ListReading} {d0 d1 : Dev} 
         post = λ last base collection t stand f. more_pages last base collection t stand f;
         most = λ last base collection t stand f.
             omega (arith, more_pages last base collection t stand f, pages_read collection t (r.reached + 1) (omega (arith, k.more, f.docs)));
+        once = λ last base collection t stand f. pages_once last base collection t stand f;
+        once_most = λ last base collection t stand f.
+            omega (arith, pages_once last base collection t stand f, span_within collection t (r.reached + 1) (omega (arith, k.more, f.docs)));
         sound = subst (λ d. IfSome found (IsFrom (d + 1) r.all)) (sym now)
             (in_held r.all end (r.last + 1) block block found held (sym (forward_all r.all r.last block w.rises)) got);
         current = current_is end block found got;
@@ -373,6 +400,17 @@ module _ {Dev : Type 0} {device : Dev → Seen} {r : ListReading} {d0 d1 : Dev} 
           let most = device_most (feeding_of 4096 r.post) (feeding_of 4096 post.feed) (device d0) (device d1) Post r.place to refl (ap Some k.part) w.read.pages in
           let own = own_block collection t r.parameter r.reached f.parameter in
           omega (arith, most, pages_is r.parameter at r.place to r.reached r.last ps block is f.before f.place refl, own, whole_more (parameter_of collection t) at r.reached ps)
+
+      -- the bit behind it
+      block_end : (last : ℕ) (base collection t : List ℕ) → ListsStand base (device d0).files collection → ReaderFor base collection t last r →
+          r.place + length (bits_after r.parameter r.last block) ≡ list_bit collection t + bits_before r.parameter (64 * (r.reached + 1)) (postings collection t)
+      block_end last base collection t stand f =
+          end_of r.parameter (list_bit collection t) r.place _ r.reached r.last (postings collection t) block (block_read last base collection t stand f) f.before f.place refl
+
+      pages_once : (last : ℕ) (base collection t : List ℕ) → ListsStand base (device d0).files collection → ReaderFor base collection t last r →
+          (device d1).reads Post + span_to collection t r.reached ≤ (device d0).reads Post + span_to collection t (r.reached + 1)
+      pages_once last base collection t stand f =
+          span_next collection t r.parameter r.reached r.place _ _ _ _ _ Post f.parameter f.place (block_end last base collection t stand f) refl (ap Some k.part) f.page w.read.pages
 
       answers : (last : ℕ) (base collection t : List ℕ) → ListsStand base (device d0).files collection → ReaderFor base collection t last r →
           AnswersReader base collection t last (record r { post = post.feed; place = post.place; reached = r.reached + 1; last = end; held = block }) found
@@ -412,6 +450,8 @@ module _ {Dev : Type 0} {device : Dev → Seen} {r : ListReading} {d0 d1 : Dev} 
             before =
                 w.last ∙ ap (last_doc r.last) is ∙ ap (λ d. last_doc d (block_of r.reached (postings collection t))) f.before
                 ∙ sym (doc_next r.reached (postings collection t));
+            page = subst (λ n. HoldsLast (list_bit collection t) n post.feed.held) (sym w.place)
+                (walk_holds (list_bit collection t) r.place _ r.post.held post.feed.held (omega arith) f.page w.read.held);
             left = next_left (length (documents collection)) last (postings collection t) block (drop (64 * (r.reached + 1)) (postings collection t)) p
                 (list_rises collection t stand.short) (sym e) left;
           }

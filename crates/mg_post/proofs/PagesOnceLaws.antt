@@ -69,11 +69,11 @@ page_rise a b le = omega (arith, le)
 -- ---- a range that is read on
 
 -- where the range has no bit
-range_none : (held : Option ℕ) (a b : ℕ) → b ≤ a → (to_read 4096 held a b ≡ 0) × (held_after 4096 held a b ≡ held)
+pub range_none : (held : Option ℕ) (a b : ℕ) → b ≤ a → (to_read 4096 held a b ≡ 0) × (held_after 4096 held a b ≡ held)
 range_none held a b le = grind (arith, le)
 
 -- where it has some
-range_some : (held : Option ℕ) (a b : ℕ) → a < b →
+pub range_some : (held : Option ℕ) (a b : ℕ) → a < b →
     (to_read 4096 held a b ≡ page_at (b - 1) - page_at a + lacks held (page_at a)) × (held_after 4096 held a b ≡ Some (page_at (b - 1)))
 range_some held a b lt = grind (arith, lt)
 

@@ -1,5 +1,5 @@
 -- A reader of whole lists: what contracts see of it, where it stands in a list, and what a call does.
-use Rattle.std.specs.Prelude.{◌≡◌, ◌≢◌, ℕ, ◌+◌, ◌-◌, ◌*◌, ◌^◌, ◌≤◌, List, [], ◌∷◌, ◌++◌, length, drop, min, slice_get, Option, Some, None, Result, Err, IfErr, IfOk, IfSome, OnErr, OnOk}
+use Rattle.std.specs.Prelude.{◌≡◌, ◌≢◌, ℕ, ◌+◌, ◌-◌, ◌*◌, ◌^◌, ◌≤◌, ◌<◌, List, [], ◌∷◌, ◌++◌, length, drop, min, slice_get, Option, Some, None, Result, Err, IfErr, IfOk, IfSome, OnErr, OnOk}
 use Rattle.mg_dev.specs.Files.{Files, Reads}
 use Rattle.mg_dev.specs.Names.{full_name}
 use Rattle.mg_dev.specs.PartCauses.{HasPartCause}
@@ -15,12 +15,14 @@ use Rattle.mg_defs.specs.Split.{documents}
 use Rattle.mg_defs.specs.Terms.{dictionary}
 use Rattle.mg_defs.specs.Lists.{bits_before, block_count, doc_before, from_doc, postings}
 use Rattle.mg_defs.specs.PageBounds.{list_bit, list_pages, parameter_of, whole_pages}
+use Rattle.mg_defs.specs.PagesOf.{page_at, pages}
 use Rattle.mg_layout.specs.Infos.{IsInfoOf}
 use Rattle.mg_layout.specs.declared.term_info.TermInfo.{TermInfo}
 use Rattle.mg_post.specs.Answers.{AnswersList}
 use Rattle.mg_post.specs.Cursor.{IsFrom, head_of}
 use Rattle.mg_post.specs.Damages.{IfNames, NamesPart}
 use Rattle.mg_post.specs.Missing.{LacksPosting}
+use Rattle.mg_post.specs.PagesOnce.{span_pages}
 use Rattle.mg_post.specs.TermLists.{ListsStand}
 
 pub record ListReading : Type 0 where
@@ -69,6 +71,8 @@ pub record ReaderFor (base collection t : List ℕ) (last : ℕ) (r : ListReadin
   -- it reads on behind the blocks that were read
   pub place : r.place ≡ list_bit collection t + bits_before r.parameter (64 * r.reached) (postings collection t)
   pub before : r.last ≡ doc_before (64 * r.reached) (postings collection t)
+  -- where these have bits, the page of the last one is held
+  pub page : list_bit collection t < r.place → r.post.held ≡ Some (page_at (r.place - 1))
   -- the postings behind the document are left
   pub left : drop 1 r.held ++ drop (64 * r.reached) (postings collection t) ≡ from_doc (last + 1) (postings collection t)
 
@@ -81,6 +85,11 @@ ForReader files last r claim = (base collection t : List ℕ) → ListsStand bas
 abbrev pub read_pages : List ℕ → List ℕ → ListReading → ℕ
 read_pages collection t r = whole_pages (parameter_of collection t) (list_bit collection t) r.reached
     (postings collection t)
+
+-- the pages on which its first blocks lie, so many
+abbrev pub span_to : List ℕ → List ℕ → ℕ → ℕ
+span_to collection t blocks = pages (list_bit collection t)
+    (list_bit collection t + bits_before (parameter_of collection t) (64 * blocks) (postings collection t))
 
 -- the answer: the first posting of the list behind a document; then the reader is behind that posting
 pub record AnswersReader (base collection t : List ℕ) (last : ℕ) (v : ListReading) (found : Option Posting) : Type 0
@@ -132,6 +141,11 @@ pub record ReadStep (r v : ListReading) (result : Result (Option Posting) PartEr
   -- also where the next block is refused
   pub most : (last : ℕ) → ForReader files_before last r (λ _ collection t.
       reads_now Post + read_pages collection t r ≤ reads_before Post + list_pages collection t)
+  -- and each page on which the blocks lie is read once
+  pub once : (last : ℕ) → ForReader files_before last r (λ _ collection t. OnOk result
+      (reads_now Post + span_to collection t r.reached ≤ reads_before Post + span_to collection t v.reached))
+  pub once_most : (last : ℕ) → ForReader files_before last r (λ _ collection t.
+      reads_now Post + span_to collection t r.reached ≤ reads_before Post + span_pages collection t)
   -- whatever Post has, the posting is behind the current one, and is the current one then
   pub sound : IfOk result (λ found. IfSome found (IsFrom (current_doc r + 1) r.all))
   pub current : IfOk result (λ found. IfSome found (λ p. current_doc v ≡ p.doc))
