@@ -1,5 +1,5 @@
 -- What reading a document promises, by the calls that it makes.
-use Rattle.std.proofs.Common.{arith, ◌≡◌, ◌≢◌, ◌+◌, ◌++◌, ◌≤◌, ℕ, List, length, true, false, Option, Some, Result, Ok, Err, refl, sym, ◌∙◌, ap, subst}
+use Rattle.std.proofs.Common.{arith, ◌≡◌, ◌≢◌, ◌+◌, ◌++◌, ◌≤◌, ℕ, List, length, true, false, Option, IsSome, Some, Result, OnOk, Ok, Err, refl, sym, ◌∙◌, ap, subst}
 use Rattle.mg_dev.specs.Files.{Files, Reads}
 use Rattle.mg_dev.specs.Moments.{SinkAt}
 use Rattle.mg_dev.specs.Names.{same_part}
@@ -15,7 +15,7 @@ use Rattle.mg_defs.specs.Terms.{document}
 use Rattle.mg_text.specs.Decoding.{AddedOf, DecodingStep, Gathering, IsReadCaused, Shown, Steps, bytes_to_come}
 use Rattle.mg_text.specs.Held.{ForShortDocument, HasShortDocument, WhereShort}
 use Rattle.mg_text.specs.Places.{ReadsPlace}
-use Rattle.mg_text.specs.Reading.{AnswersDoc, AnswersGathered, GathersDoc, PagesOfDocument, ReadsDocument, ShowIsNotBad, TextFits, TextReading, TextStands, document_pages}
+use Rattle.mg_text.specs.Reading.{AnswersDoc, AnswersGathered, GathersDoc, PagesOfDocument, ReadsDocument, ShowIsNotBad, TellsDocument, TextFits, TextReading, TextStands, document_pages}
 use Rattle.mg_text.proofs.SameFiles.{same_file}
 use Rattle.mg_text.proofs.Shows.{adds_none, gather_fits, shown_from}
 use Rattle.mg_text.proofs.StepLaws.{read_caused}
@@ -76,12 +76,14 @@ module _ (result : Result (Unit {0}) ShowErr) {r : TextReading} {f : Option File
 -- ---- the calls
 
 -- the place was refused
-pub document_refused : (refusal : PartErr) {old : TextReading} {places : Paging} {number most most_now : ℕ} {wherever : (List ℕ → Type 0) → Type 0} {claim told : Type 0} {out : SinkAt}
+pub document_refused : (refusal : PartErr) {old : TextReading} {places : Paging} {number most most_now : ℕ}
+    {wherever : (List ℕ → Type 0) → Type 0} {claim told : Type 0} {comes : List ℕ → Type 0} {out : SinkAt}
     {f g : Option Files} {r s : Reads} {k m : ℕ} → TextFits old f → old.places.part ≡ part.Places → most_now ≤ most →
     ReadsPlace claim (IsReadCaused {T = ℕ} (Err refusal)) old.places places f g r s k m → Told old number wherever told (Err (show.Part refusal)) r s →
-    ReadsDocument old (with_feeds old old.text places) number wherever told most most_now out out (Err (show.Part refusal)) f g r s k m
+    ReadsDocument old (with_feeds old old.text places) number wherever told comes most most_now out out (Err (show.Part refusal)) f g r s k m
 document_refused refusal {old} {r = r} {s = s} fits own le read tells = record {
   content = tells.content;
+  stood = λ told. tt;
   never_bad = tells.never_bad;
   pages = tells.pages;
   fits = record { text = subst (Fits old.text) (sym read.looked.files) fits.text; places = read.fits };
@@ -98,18 +100,20 @@ document_refused refusal {old} {r = r} {s = s} fits own le read tells = record {
 }
 
 -- its place was read, and then it was decoded
-pub document_read : (result : Result (Unit {0}) ShowErr) {tells : DecodingStep} {old : TextReading} (from : ℕ) {text0 text places : Paging} {number most most_now p q : ℕ}
-    {wherever : (List ℕ → Type 0) → Type 0} {claim told : Type 0} {b b_now : Gathering} {out now : SinkAt} {f g h : Option Files} {r s t : Reads} {k m n : ℕ} →
+pub document_read : (result : Result (Unit {0}) ShowErr) {tells came : DecodingStep} {old : TextReading} (from : ℕ) {text0 text places : Paging} {number most most_now p q : ℕ}
+    {wherever : (List ℕ → Type 0) → Type 0} {claim told : Type 0} {comes : List ℕ → Type 0} {b b_now : Gathering} {out now : SinkAt} {f g h : Option Files} {r s t : Reads} {k m n : ℕ} →
     old.text.part ≡ part.Text → old.places.part ≡ part.Places →
     ReadsPlace claim (IsReadCaused {T = ℕ} (Ok from)) old.places places f g r s k m → text0 ≡ old.text →
-    Steps (Fits text h) tells result (record { feed = feeding_of 4096 text0; place = p; device = of_store g m s; held = b; sink = out })
+    Steps (Fits text h) tells came result (record { feed = feeding_of 4096 text0; place = p; device = of_store g m s; held = b; sink = out })
     (record { feed = feeding_of 4096 text; place = q; device = of_store h n t; held = b_now; sink = now }) → bytes_to_come b ≤ most → most_now ≤ bytes_to_come b_now →
-    Told old number wherever told result r t → ReadsDocument old (with_feeds old text places) number wherever told most most_now out now result f h r t k n
-document_read result {old = old} from {text0 = text0} {text = text} {places = places} {out = out} {now = now} {r = r} {s = s} {t = t} text_own own read same step more less tells =
+    Told old number wherever told result r t → (IsSome f → OnOk result (TellsDocument old f number comes)) →
+    ReadsDocument old (with_feeds old text places) number wherever told comes most most_now out now result f h r t k n
+document_read result {old = old} from {text0 = text0} {text = text} {places = places} {out = out} {now = now} {r = r} {s = s} {t = t} text_own own read same step more less tells stands =
     let text_is : text0.part ≡ part.Text = ap (λ (feed : Paging). feed.part) same ∙ text_own in
     let untouched : t part.Places ≡ s part.Places = step.calm.reads.others part.Places (not_text text0.part part.Places text_is refl) in
     record {
       content = tells.content;
+      stood = stands;
       never_bad = tells.never_bad;
       pages = tells.pages;
       fits = record { text = step.fits; places = subst (Fits places) (sym step.calm.files) read.fits };

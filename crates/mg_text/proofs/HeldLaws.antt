@@ -11,7 +11,8 @@ use Rattle.mg_dev.specs.declared.show_err.ShowErr.TheVariants as show
 use Rattle.mg_dev.specs.Files.{Files}
 use Rattle.mg_text.specs.Held.{AnswersHeld, HasShortDocument, held_answer}
 use Rattle.mg_text.specs.Decoding.{IsShowCaused}
-use Rattle.mg_text.specs.Reading.{ShowIsNotBad, TextReading, TextStands}
+use Rattle.mg_defs.specs.Parse.{text}
+use Rattle.mg_text.specs.Reading.{ShowIsNotBad, TellsDocument, TextReading, TextStands, WroteAll}
 use Rattle.mg_text.proofs.StandLaws.{doc_short}
 
 inside : (x y : List ℕ) → Some x ≡ Some y → x ≡ y
@@ -84,3 +85,13 @@ module _ {most size : ℕ} {shown : Result (Unit {0}) ShowErr} where
       failed (inr is) =
           let never : min (0 + 1) (2 ^ 64 - 1) ≤ 0 = subst (λ (r : Result (Unit {0}) ShowErr). IsShowCaused r m n 0 0 before now) is cause in
           absurd (omega (arith, never))
+
+-- what came into the empty sink is held
+pub held_stood : {most size : ℕ} (shown : Result (Unit {0}) ShowErr) (result : Result (Unit {0}) PartErr) (r : TextReading) (files : Option Files) (number : ℕ) (before now : List ℕ) →
+    AnswersHeld most size shown result → before ≡ [] → OnOk shown (TellsDocument r files number (WroteAll (Some before) (Some now))) →
+    OnOk result (TellsDocument r files number (λ doc. now ≡ doc))
+unfolding appended
+held_stood shown (Ok done) r files number before now answers empty stood =
+    let is = subst (λ (s : Result (Unit {0}) ShowErr). OnOk s (TellsDocument r files number (WroteAll (Some before) (Some now)))) answers.whole.0 stood in
+    record { pairs = is.pairs; told = is.told; is = inside now (before ++ text is.pairs) is.is ∙ ap (λ (b : List ℕ). b ++ text is.pairs) empty }
+held_stood shown (Err refusal) r files number before now answers empty stood = tt

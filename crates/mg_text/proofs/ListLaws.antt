@@ -18,9 +18,12 @@ use Rattle.mg_defs.specs.Parse.{Pair, parse, text}
 use Rattle.mg_defs.specs.Sorted.{number_of}
 use Rattle.mg_defs.specs.Terms.{is_empty}
 use Rattle.mg_defs.proofs.FrontLaws.{shows_left}
-use Rattle.mg_text.specs.Decoding.{IsIn, IsReadCaused, PairsIn, ReadsNumber, Takes, coded_pairs}
+use Rattle.mg_text.specs.Decoding.{IsIn, IsReadCaused, PairsIn, ReadsNumber, Stood, Takes, coded_pairs}
 use Rattle.mg_text.specs.Listing.{Adds, AddsTo, AreOfWords, IsAddRefused, ListEnds, ListMoment, ListStep, ListSteps, Listed, Listing, Lists, ReadsOf, symbol_if, word_symbol, word_symbols}
+use Rattle.mg_text.specs.Listing.{DocumentListed, OtherPassed, PairListed, PairsListed, WordCame}
 use Rattle.mg_text.specs.Listing.{ListsDoc, ListsFirst, ListsPair, ListsPairs, ListsWord, PassesOther}
+use Rattle.mg_text.proofs.CameLaws.{on_ok_map}
+use Rattle.mg_text.proofs.ListedLaws.{adds_both, document_came, no_pair_came, pair_came, pairs_came}
 use Rattle.mg_text.proofs.PairLaws.{NextPair, bits_more, bits_whole, next_pair, pair_shows, pair_small, parse_text, shows_next, text_more, text_whole}
 
 -- ---- ends
@@ -115,12 +118,6 @@ words_of_symbols code (p ∷ ps) all = word_listed code p.word (word_symbols cod
 
 -- ---- one step behind another
 
-adds_both : (one two : List ℕ) (k l : ℕ) (a b c : Listing) → Adds one k a b → Adds two l b c → Adds (one ++ two) (k + l) a c
-adds_both one two k l a b c first second = record {
-  symbols_are = second.symbols_are ∙ ap (λ s. s ++ two) first.symbols_are ∙ append_assoc a.symbols one two;
-  left = omega (arith, first.left, second.left);
-}
-
 listed_both : (x y : Bits) (one two : List ℕ) (k l : ℕ) (a b c : ListMoment) → 0 < a.feed.page → Listed x one k a b → Listed y two l b c → Listed (x ++ y) (one ++ two) (k + l) a c
 listed_both x y one two k l a b c some first second =
     let to : b.place + length y ≡ a.place + length (x ++ y) = omega (arith, first.at_end, length-append x y) in
@@ -159,20 +156,22 @@ lists_first x y one two k l refusal a b some first = λ few small shows.
 -- ---- any steps
 
 -- nothing was done
-steps_none : {agrees : Type 0} {code : TextCode} {tells : ListStep} {a : ListMoment} → agrees → tells a a → ListSteps agrees code tells (Ok tt) a a
-steps_none fits told = record { fits = fits; calm = calm_none _ _; told = told; of_words = λ before. before; cause = tt }
+steps_none : {agrees : Type 0} {code : TextCode} {tells comes : ListStep} {a : ListMoment} → agrees → tells a a → comes a a → ListSteps agrees code tells comes (Ok tt) a a
+steps_none fits told came = record { fits = fits; calm = calm_none _ _; told = told; stood = came; of_words = λ before. before; cause = tt }
 
 -- the same step, of which more is told
-steps_tell : {agrees : Type 0} {code : TextCode} {one other : ListStep} {r : Result (Unit {0}) PartErr} {a b : ListMoment} → ListSteps agrees code one r a b → other a b → ListSteps agrees code other r a b
-steps_tell step told = record { fits = step.fits; calm = step.calm; told = told; of_words = step.of_words; cause = step.cause }
+steps_tell : {agrees : Type 0} {code : TextCode} {one came other comes : ListStep} {r : Result (Unit {0}) PartErr} {a b : ListMoment} → ListSteps agrees code one came r a b → other a b →
+    OnOk r (comes a b) → ListSteps agrees code other comes r a b
+steps_tell step told stood = record { fits = step.fits; calm = step.calm; told = told; stood = stood; of_words = step.of_words; cause = step.cause }
 
 -- a step behind another one
-steps_more : {before agrees : Type 0} {code : TextCode} {one two both : ListStep} (r : Result (Unit {0}) PartErr) {a b c : ListMoment} → ListSteps before code one (Ok tt) a b →
-    ListSteps agrees code two r b c → both a c → ListSteps agrees code both r a c
-steps_more r {a} {b} {c} first second told = record {
+steps_more : {before agrees : Type 0} {code : TextCode} {one came two then both comes : ListStep} (r : Result (Unit {0}) PartErr) {a b c : ListMoment} →
+    ListSteps before code one came (Ok tt) a b → ListSteps agrees code two then r b c → both a c → OnOk r (comes a c) → ListSteps agrees code both comes r a c
+steps_more r {a} {b} {c} first second told stood = record {
   fits = second.fits;
   calm = calm_more _ _ _ _ _ _ first.calm second.calm;
   told = told;
+  stood = stood;
   of_words = λ before. second.of_words (first.of_words before);
   cause = cause_more r _ _ _ first.calm.faults second.cause;
 }
@@ -180,17 +179,26 @@ steps_more r {a} {b} {c} first second told = record {
 -- ---- a piece
 
 -- a number was refused
-pub number_refused : {T agrees : Type 0} {code : TextCode} {tells : ListStep} (refusal : PartErr) {a b : ListMoment} → ReadsNumber {T = T} agrees (Err refusal) a.feed b.feed a.device b.device →
-    b.list ≡ a.list → tells a b → ListSteps agrees code tells (Err refusal) a b
-number_refused {T} refusal {a} {b} read list told = record { fits = read.fits; calm = read.calm; told = told; of_words = λ before. rw list before; cause = number_cause T refusal _ _ read.cause }
-
--- a number was read, and a piece was added
-pub piece_added : {T agrees : Type 0} {code : TextCode} {tells : ListStep} (value : T) (symbols : List ℕ) {size : ℕ} (r : Result (Unit {0}) PartErr) {a c : ListMoment} →
-    ReadsNumber agrees (Ok value) a.feed c.feed a.device c.device → AreOfWords code symbols → AddsTo symbols size r a.list c.list → tells a c → ListSteps agrees code tells r a c
-piece_added {code = code} value symbols r {a} {c} read own adds told = record {
+pub number_refused : {T agrees : Type 0} {code : TextCode} {tells comes : ListStep} (refusal : PartErr) {a b : ListMoment} → ReadsNumber {T = T} agrees (Err refusal) a.feed b.feed a.device b.device →
+    b.list ≡ a.list → tells a b → ListSteps agrees code tells comes (Err refusal) a b
+number_refused {T} refusal {a} {b} read list told = record {
   fits = read.fits;
   calm = read.calm;
   told = told;
+  stood = tt;
+  of_words = λ before. rw list before;
+  cause = number_cause T refusal _ _ read.cause;
+}
+
+-- a number was read, and a piece was added
+pub piece_added : {T agrees : Type 0} {code : TextCode} {tells comes : ListStep} (value : T) (symbols : List ℕ) {size : ℕ} (r : Result (Unit {0}) PartErr) {a c : ListMoment} →
+    ReadsNumber agrees (Ok value) a.feed c.feed a.device c.device → AreOfWords code symbols → AddsTo symbols size r a.list c.list →
+    tells a c → OnOk r (comes a c) → ListSteps agrees code tells comes r a c
+piece_added {code = code} value symbols r {a} {c} read own adds told stood = record {
+  fits = read.fits;
+  calm = read.calm;
+  told = told;
+  stood = stood;
   of_words = words_added code symbols r adds own;
   cause = add_cause r _ _ _ adds.refused;
 }
@@ -207,17 +215,20 @@ piece_listed (Err (Bad bad)) bits symbols one size k a c at read adds is as_long
 -- ---- a pair
 
 -- the word was refused
-pub word_refused : {agrees : Type 0} (code : TextCode) (refusal : PartErr) {a b : ListMoment} → 0 < a.feed.page → ListSteps agrees code (ListsWord code (Err refusal)) (Err refusal) a b →
-    ListSteps agrees code (ListsPair code (Err refusal)) (Err refusal) a b
+pub word_refused : {agrees : Type 0} (code : TextCode) (refusal : PartErr) {a b : ListMoment} → 0 < a.feed.page →
+    ListSteps agrees code (ListsWord code (Err refusal)) (WordCame code) (Err refusal) a b → ListSteps agrees code (ListsPair code (Err refusal)) (PairListed code) (Err refusal) a b
 word_refused code refusal {a} {b} some step = steps_tell step (λ p is.
-    subst (λ s. Lists (coded_pair code p) s (length p.word + length p.other) (Err refusal) a b) (append-nil (word_symbol code p.word)) (lists_first (codeword_of code.words p.word) (codeword_of code.others p.other) (word_symbol code p.word) [] (length p.word) (length p.other) refusal a b some (step.told p.word is.word)))
+    subst (λ s. Lists (coded_pair code p) s (length p.word + length p.other) (Err refusal) a b) (append-nil (word_symbol code p.word))
+    (lists_first (codeword_of code.words p.word) (codeword_of code.others p.other) (word_symbol code p.word) [] (length p.word) (length p.other) refusal a b some (step.told p.word is.word))) tt
 
 -- the other came behind the word
-pub pair_listed : {before agrees : Type 0} (code : TextCode) (r : Result (Unit {0}) PartErr) {a b c : ListMoment} → 0 < a.feed.page → ListSteps before code (ListsWord code (Ok tt)) (Ok tt) a b →
-    ListSteps agrees code (PassesOther code r) r b c → ListSteps agrees code (ListsPair code r) r a c
+pub pair_listed : {before agrees : Type 0} (code : TextCode) (r : Result (Unit {0}) PartErr) {a b c : ListMoment} → 0 < a.feed.page →
+    ListSteps before code (ListsWord code (Ok tt)) (WordCame code) (Ok tt) a b → ListSteps agrees code (PassesOther code r) (OtherPassed code) r b c →
+    ListSteps agrees code (ListsPair code r) (PairListed code) r a c
 pair_listed code r {a} {b} {c} some first second = steps_more r first second (λ p is.
-    subst (λ s. Lists (coded_pair code p) s (length p.word + length p.other) r a c) (append-nil (word_symbol code p.word)) (lists_both (codeword_of code.words p.word) (codeword_of code.others p.other) (word_symbol code p.word) [] (length p.word) (length p.other) r a b c some first.calm
-    (first.told p.word is.word) (second.told p.other is.other)))
+    subst (λ s. Lists (coded_pair code p) s (length p.word + length p.other) r a c) (append-nil (word_symbol code p.word))
+    (lists_both (codeword_of code.words p.word) (codeword_of code.others p.other) (word_symbol code p.word) [] (length p.word) (length p.other) r a b c some first.calm
+    (first.told p.word is.word) (second.told p.other is.other))) (on_ok_map r _ _ (pair_came code first.calm first.stood) second.stood)
 
 -- the reader held the bits of both pieces
 pub held_listed : (f0 f1 f2 : Feeding) (d : Seen) (a p q : ℕ) (x y : Bits) (list list_now : Listing) (symbol number word other j k : ℕ) → 0 < f0.page → p ≡ a + length x → Read f0 f1 d d a (a + length x) →
@@ -235,17 +246,17 @@ held_listed f0 f1 f2 d a p q x y list list_now symbol number word other j k some
 -- ---- pairs
 
 -- no pair was listed yet
-pub first_none : {agrees : Type 0} (code : TextCode) (count : ℕ) {a : ListMoment} → agrees → ListSteps agrees code (ListsFirst code count 0) (Ok tt) a a
+pub first_none : {agrees : Type 0} (code : TextCode) (count : ℕ) {a : ListMoment} → agrees → ListSteps agrees code (ListsFirst code count 0) (PairsListed code 0) (Ok tt) a a
 first_none code count {a} fits = steps_none fits (λ ps all is few small shows. record {
   at_end = omega arith;
   read = subst (λ n. Read a.feed a.feed a.device a.device a.place n) (omega arith) (read_none a.feed a.device a.place);
   adds = record { symbols_are = sym (append-nil a.list.symbols); left = omega arith };
-})
+}) (no_pair_came code a)
 
 -- no pair was listed: what the reader of bits and the list are is as before
-pub still_there : {agrees : Type 0} {code : TextCode} {tells : ListStep} {r : Result (Unit {0}) PartErr} {a : ListMoment} {f f_now : Feeding} {p p_now : ℕ} {d : Seen} {l l_now : Listing} →
-    ListSteps agrees code tells r a (record { feed = f; place = p; device = d; list = l }) → f_now ≡ f → p_now ≡ p → l_now ≡ l →
-    ListSteps agrees code tells r a (record { feed = f_now; place = p_now; device = d; list = l_now })
+pub still_there : {agrees : Type 0} {code : TextCode} {tells comes : ListStep} {r : Result (Unit {0}) PartErr} {a : ListMoment} {f f_now : Feeding} {p p_now : ℕ} {d : Seen} {l l_now : Listing} →
+    ListSteps agrees code tells comes r a (record { feed = f; place = p; device = d; list = l }) → f_now ≡ f → p_now ≡ p → l_now ≡ l →
+    ListSteps agrees code tells comes r a (record { feed = f_now; place = p_now; device = d; list = l_now })
 still_there step feed place list = rw (feed, place, list) step
 
 size_more : (code : TextCode) (ps : List Pair) (i : ℕ) (next : NextPair code ps i) → length (text (take (i + 1) ps)) ≡ length (text (take i ps)) + (length next.pair.word + length next.pair.other)
@@ -282,21 +293,25 @@ one_more code count i a b c some lt calm first pair = λ ps all is few small sho
     (pair_shows _ _ _ _ a.place b.place code ps i next calm here.at_end shows))
 
 -- one pair more was listed, and no device was asked
-pub one_held : {before agrees : Type 0} (code : TextCode) {count i : ℕ} {a b c : ListMoment} → 0 < a.feed.page → i < count → ListSteps before code (ListsFirst code count i) (Ok tt) a b → agrees →
-    c.feed ≡ b.feed → c.device ≡ b.device → (AreOfWords code b.list.symbols → AreOfWords code c.list.symbols) → ListsPair code (Ok tt) b c →
-    ListSteps agrees code (ListsFirst code count (i + 1)) (Ok tt) a c
-one_held code {count} {i} {a} {b} {c} some lt step fits feed device words pair = record {
+pub one_held : {before agrees : Type 0} (code : TextCode) {count i : ℕ} {a b c : ListMoment} → 0 < a.feed.page → i < count →
+    ListSteps before code (ListsFirst code count i) (PairsListed code i) (Ok tt) a b → agrees →
+    c.feed ≡ b.feed → c.device ≡ b.device → (AreOfWords code b.list.symbols → AreOfWords code c.list.symbols) → ListsPair code (Ok tt) b c → PairListed code b c →
+    ListSteps agrees code (ListsFirst code count (i + 1)) (PairsListed code (i + 1)) (Ok tt) a c
+one_held code {count} {i} {a} {b} {c} some lt step fits feed device words pair came = record {
   fits = fits;
   calm = rw (feed, device) step.calm;
   told = one_more code count i a b c some lt step.calm step.told pair;
+  stood = pairs_came code step.calm step.stood came;
   of_words = λ before. words (step.of_words before);
   cause = tt;
 }
 
 -- one pair more was listed
-pub one_listed : {before agrees : Type 0} (code : TextCode) {count i : ℕ} {a b c : ListMoment} → 0 < a.feed.page → i < count → ListSteps before code (ListsFirst code count i) (Ok tt) a b →
-    ListSteps agrees code (ListsPair code (Ok tt)) (Ok tt) b c → ListSteps agrees code (ListsFirst code count (i + 1)) (Ok tt) a c
+pub one_listed : {before agrees : Type 0} (code : TextCode) {count i : ℕ} {a b c : ListMoment} → 0 < a.feed.page → i < count →
+    ListSteps before code (ListsFirst code count i) (PairsListed code i) (Ok tt) a b → ListSteps agrees code (ListsPair code (Ok tt)) (PairListed code) (Ok tt) b c →
+    ListSteps agrees code (ListsFirst code count (i + 1)) (PairsListed code (i + 1)) (Ok tt) a c
 one_listed code {count} {i} {a} {b} {c} some lt first pair = steps_more (Ok tt) first pair (one_more code count i a b c some lt first.calm first.told pair.told)
+    (pairs_came code first.calm first.stood pair.stood)
 
 -- the pages of a pair and of those before it are among those of all pairs
 pairs_read : (code : TextCode) (ps : List Pair) (i : ℕ) (a b c : ListMoment) → 0 < a.feed.page → (next : NextPair code ps i) →
@@ -310,21 +325,21 @@ pairs_read code ps i a b c some next first part =
 
 -- a pair was refused
 pub pair_refused : {before agrees : Type 0} (code : TextCode) {count i : ℕ} (refusal : PartErr) {a b c : ListMoment} → 0 < a.feed.page → i < count →
-    ListSteps before code (ListsFirst code count i) (Ok tt) a b → ListSteps agrees code (ListsPair code (Err refusal)) (Err refusal) b c →
-    ListSteps agrees code (ListsPairs code count (Err refusal)) (Err refusal) a c
+    ListSteps before code (ListsFirst code count i) (PairsListed code i) (Ok tt) a b → ListSteps agrees code (ListsPair code (Err refusal)) (PairListed code) (Err refusal) b c →
+    ListSteps agrees code (ListsPairs code count (Err refusal)) (PairsListed code count) (Err refusal) a c
 pair_refused code {count} {i} refusal {a} {b} {c} some lt first pair = steps_more (Err refusal) first pair (λ ps all is few small shows.
     let here = first.told ps all is few small shows in
     let next = next_pair code ps i all (omega (arith, is, lt)) in
     list_ends_more refusal _ _ _ _ (λ part. pairs_read code ps i a b c some next here part)
     (pair.told next.pair next.there (omega (arith, few, here.adds.left, size_whole code ps i next)) (pair_small a.place b.place code ps i next here.at_end small)
-    (pair_shows _ _ _ _ a.place b.place code ps i next first.calm here.at_end shows)))
+    (pair_shows _ _ _ _ a.place b.place code ps i next first.calm here.at_end shows))) tt
 
 -- all pairs were listed
-pub all_listed : {agrees : Type 0} {code : TextCode} {count i : ℕ} {a b : ListMoment} → i ≡ count → ListSteps agrees code (ListsFirst code count i) (Ok tt) a b →
-    ListSteps agrees code (ListsPairs code count (Ok tt)) (Ok tt) a b
-all_listed {i = i} done step = steps_tell step (λ ps all is few small shows.
+pub all_listed : {agrees : Type 0} {code : TextCode} {count i : ℕ} {a b : ListMoment} → i ≡ count → ListSteps agrees code (ListsFirst code count i) (PairsListed code i) (Ok tt) a b →
+    ListSteps agrees code (ListsPairs code count (Ok tt)) (PairsListed code count) (Ok tt) a b
+all_listed {code = code} {i = i} {a = a} {b = b} done step = steps_tell step (λ ps all is few small shows.
     let whole : take i ps ≡ ps = ap (λ n. take n ps) (omega (arith, is, done)) ∙ take-length ps in
-    rw whole at (step.told ps all is few small shows))
+    rw whole at (step.told ps all is few small shows)) (subst (λ n. PairsListed code n a b) done step.stood)
 
 -- ---- a document
 
@@ -333,10 +348,14 @@ abbrev pub CountIs : ℕ → ListStep
 CountIs count old new = (n : ℕ) → n < 2 ^ 32 → old.place + length (gamma (n + 1)) ≤ 2 ^ 63 → Shows (old.feed.source old.device.files) old.place (gamma (n + 1)) →
     (count ≡ n) × (new.place ≡ old.place + length (gamma (n + 1))) × Read old.feed new.feed old.device new.device old.place (old.place + length (gamma (n + 1)))
 
+-- and its code stood there
+abbrev pub CountStood : ℕ → ListStep
+CountStood count old new = Stood (gamma (count + 1)) old.feed old.device old.place new.place
+
 -- their number was read
-pub count_read : {T agrees : Type 0} {code : TextCode} {tells : ListStep} (value : T) {a b : ListMoment} → ReadsNumber agrees (Ok value) a.feed b.feed a.device b.device → b.list ≡ a.list →
-    tells a b → ListSteps agrees code tells (Ok tt) a b
-count_read value {a} {b} read list told = record { fits = read.fits; calm = read.calm; told = told; of_words = λ before. rw list before; cause = tt }
+pub count_read : {T agrees : Type 0} {code : TextCode} {tells comes : ListStep} (value : T) {a b : ListMoment} → ReadsNumber agrees (Ok value) a.feed b.feed a.device b.device → b.list ≡ a.list →
+    tells a b → comes a b → ListSteps agrees code tells comes (Ok tt) a b
+count_read value {a} {b} read list told came = record { fits = read.fits; calm = read.calm; told = told; stood = came; of_words = λ before. rw list before; cause = tt }
 
 -- the pages of their number are among those of the document
 pub head_reads : (f0 f1 : Feeding) (d0 d1 : Seen) (place : ℕ) (code : TextCode) (doc : List ℕ) → 0 < f0.page →
@@ -348,7 +367,8 @@ head_reads f0 f1 d0 d1 place code doc some part =
 
 -- its pairs came behind their number
 pub doc_listed : {before agrees : Type 0} (code : TextCode) {count : ℕ} (r : Result (Unit {0}) PartErr) {a b c : ListMoment} → 0 < a.feed.page → b.list ≡ a.list →
-    ListSteps before code (CountIs count) (Ok tt) a b → ListSteps agrees code (ListsPairs code count r) r b c → ListSteps agrees code (ListsDoc code r) r a c
+    ListSteps before code (CountIs count) (CountStood count) (Ok tt) a b → ListSteps agrees code (ListsPairs code count r) (PairsListed code count) r b c →
+    ListSteps agrees code (ListsDoc code r) (DocumentListed code) r a c
 doc_listed code r {a} {b} {c} some list head pairs = steps_more r head pairs (λ doc all few short small shows.
     let x = gamma (length (parse doc) + 1) in
     let y = coded_pairs code (parse doc) in
@@ -359,7 +379,7 @@ doc_listed code r {a} {b} {c} some list head pairs = steps_more r head pairs (λ
     (list_ends_map r _ _ _ _ (λ whole. listed_both x y [] (word_symbols code (parse doc)) 0 (length (text (parse doc))) a b c some first whole)
     (λ part. reads_second x y [] 0 a b c some first part)
     (pairs.told (parse doc) all read.0 (omega (arith, short, size, first.adds.left)) (omega (arith, small, length-append x y, read.1))
-    (shows_next _ _ _ _ a.place b.place x y head.calm read.1 shows))))
+    (shows_next _ _ _ _ a.place b.place x y head.calm read.1 shows)))) (on_ok_map r _ _ (document_came code head.calm list head.stood) pairs.stood)
 
 -- only a symbol of a word is added where a pair is held
 pub words_held : (code : TextCode) (symbol word size : ℕ) (answer : Bool) (old new : Listing) → symbol < length code.words.pieces → OnTrue answer (Adds (symbol_if symbol word) size old new) →

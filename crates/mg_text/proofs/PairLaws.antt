@@ -113,7 +113,7 @@ held_decoded f0 f1 f2 d a p q x y before sink b b_now bytes found1 found2 one tw
 
 -- ---- pairs in a list
 
-text_append : (ps qs : List Pair) → text (ps ++ qs) ≡ text ps ++ text qs
+pub text_append : (ps qs : List Pair) → text (ps ++ qs) ≡ text ps ++ text qs
 text_append [] qs = refl
 text_append (p ∷ ps) qs = ap (λ t. p.word ++ (p.other ++ t)) (text_append ps qs) ∙ ap (λ t. p.word ++ t) (sym (append_assoc p.other (text ps) (text qs)))
     ∙ sym (append_assoc p.word (p.other ++ text ps) (text qs))

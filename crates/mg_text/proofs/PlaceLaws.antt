@@ -6,7 +6,7 @@ use Rattle.mg_bits.specs.Feed.{ReadPart, of_store, to_read}
 use Rattle.mg_bits.specs.Pages.{Fits, IsFilled, Looked, Paging, SameFile, feeding_of}
 use Rattle.mg_defs.specs.Numbers.{four, eight, four_at, eight_at}
 use Rattle.mg_defs.proofs.NumberLaws.{four_back, eight_back}
-use Rattle.mg_text.specs.Places.{ReadsPlace}
+use Rattle.mg_text.specs.Places.{NumberStands, ReadsPlace, number_in, slot_at}
 
 -- four bytes at a multiple of four lie on one page
 four_read : (held : Option ℕ) (index : ℕ) → to_read 4096 held (8 * (4 * index)) (8 * (4 * index + 4)) ≤ 1
@@ -64,3 +64,19 @@ unfilled_four whole buf bytes at place p is filled long here stands = too_short 
 
 pub unfilled_eight : (whole : Bool) (buf bytes : List ℕ) (at place p : ℕ) → whole ≡ false → IsFilled whole buf at bytes → length buf ≡ 8 → at ≡ place → take 8 (drop place bytes) ≡ eight p → ⊥
 unfilled_eight whole buf bytes at place p is filled long here stands = too_short whole buf bytes (eight p) at place 8 is filled long here stands (eight_long p)
+
+-- what was read is the number that stands there
+number_stands : (width : ℕ) (whole : Bool) (buf bytes : List ℕ) (at index : ℕ) {n : ℕ} → whole ≡ true → IsFilled whole buf at bytes → length buf ≡ width → at ≡ width * index →
+    n ≡ number_in width buf → NumberStands width index n bytes
+number_stands width false buf bytes at index is filled long here told = absurd cc
+number_stands width true buf bytes at index {n} is filled long here told =
+    let same : slot_at width index bytes ≡ buf = sym (filled ∙ ap (λ k. take k (drop at bytes)) long ∙ ap (λ q. take width (drop q bytes)) here) in
+    record { whole = ap length same ∙ long; number_is = told ∙ ap (number_in width) (sym same) }
+
+pub four_stands : (whole : Bool) (buf bytes : List ℕ) (at index : ℕ) {n : ℕ} → whole ≡ true → IsFilled whole buf at bytes → length buf ≡ 4 → at ≡ 4 * index →
+    n ≡ four_at buf 0 → NumberStands 4 index n bytes
+four_stands whole buf bytes at index is filled long here told = number_stands 4 whole buf bytes at index is filled long here told
+
+pub eight_stands : (whole : Bool) (buf bytes : List ℕ) (at index : ℕ) {n : ℕ} → whole ≡ true → IsFilled whole buf at bytes → length buf ≡ 8 → at ≡ 8 * index →
+    n ≡ eight_at buf 0 → NumberStands 8 index n bytes
+eight_stands whole buf bytes at index is filled long here told = number_stands 8 whole buf bytes at index is filled long here told

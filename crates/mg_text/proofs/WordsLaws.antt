@@ -1,5 +1,5 @@
 -- What listing the words of a document promises, by the calls that it makes.
-use Rattle.std.proofs.Common.{arith, ◌≡◌, ◌+◌, ◌*◌, ◌-◌, ◌^◌, ◌++◌, ◌≤◌, ℕ, false, List, [], length, map, get_or, Option, Some, Result, Ok, Err, refl, sym, ◌∙◌, ap, subst}
+use Rattle.std.proofs.Common.{arith, ◌≡◌, ◌+◌, ◌*◌, ◌-◌, ◌^◌, ◌++◌, ◌≤◌, ℕ, false, List, [], length, map, get_or, Option, IsSome, Some, Result, Ok, Err, refl, sym, ◌∙◌, ap, subst}
 use Rattle.std.specs.Prelude.{OnOk}
 use Rattle.mg_dev.specs.Bads.{IsNotBad}
 use Rattle.mg_dev.specs.Files.{Files, Reads}
@@ -15,9 +15,10 @@ use Rattle.mg_defs.specs.Parse.{parse}
 use Rattle.mg_defs.specs.Terms.{document}
 use Rattle.mg_text.specs.Decoding.{IsReadCaused, PairsIn, Takes}
 use Rattle.mg_text.specs.Held.{HasShortDocument}
-use Rattle.mg_text.specs.Listing.{Adds, AreOfWords, AreWordsOf, ListEnds, ListMoment, ListStep, ListSteps, Listed, Listing, ListsDoc, ReadsOf, ReadsWords, word_symbols}
+use Rattle.mg_text.specs.Listing.{Adds, AreOfWords, AreWordsOf, ListEnds, ListMoment, ListStep, ListSteps, Listed, Listing, ListsDoc, ReadsOf, ReadsWords, WordsStood, word_symbols}
 use Rattle.mg_text.specs.Places.{ReadsPlace}
 use Rattle.mg_text.specs.Reading.{TextFits, TextReading, TextStands, document_pages}
+use Rattle.mg_text.proofs.CameLaws.{on_ok}
 use Rattle.mg_text.proofs.DocumentLaws.{not_text, with_feeds}
 use Rattle.mg_text.proofs.ListLaws.{cause_more, list_ends_either, list_ends_first, list_ends_good, list_ends_map, number_cause, words_of_symbols}
 use Rattle.mg_text.proofs.ReaderLaws.{doc_at, text_reads}
@@ -28,10 +29,6 @@ pub takes_good : {T : Type 0} (refusal : PartErr) (whole : T → Type 0) → Tak
 takes_good Device whole takes = tt
 takes_good Memory whole takes = tt
 takes_good (Bad bad) whole takes = takes
-
-on_ok : (r : Result (Unit {0}) PartErr) (p : Type 0) → p → OnOk r p
-on_ok (Ok done) p h = h
-on_ok (Err refusal) p h = tt
 
 -- the symbols are those of the document's words, and of Text no more pages were read than so many
 abbrev pub AnswersWords : TextCode → Result (Unit {0}) PartErr → Listing → List ℕ → ℕ → ℕ → ℕ → Type 0
@@ -84,6 +81,7 @@ words_refused refusal {old} {r = r} {s = s} fits own read unread good = record {
     others = λ p one other. read.looked.others p (subst (λ q. same_part p q ≡ false) (sym own) other);
   };
   content = λ collection has. tt;
+  stood = λ told. tt;
   of_words = tt;
   never_bad = good;
   pages = λ collection has. omega (arith, unread);
@@ -92,16 +90,16 @@ words_refused refusal {old} {r = r} {s = s} fits own read unread good = record {
 }
 
 -- its place was read, and then its words were listed
-pub words_read : (result : Result (Unit {0}) PartErr) {tells : ListStep} {old : TextReading} (from : ℕ) {text0 text places : Paging} {number most p q : ℕ}
+pub words_read : (result : Result (Unit {0}) PartErr) {tells came : ListStep} {old : TextReading} (from : ℕ) {text0 text places : Paging} {number most p q : ℕ}
     {claim : Type 0} {list0 list : Listing} {f g h : Option Files} {r s t : Reads} {k m n : ℕ} →
     old.text.part ≡ part.Text → old.places.part ≡ part.Places →
     ReadsPlace claim (IsReadCaused {T = ℕ} (Ok from)) old.places places f g r s k m → text0 ≡ old.text →
-    ListSteps (Fits text h) old.code tells result (record { feed = feeding_of 4096 text0; place = p; device = of_store g m s; list = list0 })
+    ListSteps (Fits text h) old.code tells came result (record { feed = feeding_of 4096 text0; place = p; device = of_store g m s; list = list0 })
     (record { feed = feeding_of 4096 text; place = q; device = of_store h n t; list = list }) → list0.symbols ≡ [] →
     ((collection : List ℕ) → HasShortDocument old f number most collection →
     AnswersWords old.code result list (document collection number) (r part.Text) (t part.Text) (document_pages old.code collection number)) →
-    ReadsWords number most result old (with_feeds old text places) list f h r t k n
-words_read result {old = old} from {text0 = text0} {text = text} {places = places} {list = list} {r = r} {s = s} {t = t} text_own own read same step empty told =
+    (IsSome f → OnOk result (WordsStood old f number most list.symbols)) → ReadsWords number most result old (with_feeds old text places) list f h r t k n
+words_read result {old = old} from {text0 = text0} {text = text} {places = places} {list = list} {r = r} {s = s} {t = t} text_own own read same step empty told stands =
     let text_is : text0.part ≡ part.Text = ap (λ (feed : Paging). feed.part) same ∙ text_own in
     let untouched : t part.Places ≡ s part.Places = step.calm.reads.others part.Places (not_text text0.part part.Places text_is refl) in
     record {
@@ -114,6 +112,7 @@ words_read result {old = old} from {text0 = text0} {text = text} {places = place
         others = λ p one other. step.calm.reads.others p (not_text text0.part p text_is one) ∙ read.looked.others p (subst (λ q. same_part p q ≡ false) (sym own) other);
       };
       content = λ collection has. list_ends_first result _ _ (list_ends_map result _ _ _ _ (λ both. both.0) (λ part. part) (told collection has));
+      stood = stands;
       of_words = on_ok result _ (step.of_words (subst (AreOfWords old.code) (sym empty) tt));
       never_bad = λ collection has. list_ends_good result _ _ (told collection has);
       pages = λ collection has. list_ends_either result _ (list_ends_map result _ _ _ _ (λ both. both.1) (λ part. part) (told collection has));

@@ -1,6 +1,5 @@
 -- What decoding the bits of a document does to the reader of bits, and to where the document's bytes go.
-use Rattle.std.specs.Prelude.{◌≡◌, ℕ, ◌+◌, ◌^◌, ◌≤◌, ◌<◌, ◌++◌, Bool, List, length, take, Some, Ok, Err, MatchResult}
-use Rattle.std.specs.Bool.{OnFalse, OnTrue}
+use Rattle.std.specs.Prelude.{◌≡◌, ℕ, ◌+◌, ◌^◌, ◌≤◌, ◌<◌, ◌++◌, List, length, take, Some, Ok, Err, MatchResult, OnOk}
 use Rattle.std.specs.List.{AllByRecursion, flat_map}
 use Rattle.std.specs.declared.option.Option.{Option}
 use Rattle.std.specs.declared.result.Result.{Result}
@@ -15,7 +14,8 @@ use Rattle.mg_dev.specs.declared.show_err.ShowErr.{ShowErr}
 use Rattle.mg_dev.specs.declared.show_err.ShowErr.TheVariants as show
 use Rattle.mg_bits.specs.Feed.{Calm, Feeding, Device as Seen, Read, ReadsWithin}
 use Rattle.mg_bits.specs.Reading.{Reading}
-use Rattle.mg_defs.specs.Bits.{Bits, Shows}
+use Rattle.mg_defs.specs.Bits.{Begins, Bits, FromPlace, Shows}
+use Rattle.mg_defs.specs.Codes.{gamma}
 use Rattle.mg_defs.specs.CodedText.{StreamCode, TextCode, codeword_of, coded_doc, coded_pair}
 use Rattle.mg_defs.specs.Parse.{Pair, parse, text}
 use Rattle.mg_defs.specs.Sorted.{number_of}
@@ -35,6 +35,52 @@ PairsIn code ps = AllByRecursion (PairIn code) ps
 
 abbrev pub coded_pairs : TextCode → List Pair → Bits
 coded_pairs code ps = flat_map (coded_pair code) ps
+
+-- how many pairs there are, and then the codewords of their pieces
+abbrev pub numbered_pairs : TextCode → List Pair → Bits
+numbered_pairs code ps = gamma (length ps + 1) ++ coded_pairs code ps
+
+-- ---- what stood where a call read
+
+-- these bits stood at a place, and the reader stands behind them
+pub record Stood (bits : Bits) (feed : Feeding) (device : Seen) (place next : ℕ) : Type 0 where
+  pub bits_are : FromPlace (feed.source device.files) place (Begins bits)
+  pub behind : next ≡ place + length bits
+
+-- the same by the functions that tell of a feed and of a device
+abbrev pub StoodNext : {Fed Dev : Type 0} → (Fed → Feeding) → (Dev → Seen) → Reading Fed → Reading Fed → Dev → Bits →
+    Type 0
+StoodNext feeding device r r_now d bits = Stood bits (feeding r.feed) (device d) r.place r_now.place
+
+-- the same where the reader holds the bits: whatever device it agrees with
+abbrev pub StoodHeld : {Fed : Type 0} → (Fed → Feeding) → (Option Files → Type 0) → Reading Fed → Reading Fed → Bits →
+    Type 0
+StoodHeld feeding fits r r_now bits = (d : Seen) → fits d.files → Stood bits (feeding r.feed) d r.place r_now.place
+
+-- it was the codeword of a piece of the stream, and this is so of the piece
+pub record PieceStood (code : StreamCode) (fact : Bits → List ℕ → Type 0) : Type 0 where
+  pub piece : List ℕ
+  pub there : IsIn code piece
+  pub came : fact (codeword_of code piece) piece
+
+-- the codewords of a pair
+pub record PairStood (code : TextCode) (fact : Bits → Pair → Type 0) : Type 0 where
+  pub pair : Pair
+  pub there : PairIn code pair
+  pub came : fact (coded_pair code pair) pair
+
+-- those of so many pairs
+pub record PairsStood (code : TextCode) (count : ℕ) (fact : Bits → List Pair → Type 0) : Type 0 where
+  pub pairs : List Pair
+  pub there : PairsIn code pairs
+  pub count_is : count ≡ length pairs
+  pub came : fact (coded_pairs code pairs) pairs
+
+-- how many pairs there are, and then their codewords
+pub record DocumentStood (code : TextCode) (fact : Bits → List Pair → Type 0) : Type 0 where
+  pub pairs : List Pair
+  pub there : PairsIn code pairs
+  pub came : fact (numbered_pairs code pairs) pairs
 
 -- ---- bytes on their way to a sink
 
@@ -260,6 +306,36 @@ ShowsWhole code result old new = (doc : List ℕ) → PairsIn code (parse doc) �
     (Stopped old.feed new.feed old.device new.device old.place (old.place + length (coded_doc code doc))
     old.sink.written new.sink.written doc)
 
+-- ---- what stood for the bytes that came, whatever the parts hold
+
+-- these bits stood at the place, and these bytes came behind those that were shown or are held
+pub record Came (bits : Bits) (bytes : List ℕ) (old new : Moment) : Type 0 where
+  pub stood : Stood bits old.feed old.device old.place new.place
+  pub shown : ForShown old.sink.written old.held (λ before first most. Shown before new.sink.written new.held
+      (first ++ bytes) most)
+
+-- these bits stood at the place, and these bytes went to the sink
+pub record Sent (bits : Bits) (bytes : List ℕ) (old new : Moment) : Type 0 where
+  pub stood : Stood bits old.feed old.device old.place new.place
+  pub told : new.sink.written ≡ appended old.sink.written bytes
+
+abbrev pub PieceCame : StreamCode → DecodingStep
+PieceCame code old new = PieceStood code (λ bits piece. Came bits piece old new)
+
+abbrev pub PairCame : TextCode → DecodingStep
+PairCame code old new = PairStood code (λ bits p. Came bits (p.word ++ p.other) old new)
+
+abbrev pub PairsCame : TextCode → ℕ → DecodingStep
+PairsCame code count old new = PairsStood code count (λ bits ps. Came bits (text ps) old new)
+
+abbrev pub DocumentCame : TextCode → DecodingStep
+DocumentCame code old new = DocumentStood code (λ bits ps. Came bits (text ps) old new)
+
+abbrev pub DocumentSent : TextCode → DecodingStep
+DocumentSent code old new = DocumentStood code (λ bits ps. Sent bits (text ps) old new)
+
+-- ---- what calls promise
+
 -- what every reading of a number promises, beside the number
 pub record ReadsNumber {T : Type 0} (agrees : Type 0) (result : Result T PartErr) (old new : Feeding) (before now : Seen) :
     Type 0 where
@@ -271,7 +347,7 @@ pub record ReadsNumber {T : Type 0} (agrees : Type 0) (result : Result T PartErr
   pub cause : IsReadCaused result before.faults now.faults
 
 -- what every step of decoding promises, beside what it shows
-pub record Steps (agrees : Type 0) (tells : DecodingStep) (result : Result (Unit {0}) ShowErr) (old new : Moment) :
+pub record Steps (agrees : Type 0) (tells comes : DecodingStep) (result : Result (Unit {0}) ShowErr) (old new : Moment) :
     Type 0 where
   -- what the reader of bits keeps agrees with the files
   pub fits : agrees
@@ -279,6 +355,8 @@ pub record Steps (agrees : Type 0) (tells : DecodingStep) (result : Result (Unit
   pub calm : Calm old.feed new.feed old.device new.device
   -- what stands at the place is shown
   pub told : tells old new
+  -- what came stood there
+  pub stood : OnOk result (comes old new)
   -- the sink was given no more bytes than might come
   pub added : AddedOf (bytes_to_come old.held) (bytes_to_come new.held) old.sink new.sink
   -- a refusal has its cause
@@ -286,32 +364,9 @@ pub record Steps (agrees : Type 0) (tells : DecodingStep) (result : Result (Unit
       new.sink.lacks
 
 -- a step of decoding, by the functions that tell of a feed, of a device and of a sink
-abbrev pub Decodes : {Fed Dev Out : Type 0} → (Result (Unit {0}) ShowErr → DecodingStep) → Result (Unit {0}) ShowErr →
-    (Fed → Feeding) → (Fed → Option Files → Type 0) → (Dev → Seen) → (Out → Option (List ℕ)) → (Out → ℕ) →
+abbrev pub Decodes : {Fed Dev Out : Type 0} → (Result (Unit {0}) ShowErr → DecodingStep) → DecodingStep →
+    Result (Unit {0}) ShowErr → (Fed → Feeding) → (Fed → Option Files → Type 0) → (Dev → Seen) → (Out → Option (List ℕ)) → (Out → ℕ) →
     (Out → ℕ) → Reading Fed → Reading Fed → Dev → Dev → Gathering → Gathering → Out → Out → Type 0
-Decodes tells result feeding fits device written faults lacks r r_now d d_now b b_now out out_now =
-    Steps (fits r_now.feed (device d_now).files) (tells result) result (moment_of feeding device written faults lacks r d b out)
+Decodes tells comes result feeding fits device written faults lacks r r_now d d_now b b_now out out_now =
+    Steps (fits r_now.feed (device d_now).files) (tells result) comes result (moment_of feeding device written faults lacks r d b out)
     (moment_of feeding device written faults lacks r_now d_now b_now out_now)
-
--- ---- pairs that are held
-
--- the pair whose codewords stand there is held: whatever device the reader agrees with and whatever sink there is, none
--- is asked
-abbrev pub ShowsHeld : {Fed : Type 0} → (Fed → Feeding) → (Option Files → Type 0) → Reading Fed → Reading Fed →
-    Gathering → Gathering → TextCode → Type 0
-ShowsHeld feeding fits r r_now b b_now code = (d : Seen) (sink : SinkAt) → fits d.files →
-    ShowsPair code (Ok tt)
-    (record { feed = feeding r.feed; place = r.place; device = d; held = b; sink = sink })
-    (record { feed = feeding r_now.feed; place = r_now.place; device = d; held = b_now; sink = sink })
-
--- a pair is held where the answer is true, and else the buffer is as before; no device is asked
-pub record HoldsPair {Fed : Type 0} (feeding : Fed → Feeding) (fits : Fed → Option Files → Type 0) (r r_now : Reading Fed)
-    (b b_now : Gathering) (code : TextCode) (answer : Bool) : Type 0 where
-  -- the feed is as before
-  pub feed : r_now.feed ≡ r.feed
-  -- the pair is held
-  pub told : OnTrue answer (ShowsHeld feeding (fits r.feed) r r_now b b_now code)
-  -- nothing is held
-  pub kept : OnFalse answer (b_now ≡ b)
-  -- no more bytes may come than might
-  pub most : bytes_to_come b_now ≤ bytes_to_come b

@@ -4,3 +4,5 @@ pub mod Places
 pub mod Reading
 pub mod Held
 pub mod Listing
+pub mod HeldPairs
+pub mod Stood

@@ -2,6 +2,7 @@
 use Rattle.std.specs.Prelude.{◌≡◌, ℕ, ◌+◌, ◌^◌, ◌≤◌, ◌<◌, ◌++◌, zero, suc, Bool, not, List, [], ◌∷◌, length, map, filter, take, get_or, Ok, Err, IfErr, OnOk, OnErr}
 use Rattle.std.specs.Bool.{OnFalse, OnTrue}
 use Rattle.std.specs.List.{AllByRecursion, flat_map}
+use Rattle.std.specs.Option.{IsSome}
 use Rattle.std.specs.declared.option.Option.{Option}
 use Rattle.std.specs.declared.result.Result.{Result}
 use Rattle.mg_dev.specs.Bads.{IsNotBad}
@@ -18,9 +19,9 @@ use Rattle.mg_defs.specs.CodedText.{TextCode, codeword_of, coded_doc, coded_pair
 use Rattle.mg_defs.specs.Parse.{Pair, parse, text}
 use Rattle.mg_defs.specs.Sorted.{number_of}
 use Rattle.mg_defs.specs.Terms.{document, is_empty}
-use Rattle.mg_text.specs.Decoding.{IsIn, PairIn, PairsIn, coded_pairs}
+use Rattle.mg_text.specs.Decoding.{DocumentStood, IsIn, PairIn, PairStood, PairsIn, PairsStood, PieceStood, Stood, coded_pairs}
 use Rattle.mg_text.specs.Held.{WhereShort}
-use Rattle.mg_text.specs.Reading.{PagesOfDocument, SameText, TextFits, TextReading}
+use Rattle.mg_text.specs.Reading.{PagesOfDocument, SameText, TellsPairs, TextFits, TextReading}
 
 -- ---- a list
 
@@ -147,8 +148,35 @@ abbrev pub ListsDoc : TextCode → Result (Unit {0}) PartErr → ListStep
 ListsDoc code result old new = (doc : List ℕ) → PairsIn code (parse doc) → length (parse doc) < 2 ^ 32 →
     Lists (coded_doc code doc) (word_symbols code (parse doc)) (length doc) result old new
 
+-- ---- what stood for the symbols, whatever the parts hold
+
+-- these bits stood at the place, and symbols were added with so many bytes
+pub record ListCame (bits : Bits) (symbols : List ℕ) (size : ℕ) (old new : ListMoment) : Type 0 where
+  pub stood : Stood bits old.feed old.device old.place new.place
+  pub adds : Adds symbols size old.list new.list
+
+abbrev pub WordCame : TextCode → ListStep
+WordCame code old new = PieceStood code.words (λ bits piece. ListCame bits (word_symbol code piece) (length piece) old new)
+
+abbrev pub OtherPassed : TextCode → ListStep
+OtherPassed code old new = PieceStood code.others (λ bits piece. ListCame bits [] (length piece) old new)
+
+abbrev pub PairListed : TextCode → ListStep
+PairListed code old new = PairStood code (λ bits p. ListCame bits (word_symbol code p.word)
+    (length p.word + length p.other) old new)
+
+abbrev pub PairsListed : TextCode → ℕ → ListStep
+PairsListed code count old new = PairsStood code count (λ bits ps. ListCame bits (word_symbols code ps)
+    (length (text ps)) old new)
+
+abbrev pub DocumentListed : TextCode → ListStep
+DocumentListed code old new = DocumentStood code (λ bits ps. ListCame bits (word_symbols code ps)
+    (length (text ps)) old new)
+
+-- ---- what calls promise
+
 -- what every step of reading words promises, beside what it lists
-pub record ListSteps (agrees : Type 0) (code : TextCode) (tells : ListStep) (result : Result (Unit {0}) PartErr)
+pub record ListSteps (agrees : Type 0) (code : TextCode) (tells comes : ListStep) (result : Result (Unit {0}) PartErr)
     (old new : ListMoment) : Type 0 where
   -- what the reader of bits keeps agrees with the files
   pub fits : agrees
@@ -156,17 +184,19 @@ pub record ListSteps (agrees : Type 0) (code : TextCode) (tells : ListStep) (res
   pub calm : Calm old.feed new.feed old.device new.device
   -- what stands at the place is listed
   pub told : tells old new
+  -- what is listed stood there
+  pub stood : OnOk result (comes old new)
   -- only symbols of words are added
   pub of_words : AreOfWords code old.list.symbols → AreOfWords code new.list.symbols
   -- a refusal has its cause
   pub cause : IsCaused old.device.faults new.device.faults result
 
 -- a step of reading words, by the functions that tell of a feed and of a device
-abbrev pub ListsBy : {Fed Dev : Type 0} → TextCode → (Result (Unit {0}) PartErr → ListStep) → Result (Unit {0}) PartErr →
-    (Fed → Feeding) → (Fed → Option Files → Type 0) → (Dev → Seen) → Reading Fed → Reading Fed → Dev → Dev →
+abbrev pub ListsBy : {Fed Dev : Type 0} → TextCode → (Result (Unit {0}) PartErr → ListStep) → ListStep →
+    Result (Unit {0}) PartErr → (Fed → Feeding) → (Fed → Option Files → Type 0) → (Dev → Seen) → Reading Fed → Reading Fed → Dev → Dev →
     Listing → Listing → Type 0
-ListsBy code tells result feeding fits device r r_now d d_now list list_now =
-    ListSteps (fits r_now.feed (device d_now).files) code (tells result) result (list_moment feeding device r d list)
+ListsBy code tells comes result feeding fits device r r_now d d_now list list_now =
+    ListSteps (fits r_now.feed (device d_now).files) code (tells result) comes result (list_moment feeding device r d list)
     (list_moment feeding device r_now d_now list_now)
 
 -- ---- pairs of which the reader holds the bits
@@ -178,6 +208,13 @@ ListsHeld feeding fits r r_now list list_now code = (d : Seen) → fits d.files 
     ListsPair code (Ok tt) (list_moment feeding (λ (seen : Seen). seen) r d list)
     (list_moment feeding (λ (seen : Seen). seen) r_now d list_now)
 
+-- and those codewords stood there
+abbrev pub ListedHeld : {Fed : Type 0} → (Fed → Feeding) → (Option Files → Type 0) → Reading Fed → Reading Fed →
+    Listing → Listing → TextCode → Type 0
+ListedHeld feeding fits r r_now list list_now code = (d : Seen) → fits d.files →
+    PairListed code (list_moment feeding (λ (seen : Seen). seen) r d list)
+    (list_moment feeding (λ (seen : Seen). seen) r_now d list_now)
+
 -- a pair is listed where the answer is true, and else the list is as before; no device is asked
 pub record ListsNext {Fed : Type 0} (feeding : Fed → Feeding) (fits : Fed → Option Files → Type 0) (r r_now : Reading Fed)
     (list list_now : Listing) (code : TextCode) (answer : Bool) : Type 0 where
@@ -185,12 +222,21 @@ pub record ListsNext {Fed : Type 0} (feeding : Fed → Feeding) (fits : Fed → 
   pub feed : r_now.feed ≡ r.feed
   -- the pair is listed
   pub told : OnTrue answer (ListsHeld feeding (fits r.feed) r r_now list list_now code)
+  -- it stood there
+  pub stood : OnTrue answer (ListedHeld feeding (fits r.feed) r r_now list list_now code)
   -- nothing is listed
   pub kept : OnFalse answer (list_now ≡ list)
   -- only a symbol of a word is added
   pub of_words : AreOfWords code list.symbols → AreOfWords code list_now.symbols
 
 -- ---- a document
+
+-- Text tells of the pairs of a document, which join to so many bytes at most, and the symbols are those of their words.
+pub record WordsStood (r : TextReading) (files : Option Files) (number most : ℕ) (symbols : List ℕ) : Type 0 where
+  pub pairs : List Pair
+  pub told : TellsPairs r files number pairs
+  pub short : length (text pairs) ≤ most
+  pub symbols_are : symbols ≡ word_symbols r.code pairs
 
 -- what listing the words of a document promises: whatever the parts hold, and where they stand for a collection whose
 -- document of this number has at most so many bytes
@@ -206,6 +252,8 @@ pub record ReadsWords (number most : ℕ) (result : Result (Unit {0}) PartErr) (
     -- the symbols are those of the document's words
     pub content : WhereShort old files_before number most (λ collection.
         OnOk result (AreWordsOf old.code list.symbols (document collection number)))
+    -- whatever the parts hold, they are those of pairs whose codewords stood there, of so many bytes at most
+    pub stood : IsSome files_before → OnOk result (WordsStood old files_before number most list.symbols)
     -- whatever the text holds, each symbol is that of a word
     pub of_words : OnOk result (AreOfWords old.code list.symbols)
     -- no part is bad

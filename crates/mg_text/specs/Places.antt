@@ -1,5 +1,5 @@
 -- A place in the part of places.
-use Rattle.std.specs.Prelude.{◌≡◌, ℕ, ◌+◌, ◌*◌, ◌^◌, ◌-◌, ◌<◌, ◌≤◌, ◌==◌, if◌then◌else◌, List, length, take, drop, Some, IfOk}
+use Rattle.std.specs.Prelude.{◌≡◌, ℕ, ◌+◌, ◌*◌, ◌^◌, ◌-◌, ◌<◌, ◌≤◌, ◌==◌, if◌then◌else◌, List, length, take, drop, Some, IfOk, IfSome}
 use Rattle.std.specs.Option.{IsSome}
 use Rattle.std.specs.declared.option.Option.{Option}
 use Rattle.std.specs.declared.result.Result.{Result}
@@ -7,6 +7,7 @@ use Rattle.mg_dev.specs.Files.{Files, Reads, bytes_at}
 use Rattle.mg_dev.specs.Moments.{Between}
 use Rattle.mg_bits.specs.Pages.{Fits, Looked, Paging, SameFile}
 use Rattle.mg_defs.specs.CodedText.{TextCode, place_bytes, text_part}
+use Rattle.mg_defs.specs.Numbers.{eight_at, four_at}
 
 -- the bytes of a place
 abbrev pub place_width : ℕ → ℕ
@@ -42,6 +43,24 @@ LooksUp claim caused old new files reads faults before now = Between files reads
 pub record IsPlaceAt (version index place : ℕ) (bytes : List ℕ) : Type 0 where
   pub fits : place < place_limit version
   pub bytes_are : take (place_width version) (drop (place_width version * index) bytes) ≡ place_bytes version place
+
+-- the bytes of an index, of so many each
+abbrev pub slot_at : ℕ → ℕ → List ℕ → List ℕ
+slot_at width index bytes = take width (drop (width * index) bytes)
+
+-- the number that bytes of this width have
+abbrev pub number_in : ℕ → List ℕ → ℕ
+number_in width bytes = if width == 4 then four_at bytes 0 else eight_at bytes 0
+
+-- at an index of numbers of so many bytes each stands this one
+pub record NumberStands (width index number : ℕ) (bytes : List ℕ) : Type 0 where
+  pub whole : length (slot_at width index bytes) ≡ width
+  pub number_is : number ≡ number_in width (slot_at width index bytes)
+
+-- where the files are told: the number that is answered stands at an index of a feed's file
+abbrev pub StoodNumber : {E : Type 0} → Paging → Option Files → ℕ → ℕ → Result (Option ℕ) E → Type 0
+StoodNumber feed files width index result = IsSome files → IfOk result (λ found. IfSome found (λ number.
+    NumberStands width index number (bytes_at files feed.name)))
 
 -- where the files are told: the number of so many bytes at an index of a feed's file is answered, where it is below a limit
 abbrev pub AnswersNumber : {E : Type 0} → Paging → Option Files → ℕ → ℕ → (ℕ → List ℕ) → ℕ → Result (Option ℕ) E →

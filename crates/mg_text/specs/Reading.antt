@@ -1,5 +1,5 @@
 -- A reader of the text: what contracts see of it, when its parts stand, and what its calls answer.
-use Rattle.std.specs.Prelude.{◌≡◌, ◌≢◌, ℕ, ◌*◌, ◌+◌, ◌^◌, ◌≤◌, ◌<◌, ◌⊎◌, ◌++◌, List, length, Ok, Err}
+use Rattle.std.specs.Prelude.{◌≡◌, ◌≢◌, ℕ, ◌*◌, ◌+◌, ◌^◌, ◌≤◌, ◌<◌, ◌⊎◌, ◌++◌, List, length, Ok, Err, OnOk}
 use Rattle.std.specs.Option.{IsSome}
 use Rattle.std.specs.declared.option.Option.{Option}
 use Rattle.std.specs.declared.result.Result.{Result}
@@ -20,6 +20,7 @@ use Rattle.mg_defs.specs.Bits.{bits_of}
 use Rattle.mg_defs.specs.CodedText.{IsTextCode, TextCode, doc_range, places_part, text_part}
 use Rattle.mg_defs.specs.WithinLimits.{IsWithinLimits}
 use Rattle.mg_defs.specs.PagesOf.{pages}
+use Rattle.mg_defs.specs.Parse.{Pair}
 use Rattle.mg_defs.specs.Terms.{document}
 use Rattle.mg_defs.specs.Stands.{Stand}
 use Rattle.mg_defs.specs.Split.{documents}
@@ -30,9 +31,10 @@ use Rattle.mg_layout.specs.declared.head.Head.{Head}
 use Rattle.mg_model.specs.Damage.{AnswersLoad}
 use Rattle.mg_defs.specs.Means.{IsModel, Tell}
 use Rattle.mg_model.specs.Models.{PartsStand}
-use Rattle.mg_text.specs.Decoding.{AddedOf, Ends, Gathering, Gathers, IsShowCaused, Shown}
+use Rattle.mg_text.specs.Decoding.{AddedOf, Ends, ForShown, Gathering, Gathers, IsShowCaused, Shown}
 use Rattle.mg_text_writer.specs.Documents.{TextHolds}
 use Rattle.mg_text.specs.Places.{most_text, place_width}
+use Rattle.mg_text.specs.Stood.{DocumentTold, PairsTold}
 
 -- the feeds of Text and Places, the codes of both streams, the version of the places, how many documents there are, and the size of Text
 pub record TextReading : Type 0 where
@@ -240,6 +242,15 @@ abbrev pub PagesOfDocument : TextReading → ℕ → Reads → Reads → List �
 PagesOfDocument r number reads reads_now collection = reads_now part.Text
     ≤ reads part.Text + document_pages r.code collection number
 
+-- these bytes went to the sink
+abbrev pub WroteAll : Option (List ℕ) → Option (List ℕ) → List ℕ → Type 0
+WroteAll sent sent_now doc = sent_now ≡ appended sent doc
+
+-- these bytes were shown or are held behind those that were
+abbrev pub GatheredAll : Option (List ℕ) → Option (List ℕ) → Gathering → Gathering → List ℕ → Type 0
+GatheredAll sent sent_now b b_now doc = ForShown sent b (λ before first most. Shown before sent_now b_now (first ++ doc)
+    most)
+
 -- where the parts stand and a document may come behind what was shown or is held: it is so too, or a prefix is shown
 abbrev pub GathersDoc : TextReading → Option Files → Option (List ℕ) → Option (List ℕ) → Gathering → Gathering → ℕ →
     Result (Unit {0}) ShowErr → Type 0
@@ -248,6 +259,16 @@ GathersDoc r files sent sent_now b b_now number result = (collection : List ℕ)
     TextStands r files collection → Shown before sent b bytes most →
     length (bytes ++ document collection number) ≤ most →
     Gathers result before sent_now b_now (bytes ++ document collection number) most
+
+-- Text and Places of a reader tell of these pairs of a document, by the codes that were loaded.
+abbrev pub TellsPairs : TextReading → Option Files → ℕ → List Pair → Type 0
+TellsPairs r files number pairs = PairsTold r.code r.version r.size (bytes_at files r.places.name)
+    (bytes_at files r.text.name) number pairs
+
+-- They tell of a document, and this is so of its bytes.
+abbrev pub TellsDocument : TextReading → Option Files → ℕ → (List ℕ → Type 0) → Type 0
+TellsDocument r files number fact = DocumentTold r.code r.version r.size (bytes_at files r.places.name)
+    (bytes_at files r.text.name) number fact
 
 -- no part is bad
 abbrev pub ShowIsNotBad : Result (Unit {0}) ShowErr → Type 0
@@ -269,7 +290,7 @@ pub record CanRead (r : TextReading) (files : Option Files) (number : ℕ) : Typ
 -- what reading a document promises: whatever the parts hold, what is told of its bytes, and facts wherever the parts
 -- stand for a collection of which it may come
 pub record ReadsDocument (old new : TextReading) (number : ℕ) (wherever : (List ℕ → Type 0) → Type 0) (told : Type 0)
-    (most most_now : ℕ) (out out_now : SinkAt) (result : Result (Unit {0}) ShowErr)
+    (comes : List ℕ → Type 0) (most most_now : ℕ) (out out_now : SinkAt) (result : Result (Unit {0}) ShowErr)
     (files_before files_now : Option Files) (reads_before reads_now : Reads) (faults_before faults_now : ℕ) : Type 0
   where
     -- what the reader keeps of Text and Places agrees with them
@@ -280,6 +301,8 @@ pub record ReadsDocument (old new : TextReading) (number : ℕ) (wherever : (Lis
     pub looked : LookedAt part.Text part.Places files_before files_now reads_before reads_now faults_before faults_now
     -- its bytes come
     pub content : told
+    -- whatever the parts hold, what came is what Text tells, by the codes that were loaded
+    pub stood : IsSome files_before → OnOk result (TellsDocument old files_before number comes)
     -- no part is bad
     pub never_bad : wherever (λ _. ShowIsNotBad result)
     -- no more pages of Text are read than its bits lie on
@@ -292,10 +315,10 @@ pub record ReadsDocument (old new : TextReading) (number : ℕ) (wherever : (Lis
     pub cause : IsShowCaused result faults_before faults_now out.faults out_now.faults out.lacks out_now.lacks
 
 -- the same by the functions that tell of a store and of a sink
-abbrev pub ReadsDoc : {X Y : Type 0} → ((List ℕ → Type 0) → Type 0) → Type 0 → ℕ → ℕ → ℕ → Result (Unit {0}) ShowErr →
+abbrev pub ReadsDoc : {X Y : Type 0} → ((List ℕ → Type 0) → Type 0) → Type 0 → (List ℕ → Type 0) → ℕ → ℕ → ℕ → Result (Unit {0}) ShowErr →
     TextReading → TextReading → (X → Option Files) → (X → Reads) → (X → ℕ) → X → X → (Y → Option (List ℕ)) → (Y → ℕ) →
     (Y → ℕ) → Y → Y → Type 0
-ReadsDoc wherever told most most_now number result old new files reads faults before now written sink_faults lacks out out_now =
+ReadsDoc wherever told comes most most_now number result old new files reads faults before now written sink_faults lacks out out_now =
     Between files reads faults before now
-    (ReadsDocument old new number wherever told most most_now (sink_at written sink_faults lacks out)
+    (ReadsDocument old new number wherever told comes most most_now (sink_at written sink_faults lacks out)
     (sink_at written sink_faults lacks out_now) result)

@@ -4,7 +4,8 @@ ghost use Rattle.std.specs.Bool.{OnFalse};
 ghost use Rattle.mg_defs.specs.CodedText.{codeword_of};
 ghost use Rattle.mg_defs.specs.Marks.{code_of};
 ghost use Rattle.mg_model.specs.Blocks.{short_piece};
-ghost use Rattle.mg_text.specs.Decoding.{Decodes, HoldsPair, IsIn, ReadsHeld, ShowsPiece, ShowsPairs, ShowsWhole, ShowsPair, ShowsDoc};
+ghost use Rattle.mg_text.specs.Decoding.{Decodes, DocumentCame, DocumentSent, IsIn, PairCame, PairsCame, PieceCame, PieceStood, ReadsHeld, ShowsPiece, ShowsPairs, ShowsWhole, ShowsPair, ShowsDoc, StoodHeld};
+ghost use Rattle.mg_text.specs.HeldPairs.{HoldsPair};
 
 use crate::show_buffer::ShowBuffer;
 use crate::symbols::{get_count, get_symbol, held_symbol};
@@ -23,9 +24,9 @@ fn show_piece<F: Feed, O: Sink>(
     out: &mut O,
 ) -> Result<(), ShowErr>
     requires fits { F.fits r.old.feed (F.device dev.old).files }
-    ensures { Decodes (ShowsPiece (code_of stream model.now)) result F.feeding F.fits F.device
-        O.written O.faults O.lacks r.old r.new dev.old dev.new buffer.old buffer.new out.old
-        out.new }
+    ensures { Decodes (ShowsPiece (code_of stream model.now)) (PieceCame (code_of stream model.now)) result
+        F.feeding F.fits F.device O.written O.faults O.lacks r.old r.new dev.old dev.new
+        buffer.old buffer.new out.old out.new }
 {
     match get_symbol(model.canon(stream), r, dev) {
         Ok(symbol) => match model.short_piece(stream, symbol) {
@@ -47,9 +48,9 @@ fn show_pair<F: Feed, O: Sink>(
     out: &mut O,
 ) -> Result<(), ShowErr>
     requires fits { F.fits r.old.feed (F.device dev.old).files }
-    ensures { Decodes (ShowsPair model.now) result F.feeding F.fits F.device
-        O.written O.faults O.lacks r.old r.new dev.old dev.new buffer.old buffer.new out.old
-        out.new }
+    ensures { Decodes (ShowsPair model.now) (PairCame model.now) result
+        F.feeding F.fits F.device O.written O.faults O.lacks r.old r.new dev.old dev.new
+        buffer.old buffer.new out.old out.new }
 {
     match show_piece(model, Stream::Words, r, dev, buffer, out) {
         Ok(()) => {}
@@ -72,6 +73,9 @@ fn held_entry<'a, F: Feed>(
         IsIn (code_of stream model.now) piece →
         ReadsHeld F.feeding (F.fits r.old.feed) r.old r.new
         (codeword_of (code_of stream model.now) piece) piece (short_piece entry.now)) }
+    ensures stood { IfSome result (λ entry. PieceStood (code_of stream model.now) (λ bits piece.
+        (piece ≡ short_piece entry.now)
+        × StoodHeld F.feeding (F.fits r.old.feed) r.old r.new bits)) }
 {
     let symbol = match held_symbol(model.canon(stream), r) {
         Some(symbol) => symbol,
@@ -127,9 +131,9 @@ fn show_pairs<F: Feed, O: Sink>(
     count: u32,
 ) -> Result<(), ShowErr>
     requires fits { F.fits r.old.feed (F.device dev.old).files }
-    ensures { Decodes (ShowsPairs model.now count) result F.feeding F.fits F.device
-        O.written O.faults O.lacks r.old r.new dev.old dev.new buffer.old buffer.new out.old
-        out.new }
+    ensures { Decodes (ShowsPairs model.now count) (PairsCame model.now count) result
+        F.feeding F.fits F.device O.written O.faults O.lacks r.old r.new dev.old dev.new
+        buffer.old buffer.new out.old out.new }
 {
     for _i in 0..count {
         if show_held(model, r, buffer) {
@@ -152,9 +156,9 @@ pub fn gather_doc<F: Feed, O: Sink>(
     out: &mut O,
 ) -> Result<(), ShowErr>
     requires fits { F.fits r.old.feed (F.device dev.old).files }
-    ensures { Decodes (ShowsDoc model.now) result F.feeding F.fits F.device
-        O.written O.faults O.lacks r.old r.new dev.old dev.new buffer.old buffer.new out.old
-        out.new }
+    ensures { Decodes (ShowsDoc model.now) (DocumentCame model.now) result
+        F.feeding F.fits F.device O.written O.faults O.lacks r.old r.new dev.old dev.new
+        buffer.old buffer.new out.old out.new }
 {
     let count = match get_count(r, dev) {
         Ok(count) => count,
@@ -174,9 +178,9 @@ pub fn show_doc<F: Feed, O: Sink>(
 ) -> Result<(), ShowErr>
     requires fits { F.fits r.old.feed (F.device dev.old).files }
     requires empty { buffer.old.held ≡ [] }
-    ensures { Decodes (ShowsWhole model.now) result F.feeding F.fits F.device
-        O.written O.faults O.lacks r.old r.new dev.old dev.new buffer.old buffer.new out.old
-        out.new }
+    ensures { Decodes (ShowsWhole model.now) (DocumentSent model.now) result
+        F.feeding F.fits F.device O.written O.faults O.lacks r.old r.new dev.old dev.new
+        buffer.old buffer.new out.old out.new }
 {
     match gather_doc(model, r, dev, buffer, out) {
         Ok(()) => {}

@@ -2,7 +2,7 @@
 //!
 //! A reader of texts has the store lent to it as long as it decodes a document, so no caller can work on the bytes as they
 //! come: they are kept here. Damaged text can tell of a document of any length, so the bytes are bounded.
-ghost use Rattle.std.specs.Prelude.{◌≡◌, ◌≢◌, ◌↔◌, ◌<◌, ◌≤◌, ◌+◌, ◌++◌, ◌∷◌, [], Some, IfErr, IsTrue, OnOk, length};
+ghost use Rattle.std.specs.Prelude.{◌≡◌, ◌≢◌, ◌↔◌, ◌<◌, ◌≤◌, ◌+◌, ◌++◌, ◌∷◌, [], Some, IfErr, IsSome, IsTrue, OnOk, length};
 ghost use Rattle.mg_dev.specs.Bads.{IsNotBad};
 ghost use Rattle.mg_dev.specs.Causes.{HasLack, HasPutCause};
 ghost use Rattle.mg_dev.specs.Moments.{Between};
@@ -11,7 +11,7 @@ ghost use Rattle.mg_dev.specs.Streams.{AfterPut};
 ghost use Rattle.mg_dev.specs.declared.part.Part.TheVariants as part;
 ghost use Rattle.mg_bits.specs.Pages.{LookedAt};
 ghost use Rattle.mg_text.specs.Held.{AnswersHeld, ForShortDocument, held_answer};
-ghost use Rattle.mg_text.specs.Reading.{PagesOfDocument, SameText, TextFits, WhereTextStands};
+ghost use Rattle.mg_text.specs.Reading.{PagesOfDocument, SameText, TellsDocument, TextFits, WhereTextStands};
 
 use crate::text_reader::TextReader;
 use mg_dev::{Bad, Part, PartErr, PutErr, ShowErr, Sink, Store};
@@ -114,6 +114,9 @@ impl HeldDocument {
         ensures short { OnOk result (length self.new.bytes.items ≤ self.old.most) }
         ensures content { ForShortDocument reader.old (S.files store.old) number self.old.most
             (λ doc. OnOk result (self.new.bytes.items ≡ doc)) }
+        // Whatever the parts hold, what is held is what they tell.
+        ensures stood { IsSome (S.files store.old) → OnOk result (TellsDocument reader.old
+            (S.files store.old) number (λ doc. self.new.bytes.items ≡ doc)) }
         ensures never_bad { ForShortDocument reader.old (S.files store.old) number self.old.most
             (λ _. IfErr result IsNotBad) }
         ensures pages { WhereTextStands reader.old (S.files store.old)

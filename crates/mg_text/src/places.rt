@@ -1,10 +1,11 @@
 //! Where documents begin in the text.
-ghost use Rattle.std.specs.Prelude.{◌≡◌, ◌*◌, ◌≤◌, ◌<◌, ◌^◌, IfOk, Some};
+ghost use Rattle.std.specs.Prelude.{◌≡◌, ◌*◌, ◌≤◌, ◌<◌, ◌^◌, IfOk, IsSome, Some};
 ghost use Rattle.mg_dev.specs.Causes.{HasCause};
+ghost use Rattle.mg_dev.specs.Files.{bytes_at};
 ghost use Rattle.mg_bits.specs.Pages.{Fits};
 ghost use Rattle.mg_defs.specs.Numbers.{eight, four};
 ghost use Rattle.mg_text.specs.Decoding.{IsReadCaused, Takes};
-ghost use Rattle.mg_text.specs.Places.{place_width, ForPlace, AnswersNumber, LooksUp};
+ghost use Rattle.mg_text.specs.Places.{place_width, ForPlace, AnswersNumber, LooksUp, NumberStands, StoodNumber};
 
 use mg_bits::PageFeed;
 use mg_dev::{Bad, Failed, Part, PartErr, Store};
@@ -27,9 +28,11 @@ fn narrow_place<S: Store>(
     index: u32,
 ) -> Result<Option<u64>, Failed>
     requires fits { Fits places.old (S.files store.old) }
-    ensures { LooksUp (AnswersNumber places.old (S.files store.old) 4 index four (2 ^ 32) result)
+    ensures read { LooksUp
+        (AnswersNumber places.old (S.files store.old) 4 index four (2 ^ 32) result)
         (λ before now. HasCause before now result) places.old places.new S.files S.reads S.faults
         store.old store.new }
+    ensures stood { StoodNumber places.old (S.files store.old) 4 index result }
 {
     let mut bytes = [0u8; 4];
     match places.fill(store, 4 * u64::from(index), &mut bytes) {
@@ -46,9 +49,11 @@ fn wide_place<S: Store>(
     index: u32,
 ) -> Result<Option<u64>, Failed>
     requires fits { Fits places.old (S.files store.old) }
-    ensures { LooksUp (AnswersNumber places.old (S.files store.old) 8 index eight (2 ^ 64) result)
+    ensures read { LooksUp
+        (AnswersNumber places.old (S.files store.old) 8 index eight (2 ^ 64) result)
         (λ before now. HasCause before now result) places.old places.new S.files S.reads S.faults
         store.old store.new }
+    ensures stood { StoodNumber places.old (S.files store.old) 8 index result }
 {
     let mut bytes = [0u8; 8];
     match places.fill(store, 8 * u64::from(index), &mut bytes) {
@@ -66,10 +71,11 @@ fn read_place<S: Store>(
     index: u32,
 ) -> Result<Option<u64>, Failed>
     requires fits { Fits places.old (S.files store.old) }
-    ensures { LooksUp (ForPlace places.old (S.files store.old) version index
+    ensures read { LooksUp (ForPlace places.old (S.files store.old) version index
         (λ p. IfOk result (λ place. place ≡ Some p)))
         (λ before now. HasCause before now result) places.old places.new S.files S.reads S.faults
         store.old store.new }
+    ensures stood { StoodNumber places.old (S.files store.old) (place_width version) index result }
 {
     if version == 1 {
         return narrow_place(places, store, index);
@@ -90,6 +96,10 @@ pub fn first_byte<S: Store>(
         (λ p. p ≤ size → p ≤ 2 ^ 60 → Takes result (λ from. from ≡ p) (Unit {0})))
         (IsReadCaused result) places.old places.new S.files S.reads S.faults store.old store.new }
     ensures small { IfOk result (λ from. from ≤ 2 ^ 60) }
+    ensures stood { IsSome (S.files store.old) → IfOk result (λ from.
+        NumberStands (place_width version) index from
+        (bytes_at (S.files store.old) places.old.name)) }
+    ensures within { IfOk result (λ from. from ≤ size) }
 {
     let high = size.min(LAST);
     match read_place(places, store, version, index) {

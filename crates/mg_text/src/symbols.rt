@@ -2,7 +2,7 @@
 ghost use Rattle.std.specs.Prelude.{◌≡◌, ◌+◌, ◌<◌, ◌^◌, ℕ, IfOk, IfSome, length};
 ghost use Rattle.mg_defs.specs.Canon.{codeword};
 ghost use Rattle.mg_defs.specs.Codes.{gamma};
-ghost use Rattle.mg_text.specs.Decoding.{ReadsCode, ReadsHeld, ReadsNumber};
+ghost use Rattle.mg_text.specs.Decoding.{ReadsCode, ReadsHeld, ReadsNumber, StoodHeld, StoodNext};
 ghost use Rattle.mg_text.specs.Refusals.{IsRefused, IsDamaged};
 
 use mg_bits::{BitReader, CodeErr, Feed};
@@ -53,6 +53,8 @@ pub fn get_symbol<F: Feed>(
     ensures symbol { IfOk result (λ s. s < length canon.now) }
     ensures told { (s : ℕ) → s < length canon.now →
         ReadsCode F.feeding F.device r.old r.new dev.old dev.new (codeword canon.now s) s result }
+    ensures stood { IfOk result (λ s.
+        StoodNext F.feeding F.device r.old r.new dev.old (codeword canon.now s)) }
 {
     let at = r.place();
     if at > LAST || canon.count() == 0 {
@@ -72,6 +74,8 @@ pub fn held_symbol<F: Feed>(canon: &Canon, r: &mut BitReader<F>) -> Option<u32>
     ensures symbol { IfSome result (λ found. found < length canon.now) }
     ensures told { IfSome result (λ found. (s : ℕ) → s < length canon.now →
         ReadsHeld F.feeding (F.fits r.old.feed) r.old r.new (codeword canon.now s) s found) }
+    ensures stood { IfSome result (λ found.
+        StoodHeld F.feeding (F.fits r.old.feed) r.old r.new (codeword canon.now found)) }
 {
     if r.place() > LAST || canon.count() == 0 {
         return None;
@@ -89,6 +93,8 @@ pub fn get_count<F: Feed>(r: &mut BitReader<F>, dev: &mut F::Dev) -> Result<u32,
         (F.feeding r.old.feed) (F.feeding r.new.feed) (F.device dev.old) (F.device dev.new) }
     ensures told { (n : ℕ) → n < 2 ^ 32 →
         ReadsCode F.feeding F.device r.old r.new dev.old dev.new (gamma (n + 1)) n result }
+    ensures stood { IfOk result (λ n.
+        StoodNext F.feeding F.device r.old r.new dev.old (gamma (n + 1))) }
 {
     let at = r.place();
     if at > LAST {

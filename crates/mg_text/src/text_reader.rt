@@ -9,7 +9,7 @@ ghost use Rattle.mg_front.specs.Reading.{IsNotBad, LookedAt};
 ghost use Rattle.mg_text.specs.Decoding.{bytes_to_come};
 ghost use Rattle.mg_text.specs.Held.{ForShortDocument, WhereShort};
 ghost use Rattle.mg_text.specs.Listing.{ReadsWords};
-ghost use Rattle.mg_text.specs.Reading.{AnswersReader, CanRead, ComparesSizes, DiffersInSize, GathersDoc, IsReaderOver, IsTextReader, ReadsDoc, TextFits, TextStands, WhereIsText, WhereTextStands, WritesDocument, stored_at};
+ghost use Rattle.mg_text.specs.Reading.{AnswersReader, CanRead, ComparesSizes, DiffersInSize, GathersDoc, IsReaderOver, IsTextReader, ReadsDoc, TextFits, TextStands, WhereIsText, WhereTextStands, WritesDocument, GatheredAll, WroteAll, stored_at};
 ghost use Rattle.mg_dev.specs.Moments.{Between};
 ghost use Rattle.mg_dev.specs.Streams.{AfterPut};
 
@@ -177,7 +177,8 @@ impl<'a, S: Store> TextReader<'a, S> {
         requires { CanRead self.old (S.files store.old) number }
         ensures { ReadsDoc (WhereTextStands self.old (S.files store.old))
             (WhereTextStands self.old (S.files store.old)
-            (WritesDocument (O.written out.old) (O.written out.new) number result)) (2 ^ 32 - 1) 0
+            (WritesDocument (O.written out.old) (O.written out.new) number result))
+            (WroteAll (O.written out.old) (O.written out.new)) (2 ^ 32 - 1) 0
             number result self.old self.new S.files S.reads S.faults store.old store.new O.written
             O.faults O.lacks out.old out.new }
     {
@@ -201,7 +202,8 @@ impl<'a, S: Store> TextReader<'a, S> {
         requires { CanRead self.old (S.files store.old) number }
         ensures { ReadsDoc (WhereShort self.old (S.files store.old) number most)
             (ForShortDocument self.old (S.files store.old) number most
-            (λ doc. AfterPut (O.written out.old) (O.written out.new) doc result)) most 0
+            (λ doc. AfterPut (O.written out.old) (O.written out.new) doc result))
+            (WroteAll (O.written out.old) (O.written out.new)) most 0
             number result self.old self.new S.files S.reads S.faults store.old store.new O.written
             O.faults O.lacks out.old out.new }
     {
@@ -237,6 +239,7 @@ impl<'a, S: Store> TextReader<'a, S> {
         ensures { ReadsDoc (WhereShort self.old (S.files store.old) number buffer.old.left)
             (GathersDoc self.old (S.files store.old) (O.written out.old) (O.written out.new)
             buffer.old buffer.new number result)
+            (GatheredAll (O.written out.old) (O.written out.new) buffer.old buffer.new)
             (bytes_to_come buffer.old) (bytes_to_come buffer.new)
             number result self.old self.new S.files S.reads S.faults store.old store.new O.written
             O.faults O.lacks out.old out.new }

@@ -4,8 +4,8 @@ ghost use Rattle.std.specs.Bool.{OnFalse};
 ghost use Rattle.mg_defs.specs.CodedText.{codeword_of};
 ghost use Rattle.mg_defs.specs.Marks.{code_of};
 ghost use Rattle.mg_defs.specs.Sorted.{number_of};
-ghost use Rattle.mg_text.specs.Decoding.{IsIn, ReadsHeld};
-ghost use Rattle.mg_text.specs.Listing.{ListsBy, ListsDoc, ListsNext, ListsPair, ListsPairs, ListsWord, PassesOther};
+ghost use Rattle.mg_text.specs.Decoding.{IsIn, PieceStood, ReadsHeld, StoodHeld};
+ghost use Rattle.mg_text.specs.Listing.{DocumentListed, ListsBy, ListsDoc, ListsNext, ListsPair, ListsPairs, ListsWord, OtherPassed, PairListed, PairsListed, PassesOther, WordCame};
 
 use crate::symbols::{get_count, get_symbol, held_symbol};
 use crate::word_list::WordList;
@@ -21,8 +21,8 @@ fn list_word<F: Feed>(
     list: &mut WordList,
 ) -> Result<(), PartErr>
     requires fits { F.fits r.old.feed (F.device dev.old).files }
-    ensures { ListsBy model.now (ListsWord model.now) result F.feeding F.fits F.device
-        r.old r.new dev.old dev.new list.old list.new }
+    ensures { ListsBy model.now (ListsWord model.now) (WordCame model.now) result
+        F.feeding F.fits F.device r.old r.new dev.old dev.new list.old list.new }
 {
     match get_symbol(model.canon(Stream::Words), r, dev) {
         Ok(symbol) => list.add(symbol, model.piece(Stream::Words, symbol).len()),
@@ -38,8 +38,8 @@ fn pass_other<F: Feed>(
     list: &mut WordList,
 ) -> Result<(), PartErr>
     requires fits { F.fits r.old.feed (F.device dev.old).files }
-    ensures { ListsBy model.now (PassesOther model.now) result F.feeding F.fits F.device
-        r.old r.new dev.old dev.new list.old list.new }
+    ensures { ListsBy model.now (PassesOther model.now) (OtherPassed model.now) result
+        F.feeding F.fits F.device r.old r.new dev.old dev.new list.old list.new }
 {
     match get_symbol(model.canon(Stream::Others), r, dev) {
         Ok(symbol) => list.pass(model.piece(Stream::Others, symbol).len()),
@@ -56,8 +56,8 @@ fn list_pair<F: Feed>(
     list: &mut WordList,
 ) -> Result<(), PartErr>
     requires fits { F.fits r.old.feed (F.device dev.old).files }
-    ensures { ListsBy model.now (ListsPair model.now) result F.feeding F.fits F.device
-        r.old r.new dev.old dev.new list.old list.new }
+    ensures { ListsBy model.now (ListsPair model.now) (PairListed model.now) result
+        F.feeding F.fits F.device r.old r.new dev.old dev.new list.old list.new }
 {
     match list_word(model, r, dev, list) {
         Ok(()) => {}
@@ -83,6 +83,9 @@ fn held_piece<F: Feed>(
         ReadsHeld F.feeding (F.fits r.old.feed) r.old r.new
         (codeword_of (code_of stream model.now) piece)
         (number_of (code_of stream model.now).pieces piece, length piece) found) }
+    ensures stood { IfSome result (λ found. PieceStood (code_of stream model.now) (λ bits piece.
+        ((number_of (code_of stream model.now).pieces piece, length piece) ≡ found)
+        × StoodHeld F.feeding (F.fits r.old.feed) r.old r.new bits)) }
 {
     let symbol = match held_symbol(model.canon(stream), r) {
         Some(symbol) => symbol,
@@ -136,8 +139,8 @@ fn list_pairs<F: Feed>(
     count: u32,
 ) -> Result<(), PartErr>
     requires fits { F.fits r.old.feed (F.device dev.old).files }
-    ensures { ListsBy model.now (ListsPairs model.now count) result F.feeding F.fits F.device
-        r.old r.new dev.old dev.new list.old list.new }
+    ensures { ListsBy model.now (ListsPairs model.now count) (PairsListed model.now count) result
+        F.feeding F.fits F.device r.old r.new dev.old dev.new list.old list.new }
 {
     for _i in 0..count {
         if list_held(model, r, list) {
@@ -159,8 +162,8 @@ pub fn list_doc<F: Feed>(
     list: &mut WordList,
 ) -> Result<(), PartErr>
     requires fits { F.fits r.old.feed (F.device dev.old).files }
-    ensures { ListsBy model.now (ListsDoc model.now) result F.feeding F.fits F.device
-        r.old r.new dev.old dev.new list.old list.new }
+    ensures { ListsBy model.now (ListsDoc model.now) (DocumentListed model.now) result
+        F.feeding F.fits F.device r.old r.new dev.old dev.new list.old list.new }
 {
     let count = match get_count(r, dev) {
         Ok(count) => count,

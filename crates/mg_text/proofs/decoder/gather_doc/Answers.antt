@@ -19,4 +19,4 @@ returns-in-Err g c = number_refused c.in-Err.refusal c.in-Err.ensures.read refl 
 
 pub returns : goal.returns
 returns g c = doc_shown c.args.model.now c.show_pairs.result (g.met.F.Feed.whole_pages c.args.r.now.feed).some refl refl
-    (number_read c.in-Ok.count c.in-Ok.ensures.read refl refl c.in-Ok.ensures.told) c.show_pairs.ensures
+    (number_read c.in-Ok.count c.in-Ok.ensures.read refl refl c.in-Ok.ensures.told c.in-Ok.ensures.stood) c.show_pairs.ensures

@@ -6,6 +6,7 @@ use Rattle.mg_model.specs.Blocks.{short_piece}
 use Rattle.mg_text.proofs.PairLaws.{piece_number, piece_put, piece_stopped}
 use Rattle.mg_text.proofs.StepLaws.{number_refused, put_behind}
 use Rattle.mg_text.proofs.Steps.{ends_read}
+use Rattle.mg_text.proofs.ToldLaws.{piece_came}
 use Rattle.mg_text.proofs.decoder.show_piece.Goals as goal
 
 pub returns-in-Err : goal.returns-in-Err
@@ -24,6 +25,8 @@ returns-in-Some g c = put_behind c.in-Ok.symbol c.put_short.result _ _ c.in-Ok.e
     let same : short_piece c.in-Some.entry.now ≡ piece = cc (there, is) in
     piece_put c.put_short.result _ _ _ _ before _ _ _ _ bytes piece read.1 read.2 shown fits (rw same at c.put_short.ensures.cause)
     (rw same at (c.put_short.ensures.shown before bytes most shown)))
+    (piece_came (code_of c.args.stream c.args.model.now) c.in-Ok.symbol (short_piece c.in-Some.entry.now) c.put_short.result _ _ c.canon.ensures.keeps c.in-Some.ensures.piece
+    (rw c.canon.ensures.lengths at c.in-Ok.ensures.stood) c.put_short.ensures.shown)
 
 pub returns-in-None : goal.returns-in-None
 returns-in-None g c = put_behind c.in-Ok.symbol c.put.result _ _ c.in-Ok.ensures.read c.put.ensures.added c.put.ensures.cause (λ piece is before bytes most small shows shown fits.
@@ -35,3 +38,5 @@ returns-in-None g c = put_behind c.in-Ok.symbol c.put.result _ _ c.in-Ok.ensures
     let same : c.piece.result.now ≡ piece = cc (there, is) in
     piece_put c.put.result _ _ _ _ before _ _ _ _ bytes piece read.1 read.2 shown fits (rw same at c.put.ensures.cause)
     (rw same at (c.put.ensures.shown before bytes most shown)))
+    (piece_came (code_of c.args.stream c.args.model.now) c.in-Ok.symbol c.piece.result.now c.put.result _ _ c.canon.ensures.keeps c.piece.ensures.piece
+    (rw c.canon.ensures.lengths at c.in-Ok.ensures.stood) c.put.ensures.shown)

@@ -17,4 +17,4 @@ returns-in-Err g c = number_refused c.in-Err.refusal c.in-Err.ensures.read refl 
 
 pub returns : goal.returns
 returns g c = doc_listed c.args.model.now c.list_pairs.result (g.met.F.Feed.whole_pages c.args.r.now.feed).some refl
-    (count_read c.in-Ok.count c.in-Ok.ensures.read refl c.in-Ok.ensures.told) c.list_pairs.ensures
+    (count_read c.in-Ok.count c.in-Ok.ensures.read refl c.in-Ok.ensures.told c.in-Ok.ensures.stood) c.list_pairs.ensures

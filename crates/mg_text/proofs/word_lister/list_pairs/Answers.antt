@@ -13,6 +13,7 @@ loop-i-preserved-then-list_held g c = one_held c.args.model.now (g.met.F.Feed.wh
     (subst (λ f. g.F.Feed.fits f (g.F.Feed.device c.loop-i.dev).files) (sym c.if-list_held.ensures.held.feed) c.loop-i.invariant.fits)
     (ap g.F.Feed.feeding c.if-list_held.ensures.held.feed) refl c.if-list_held.ensures.held.of_words
     (c.if-list_held.ensures.held.told (g.F.Feed.device c.loop-i.dev) c.loop-i.invariant.fits)
+    (c.if-list_held.ensures.held.stood (g.F.Feed.device c.loop-i.dev) c.loop-i.invariant.fits)
 
 pub returns-in-Err : goal.returns-in-Err
 returns-in-Err g c = pair_refused c.args.model.now c.in-Err.refusal (g.met.F.Feed.whole_pages c.args.r.now.feed).some (omega (arith, c.loop-i-test.true))

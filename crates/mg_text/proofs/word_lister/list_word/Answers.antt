@@ -3,6 +3,7 @@ use Rattle.std.specs.Prelude.{slice_get}
 use Rattle.mg_defs.specs.Sorted.{number_of}
 use Rattle.mg_text.specs.Listing.{symbol_if}
 use Rattle.mg_text.proofs.ListLaws.{list_ends_read, number_refused, piece_added, piece_listed, symbol_of_word}
+use Rattle.mg_text.proofs.ListedLaws.{word_came}
 use Rattle.mg_text.proofs.PairLaws.{piece_number}
 use Rattle.mg_text.proofs.word_lister.list_word.Goals as goal
 
@@ -26,3 +27,4 @@ returns-in-Ok g c =
     let same : c.piece.result.now ≡ piece = cc (there, is) in
     piece_listed c.add.result _ _ _ size (length piece) _ _ read.1 read.2 c.add.ensures (ap (λ s. symbol_if s size) read.0 ∙ ap (λ p. symbol_if number (length p)) same)
     (ap length same) few)
+    (word_came c.args.model.now c.in-Ok.symbol c.piece.result.now c.add.result _ _ c.canon.ensures.keeps c.piece.ensures.piece (rw c.canon.ensures.lengths at c.in-Ok.ensures.stood) c.add.ensures)

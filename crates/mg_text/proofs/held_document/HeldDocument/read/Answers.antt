@@ -1,5 +1,5 @@
 use Rattle.mg_defs.specs.Terms.{document}
-use Rattle.mg_text.proofs.HeldLaws.{held_cause, held_content, held_in_bound, held_short}
+use Rattle.mg_text.proofs.HeldLaws.{held_cause, held_content, held_in_bound, held_short, held_stood}
 use Rattle.mg_text.proofs.held_document.HeldDocument.read.Goals as goal
 
 pub returns-clause-fits : goal.returns-clause-fits
@@ -32,3 +32,8 @@ returns-clause-looked g c = c.doc-shown.ensures.looked
 
 pub returns-clause-cause : goal.returns-clause-cause
 returns-clause-cause g c = held_cause c.answered.result _ _ _ _ c.answered.ensures c.doc-shown.ensures.looked.faults c.doc-shown.ensures.cause
+
+pub returns-clause-stood : goal.returns-clause-stood
+returns-clause-stood g c = λ told.
+    held_stood c.doc-shown.result c.answered.result c.args.reader.now (g.S.Store.files c.args.store.now) c.args.number c.clear.new.self.items c.doc-shown.new.out.bytes.items
+    c.answered.ensures c.clear.ensures.items (c.doc-shown.ensures.stood told)

@@ -8,6 +8,7 @@ returns g c =
       fits = e.fits;
       same = e.same;
       looked = e.looked;
+      stood = e.stood;
       content = λ collection stands. e.content collection (any_short _ _ c.args.number collection stands);
       never_bad = λ collection stands. e.never_bad collection (any_short _ _ c.args.number collection stands);
       pages = λ collection stands. e.pages collection (any_short _ _ c.args.number collection stands);

@@ -3,8 +3,10 @@ use Rattle.mg_dev.specs.declared.part.Part.TheVariants as part
 use Rattle.mg_dev.specs.Names.{same_part}
 use Rattle.mg_defs.specs.CodedText.{place_after}
 use Rattle.mg_text.specs.Decoding.{Gathering}
+use Rattle.mg_text.specs.Reading.{TextReading}
 use Rattle.mg_text.proofs.DocumentLaws.{document_read, document_refused, short_told}
 use Rattle.mg_text.proofs.ReaderLaws.{doc_told, place_refused, place_wanted}
+use Rattle.mg_text.proofs.ToldLaws.{pairs_told, sent_told}
 use Rattle.mg_text.proofs.text_reader.TextReader.doc_within.Goals as goal
 
 pub returns-in-Err : goal.returns-in-Err
@@ -25,6 +27,14 @@ returns g c =
     let buffer = c.begin.ensures ∙ c.start.ensures in
     let left : c.begin.new.self.left ≡ c.args.most = ap (λ (b : Gathering). b.left) buffer in
     let read = c.in-Ok.ensures.read in
+    let own : TextReading = record {
+      text = c.self.inside.text.feed;
+      places = c.self.inside.places;
+      code = c.self.inside.model;
+      version = c.self.inside.version;
+      documents = c.self.inside.documents;
+      size = c.self.inside.size;
+    } in
     rw (← c.self.view_is)
     (document_read c.show_doc.result c.in-Ok.from c.self.invariant.0 c.self.invariant.1 read c.seek.ensures.feed c.show_doc.ensures
     (omega (arith, ap (λ (b : Gathering). length b.held) buffer, left)) (omega arith)
@@ -34,4 +44,6 @@ returns g c =
     c.requires.some within read.looked.files
     (read.told has.stands.told (place_after c.self.inside.model collection (c.args.number - 1)) wanted.0 wanted.1 wanted.2)
     c.seek.ensures.place c.seek.ensures.feed c.self.invariant.0 (read.looked.others part.Text (ap (same_part part.Text) c.self.invariant.1)) has.short
-    (λ doc all few fits small shows. c.show_doc.ensures.told doc all few (subst (λ n. length doc ≤ n) (sym left) fits) small shows))))
+    (λ doc all few fits small shows. c.show_doc.ensures.told doc all few (subst (λ n. length doc ≤ n) (sym left) fits) small shows)))
+    (λ told. sent_told c.show_doc.result own _ _ _ _ (pairs_told own _ told read.looked.files c.seek.ensures.place c.seek.ensures.feed (c.in-Ok.ensures.stood told) c.in-Ok.ensures.within)
+    c.show_doc.ensures.stood))

@@ -3,8 +3,10 @@ use Rattle.mg_dev.specs.declared.part.Part.TheVariants as part
 use Rattle.mg_dev.specs.Names.{same_part}
 use Rattle.mg_defs.specs.CodedText.{place_after}
 use Rattle.mg_text.specs.Decoding.{Gathering, Shown}
+use Rattle.mg_text.specs.Reading.{TextReading}
 use Rattle.mg_text.proofs.DocumentLaws.{document_read, document_refused, gathered_told}
 use Rattle.mg_text.proofs.ReaderLaws.{gather_refused, gather_told, place_wanted}
+use Rattle.mg_text.proofs.ToldLaws.{kept_told, pairs_told}
 use Rattle.mg_text.proofs.text_reader.TextReader.gather.Goals as goal
 
 pub returns-in-Err : goal.returns-in-Err
@@ -23,6 +25,14 @@ pub returns : goal.returns
 returns g c =
     let within = rw (← c.self.view_is) at c.requires.within in
     let read = c.in-Ok.ensures.read in
+    let own : TextReading = record {
+      text = c.self.inside.text.feed;
+      places = c.self.inside.places;
+      code = c.self.inside.model;
+      version = c.self.inside.version;
+      documents = c.self.inside.documents;
+      size = c.self.inside.size;
+    } in
     rw (← c.self.view_is)
     (document_read c.gather_doc.result c.in-Ok.from c.self.invariant.0 c.self.invariant.1 read c.seek.ensures.feed c.gather_doc.ensures
     (omega (arith, ap (λ (b : Gathering). length b.held) c.begin.ensures, ap (λ (b : Gathering). b.left) c.begin.ensures)) (omega arith)
@@ -33,4 +43,7 @@ returns g c =
     c.requires.some within read.looked.files
     (read.told stands.told (place_after c.self.inside.model collection (c.args.number - 1)) wanted.0 wanted.1 wanted.2)
     c.seek.ensures.place c.seek.ensures.feed c.self.invariant.0 (read.looked.others part.Text (ap (same_part part.Text) c.self.invariant.1))
-    (subst (λ (b : Gathering). Shown before (g.O.Sink.written c.args.out.now) b bytes most) (sym c.begin.ensures) shown) fits c.gather_doc.ensures.told)))
+    (subst (λ (b : Gathering). Shown before (g.O.Sink.written c.args.out.now) b bytes most) (sym c.begin.ensures) shown) fits c.gather_doc.ensures.told))
+    (λ told. rw c.begin.ensures at (kept_told c.gather_doc.result own _ _ _ _
+    (pairs_told own _ told read.looked.files c.seek.ensures.place c.seek.ensures.feed (c.in-Ok.ensures.stood told) c.in-Ok.ensures.within)
+    c.gather_doc.ensures.stood)))
