@@ -59,6 +59,17 @@ was_short : (b : Bool) (h : Head) (width : ℕ) (old string field : List ℕ) (a
 was_short true h width old string field at bytes is put = absurd cc
 was_short false h width old string field at bytes is put = put
 
+-- only the shared bytes of the string before matter
+pub behind_as : (b : Bool) (h : Head) (width : ℕ) (old before string field : List ℕ) (at : ℕ) (bytes : List ℕ) → take h.shared old ≡ take h.shared before →
+    IsBehind b h width old string field at bytes → IsBehind b h width before string field at bytes
+behind_as true h width old before string field at bytes same put = record {
+  string_is = put.string_is ∙ ap (λ t. t ++ take h.more (drop at bytes)) same;
+  string_there = put.string_there;
+  field_is = put.field_is;
+  field_there = put.field_there;
+}
+behind_as false h width old before string field at bytes same put = put
+
 -- ---- entries that are not whole
 
 module _ (width : ℕ) (before new : FrontEntry) (at : ℕ) (bytes : List ℕ) (h : Head) (b : Bool) where

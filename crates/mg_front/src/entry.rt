@@ -1,5 +1,5 @@
 //! One entry, and how it is read.
-ghost use Rattle.std.specs.Prelude.{◌≡◌, ◌≤◌, ◌<◌, ◌+◌, ◌^◌, ◌==◌, ◌||◌, [], IfOk, IfSome, OnSome, length, drop, slice_get};
+ghost use Rattle.std.specs.Prelude.{◌≡◌, ◌≤◌, ◌<◌, ◌+◌, ◌^◌, ◌==◌, ◌||◌, [], IfOk, IfSome, OnSome, length, take, drop, slice_get};
 ghost use Rattle.mg_dev.specs.Moments.{Between};
 ghost use Rattle.mg_bits.specs.Pages.{Fits};
 ghost use Rattle.mg_defs.specs.Front.{is_below, rises_after_prefix, read_entry, read_whole, read_cut};
@@ -217,6 +217,14 @@ fn read_whole<S: Store>(
     Ok(Some((usize::from(more) + at.width + 1) as u64))
 }
 
+/// Puts the bytes that an entry's string shares with the one before. What stood behind them stays.
+fn put_shared(before: &FrontEntry, shared: u8, out: &mut FrontEntry)
+    ensures { take shared out.new.string ≡ take shared before.now.string }
+{
+    let count = usize::from(shared);
+    out.string[..count].copy_from_slice(&before.string[..count]);
+}
+
 /// Whether the entry's string rises above the one before, from a shared prefix on.
 fn suffix_rises(before: &FrontEntry, entry: &FrontEntry, from: u8) -> bool
     requires before { from ≤ length (string_of before.now) }
@@ -248,7 +256,7 @@ fn read_cut<S: Store>(
         Ok(None) => return Ok(None),
         Err(failed) => return Err(failed),
     };
-    out.string = before.string;
+    put_shared(before, head.shared, out);
     match read_behind(feed, store, at.place + 2, head, at.width, out) {
         Ok(true) => {}
         Ok(false) => return Ok(None),

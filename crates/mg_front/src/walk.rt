@@ -4,6 +4,7 @@ ghost use Rattle.mg_dev.specs.Files.{bytes_at};
 ghost use Rattle.mg_dev.specs.PartCauses.{HasPartCause};
 ghost use Rattle.mg_bits.specs.Pages.{Looked};
 ghost use Rattle.mg_defs.specs.Front.{Entry};
+ghost use Rattle.mg_front.specs.Entries.{string_of};
 ghost use Rattle.mg_front.specs.Walk.{Gave, SameWalk, AnswersNext, AfterNext, AnswersAmong, ReadsNext, WhereFront, GaveNext, Stepped};
 ghost use Rattle.mg_dev.specs.declared.part_err.PartErr.TheVariants.{Memory};
 ghost use Rattle.mg_front.specs.declared.entry.FrontEntry.{FrontEntry as Read};
@@ -45,6 +46,15 @@ impl<'a, S> Model for FrontWalk<'a, S> {
 
     ghost invariant = { λ w. (w.width ≤ 24) × (w.done ≤ w.count) × (w.place ≤ 281 * w.done) × (w.feed.name ≡ file_name w.strings) ×
         (w.feed.part ≡ w.strings.part) };
+}
+
+/// Keeps the string of an entry: its bytes alone, since most strings are short.
+fn keep_string(last: &mut FrontEntry, entry: &FrontEntry)
+    ensures { string_of last.new ≡ string_of entry.now }
+{
+    let string = entry.bytes();
+    last.string[..string.len()].copy_from_slice(string);
+    last.length = entry.length;
 }
 
 impl<'a, S: Store> FrontWalk<'a, S> {
@@ -116,7 +126,7 @@ impl<'a, S: Store> FrontWalk<'a, S> {
         };
         match read_entry(&mut self.feed, store, at, &self.last, out) {
             Ok(Some(size)) => {
-                self.last = *out;
+                keep_string(&mut self.last, out);
                 self.place += size;
                 self.done += 1;
                 Ok(true)

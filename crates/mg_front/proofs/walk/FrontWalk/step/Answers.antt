@@ -8,7 +8,7 @@ returns-then-self g c = c.end.ensures c.args.out.now
 pub returns-in-Ok-Some : goal.returns-in-Ok-Some
 returns-in-Ok-Some g c =
     let below : c.self.inside.done < c.self.inside.count = omega arith in
-    rw (← c.self.view_is) (stepped_more c.in-Ok-Some.size below (rw c.in-Ok-Some.field-0-is at c.in-Ok-Some.ensures) refl refl refl refl refl)
+    rw (← c.self.view_is) (stepped_more c.in-Ok-Some.size below (rw c.in-Ok-Some.field-0-is at c.in-Ok-Some.ensures) refl refl refl refl c.keep_string.ensures)
 
 pub returns-in-Ok-None : goal.returns-in-Ok-None
 returns-in-Ok-None g c =
