@@ -1,6 +1,6 @@
 -- A writer of front-coded entries: what contracts see of it, and which entries it took.
 use Rattle.std.specs.Prelude.{◌≡◌, ◌≢◌, ◌++◌, ◌∷◌, ℕ, List, [], length, None, Some, OnOk}
-use Rattle.std.specs.Option.{IsSome, ForSome}
+use Rattle.std.specs.Option.{IsSome, ForSome, is_some}
 use Rattle.std.specs.declared.option.Option.{Option}
 use Rattle.std.specs.declared.result.Result.{Result}
 use Rattle.mg_dev.specs.declared.device.PutErr.{PutErr}
@@ -102,6 +102,19 @@ WroteToAsked (Some name) before now reads reads_now = WroteTo name before now re
 abbrev pub IsNotAsked : List ℕ → List ℕ → Option (List ℕ) → Type 0
 IsNotAsked n strings None = n ≢ strings
 IsNotAsked n strings (Some places) = (n ≢ strings) × (n ≢ places)
+
+-- a call that writes a writer's own files, of which these names are none, and reads nothing
+pub record WritesFront {T : Type 0} (is_other : List ℕ → Type 0) (result : Result T PutErr)
+    (files_before files_now : Option Files) (reads_before reads_now : Reads) (faults_before faults_now : ℕ) : Type 0
+  where
+    -- each other file is as before
+    pub others : (n : List ℕ) → is_other n → SameAt files_before files_now n
+    -- the store tells its files where it told them before
+    pub told : is_some files_now ≡ is_some files_before
+    -- no part was read
+    pub reads : SameReads reads_before reads_now
+    -- a refusal has a cause
+    pub cause : HasPutCause faults_before faults_now result
 
 -- the file of the places, where there is one, holds those of these entries
 abbrev pub PlacesHold : Option Writing → Option Files → List Entry → Type 0

@@ -4,7 +4,7 @@ ghost use Rattle.mg_bits.specs.Pages.{Fits};
 ghost use Rattle.mg_defs.specs.Numbers.{four};
 ghost use Rattle.mg_defs.specs.Front.{Entry};
 ghost use Rattle.mg_front.specs.Entries.{entry_of, string_of};
-ghost use Rattle.mg_front.specs.Reading.{Fronted, FrontFits, FrontStands, AnswersAt, AnswersBlock, AnswersFind, AnswersIn, IsNotBad, IsInBlock, IsLost, IsLostAmong, IsReader, LookedAt, ReaderLooked, ReadsPlace, SameParts, GivesEntry, ScansBlock, AnswersPlacesOf, AtBlock, ExpectsPlaces, WherePlacesStand, ReaderLooks};
+ghost use Rattle.mg_front.specs.Reading.{Fronted, FrontFits, FrontStands, AnswersAt, AnswersBlock, AnswersFind, AnswersIn, IsNotBad, IsInBlock, IsLost, IsLostAmong, IsReader, ReaderLooked, ReadsPlace, GivesEntry, ScansBlock, AnswersPlacesOf, AtBlock, ExpectsPlaces, WherePlacesStand};
 ghost use Rattle.mg_dev.specs.Files.{SameReads, bytes_at};
 ghost use Rattle.mg_front.specs.Looks.{ReadsUpTo, halvings, looks};
 ghost use Rattle.mg_front.specs.Stood.{BlockStands, EntryStands, FindStands, InStands, IsReadAt, ScanStands};
@@ -253,10 +253,8 @@ impl<'a, S: Store> FrontReader<'a, S> {
     pub fn at(&mut self, store: &mut S, i: u32, out: &mut FrontEntry) -> Result<(), PartErr>
         requires fits { FrontFits self.old (S.files store.old) }
         requires below { i < self.old.count }
-        ensures fits { FrontFits self.new (S.files store.new) }
-        ensures same { SameParts self.old self.new }
-        ensures looked { Between S.files S.reads S.faults store.old store.new
-            (LookedAt self.old.strings.part self.old.places.part) }
+        ensures step { Between S.files S.reads S.faults store.old store.new
+            (ReaderLooked self.old self.new 1 result) }
         ensures entry { (es : List Entry) → FrontStands self.old (S.files store.old) es →
             AnswersAt result self.old.width i out.new es }
         // Whatever the parts hold, the entry stands there.
@@ -265,9 +263,6 @@ impl<'a, S: Store> FrontReader<'a, S> {
             (entry_of self.old.width out.new)) }
         ensures bad { IfErr result (λ refusal.
             IsLost refusal self.old (S.files store.old) (i / 4)) }
-        ensures memory { result ≢ Err PartErr.Memory }
-        ensures reads { ReaderLooks self.old (S.reads store.old) (S.reads store.new) 1 }
-        ensures cause { HasPartCause (S.faults store.old) (S.faults store.new) result }
     {
         let place = match place_of(&mut self.places, store, i / 4) {
             Ok(place) => place,
@@ -298,20 +293,14 @@ impl<'a, S: Store> FrontReader<'a, S> {
         out: &mut FrontEntry,
     ) -> Result<Option<u32>, PartErr>
         requires fits { FrontFits self.old (S.files store.old) }
-        ensures fits { FrontFits self.new (S.files store.new) }
-        ensures same { SameParts self.old self.new }
-        ensures looked { Between S.files S.reads S.faults store.old store.new
-            (LookedAt self.old.strings.part self.old.places.part) }
+        ensures step { Between S.files S.reads S.faults store.old store.new
+            (ReaderLooked self.old self.new (looks self.old.count) result) }
         ensures found { (es : List Entry) → FrontStands self.old (S.files store.old) es →
             AnswersFind result self.old.width string.now out.new es }
         // Whatever the parts hold, the entry stands, or those around the string do.
         ensures stood { IsSome (S.files store.old) → IfOk result
             (FindStands self.old (S.files store.old) string.now out.new) }
         ensures bad { IfErr result (λ refusal. IsLostAmong refusal self.old (S.files store.old)) }
-        ensures memory { result ≢ Err PartErr.Memory }
-        ensures reads { ReaderLooks self.old (S.reads store.old) (S.reads store.new)
-            (looks self.old.count) }
-        ensures cause { HasPartCause (S.faults store.old) (S.faults store.new) result }
     {
         let block = match self.block_of(store, string, out) {
             Ok(Some(block)) => block,

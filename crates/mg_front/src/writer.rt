@@ -1,12 +1,11 @@
 //! Entries into a part, in order.
-ghost use Rattle.std.specs.Prelude.{◌≡◌, ◌≢◌, ◌≤◌, ◌<◌, ◌+◌, ◌^◌, List, ℕ, [], IfOk, OnOk, length, take, None, Some};
-ghost use Rattle.std.specs.Option.{is_some, option_map, ForSome};
-ghost use Rattle.mg_dev.specs.Files.{written, SameReads};
+ghost use Rattle.std.specs.Prelude.{◌≡◌, ◌≢◌, ◌≤◌, ◌<◌, ◌+◌, ◌^◌, List, [], IfOk, OnOk, length, take, None, Some};
+ghost use Rattle.std.specs.Option.{option_map, ForSome};
+ghost use Rattle.mg_dev.specs.Files.{written};
 ghost use Rattle.mg_dev.specs.Causes.{HasPutCause};
 ghost use Rattle.mg_dev.specs.Moments.{Between};
 ghost use Rattle.mg_defs.specs.Front.{Entry, IsEntry};
-ghost use Rattle.mg_front.specs.Fronting.{TookAlso, Took, IsOther, StartedPlaces, WroteToAsked, IsNotAsked, HoldsNothing, PutsPlaces, with_empty, FinishedAll};
-ghost use Rattle.mg_bits.specs.Alike.{SameAt};
+ghost use Rattle.mg_front.specs.Fronting.{TookAlso, Took, IsOther, StartedPlaces, WroteToAsked, WritesFront, IsNotAsked, HoldsNothing, PutsPlaces, with_empty, FinishedAll};
 ghost use Rattle.mg_dev.specs.Names.{file_name};
 
 use crate::put::{put_entry, put_place};
@@ -103,11 +102,9 @@ impl<'a> FrontWriter<'a> {
         ensures places { IfOk result (λ writer. option_map (λ places. places.name) writer.places
             ≡ option_map file_name places.entry) }
         ensures width { IfOk result (λ writer. writer.width ≡ width) }
-        ensures others { (n : List ℕ) → IsNotAsked n (file_name strings.entry)
-            (option_map file_name places.entry) → SameAt (S.files store.old) (S.files store.new) n }
-        ensures told { is_some (S.files store.new) ≡ is_some (S.files store.old) }
-        ensures reads { SameReads (S.reads store.old) (S.reads store.new) }
-        ensures cause { HasPutCause (S.faults store.old) (S.faults store.new) result }
+        ensures step { Between S.files S.reads S.faults store.old store.new
+            (WritesFront (λ n. IsNotAsked n (file_name strings.entry)
+            (option_map file_name places.entry)) result) }
     {
         let string_writer = match PageWriter::start(alloc, store, strings) {
             Ok(writer) => writer,
@@ -148,11 +145,8 @@ impl<'a> FrontWriter<'a> {
         ensures places { OnOk result (option_map (λ places. places.name) self.new.places
             ≡ option_map (λ places. places.name) self.old.places) }
         ensures width { self.new.width ≡ self.old.width }
-        ensures others { (n : List ℕ) → IsOther n self.old.strings.name self.old.places →
-            SameAt (S.files store.old) (S.files store.new) n }
-        ensures told { is_some (S.files store.new) ≡ is_some (S.files store.old) }
-        ensures reads { SameReads (S.reads store.old) (S.reads store.new) }
-        ensures cause { HasPutCause (S.faults store.old) (S.faults store.new) result }
+        ensures step { Between S.files S.reads S.faults store.old store.new
+            (WritesFront (λ n. IsOther n self.old.strings.name self.old.places) result) }
     {
         put_place(&mut self.places, store, self.count, self.place)?;
         let size = put_entry(
@@ -177,11 +171,8 @@ impl<'a> FrontWriter<'a> {
         ensures finished { OnOk result
             (FinishedAll self.old (S.files store.old) (S.files store.new)) }
         ensures width { self.new.width ≡ self.old.width }
-        ensures others { (n : List ℕ) → IsOther n self.old.strings.name self.old.places →
-            SameAt (S.files store.old) (S.files store.new) n }
-        ensures told { is_some (S.files store.new) ≡ is_some (S.files store.old) }
-        ensures reads { SameReads (S.reads store.old) (S.reads store.new) }
-        ensures cause { HasPutCause (S.faults store.old) (S.faults store.new) result }
+        ensures step { Between S.files S.reads S.faults store.old store.new
+            (WritesFront (λ n. IsOther n self.old.strings.name self.old.places) result) }
     {
         match self.strings.finish(store) {
             Ok(()) => {}

@@ -28,16 +28,11 @@ returns-in-Err g c =
     let looked = looked_place fits c.in-Err.ensures in
     rw (← c.self.view_is)
     (record {
-      fits = looked.fits;
-      same = looked.same;
-      looked = looked.looked;
+      step = looked;
       entry = λ es stands. only_device (λ (refusal : PartErr). AnswersAt {T = Unit {0}} (Err refusal) c.self.inside.width c.args.i c.args.out.now es) _ _ es (c.args.i / 4)
           c.in-Err.refusal tt stands (first_of_block c.args.i c.self.inside.count es below stands.count) c.in-Err.ensures.answer;
       stood = λ told. tt;
       bad = lost_place own (g.S.Store.files c.args.store.now) (c.args.i / 4) c.in-Err.refusal c.in-Err.ensures.answer;
-      memory = looked.memory;
-      reads = looked.reads;
-      cause = looked.cause;
     })
 
 pub returns-in-Ok-true : goal.returns-in-Ok-true
@@ -49,9 +44,7 @@ returns-in-Ok-true g c =
     let looked = looked_ok tt fits c.in-Ok.ensures e.read in
     rw (← c.self.view_is)
     (record {
-      fits = looked.fits;
-      same = looked.same;
-      looked = looked.looked;
+      step = looked;
       entry = λ es stands.
           let within = in_block c.args.i c.self.inside.count es below stands.count in
           ap (slice_get es) (sym (whole c.args.i)) ∙ (at_block own es (c.args.i / 4) c.in-Ok.place stands (first_of_block c.args.i c.self.inside.count es below stands.count)
@@ -59,9 +52,6 @@ returns-in-Ok-true g c =
       stood = λ told. entry_stands own (c.args.i / 4) (c.args.i % 4) c.in-Ok.place _ c.in-Ok.ensures.looked.files told c.in-Ok.ensures.answer
           (λ known. e.stood known c.in-Ok-true.field-0-test);
       bad = tt;
-      memory = looked.memory;
-      reads = looked.reads;
-      cause = looked.cause;
     })
 
 pub returns-in-Err-read_block : goal.returns-in-Err-read_block
@@ -71,15 +61,10 @@ returns-in-Err-read_block g c =
     let looked = looked_failed fits c.in-Ok.ensures e.read in
     rw (← c.self.view_is)
     (record {
-      fits = looked.fits;
-      same = looked.same;
-      looked = looked.looked;
+      step = looked;
       entry = λ es stands. tt;
       stood = λ told. tt;
       bad = tt;
-      memory = looked.memory;
-      reads = looked.reads;
-      cause = looked.cause;
     })
 
 pub returns : goal.returns
@@ -91,9 +76,7 @@ returns g c =
     let looked = looked_bad _ fits c.in-Ok.ensures e.read in
     rw (← c.self.view_is)
     (record {
-      fits = looked.fits;
-      same = looked.same;
-      looked = looked.looked;
+      step = looked;
       entry = λ es stands.
           let within = in_block c.args.i c.self.inside.count es below stands.count in
           clash c.in-Ok-false.field-0 c.in-Ok-false.field-0-test
@@ -104,7 +87,4 @@ returns g c =
         small = c.in-Ok.ensures.answer.0;
         told = λ told. c.in-Ok.ensures.answer.1 told;
       });
-      memory = looked.memory;
-      reads = looked.reads;
-      cause = looked.cause;
     })

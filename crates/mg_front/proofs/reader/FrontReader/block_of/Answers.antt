@@ -43,13 +43,13 @@ loop-low-preserved g c =
     (div_ceil c.args.self.now.count 4) c.lower-low.result c.higher-high.result c.lower-low.ensures c.higher-high.ensures inv.high (omega arith)
     (omega arith) in
     record {
-      fits = at.fits;
-      same = same_again inv.same at.same;
-      looked = looked_again inv.looked at.looked inv.same.strings_part inv.same.places_part;
+      fits = at.step.fits;
+      same = same_again inv.same at.step.same;
+      looked = looked_again inv.looked at.step.looked inv.same.strings_part inv.same.places_part;
       high = room.0;
       low = room.1;
       reads = λ apart.
-          let one = look_as inv.same.strings_part inv.same.places_part apart at.reads in
+          let one = look_as inv.same.strings_part inv.same.places_part apart at.step.reads in
           halved_more (omega arith) (under_half c.is_below-above.result c.loop-low.low c.loop-low.high _ _ c.lower-low.ensures
           c.higher-high.ensures (omega arith)) (inv.reads apart) one;
       between = λ es stands.
@@ -78,12 +78,12 @@ returns-in-Err-clause-step g c =
     let inv = c.loop-low.invariant in
     let at = c.in-Err.ensures in
     record {
-      fits = at.fits;
-      same = same_again inv.same at.same;
-      looked = looked_again inv.looked at.looked inv.same.strings_part inv.same.places_part;
-      reads = λ apart. halved_look (omega arith) (inv.reads apart) (look_as inv.same.strings_part inv.same.places_part apart at.reads);
-      memory = memory_for _ at.memory;
-      cause = cause_err inv.looked.faults at.cause;
+      fits = at.step.fits;
+      same = same_again inv.same at.step.same;
+      looked = looked_again inv.looked at.step.looked inv.same.strings_part inv.same.places_part;
+      reads = λ apart. halved_look (omega arith) (inv.reads apart) (look_as inv.same.strings_part inv.same.places_part apart at.step.reads);
+      memory = memory_for _ at.step.memory;
+      cause = cause_err inv.looked.faults at.step.cause;
     }
 
 pub returns-then-low-eq0-clause-step : goal.returns-then-low-eq0-clause-step

@@ -29,13 +29,13 @@ returns-in-Err-clause-found g c =
     (c.in-Err.ensures.found (lexicon collection) (front_stands _ _ collection c.self.invariant.0 stands)))
 
 pub returns-clause-reads : goal.returns-clause-reads
-returns-clause-reads g c = rw (← c.self.view_is) (parts_read c.self.inside.front _ _ _ c.self.invariant.1 c.self.invariant.2 c.in-Ok-Some.ensures.reads)
+returns-clause-reads g c = rw (← c.self.view_is) (parts_read c.self.inside.front _ _ _ c.self.invariant.1 c.self.invariant.2 c.in-Ok-Some.ensures.step.reads)
 
 pub returns-in-Ok-None-clause-reads : goal.returns-in-Ok-None-clause-reads
-returns-in-Ok-None-clause-reads g c = rw (← c.self.view_is) (parts_read c.self.inside.front _ _ _ c.self.invariant.1 c.self.invariant.2 c.in-Ok-None.ensures.reads)
+returns-in-Ok-None-clause-reads g c = rw (← c.self.view_is) (parts_read c.self.inside.front _ _ _ c.self.invariant.1 c.self.invariant.2 c.in-Ok-None.ensures.step.reads)
 
 pub returns-in-Err-clause-reads : goal.returns-in-Err-clause-reads
-returns-in-Err-clause-reads g c = rw (← c.self.view_is) (parts_read c.self.inside.front _ _ _ c.self.invariant.1 c.self.invariant.2 c.in-Err.ensures.reads)
+returns-in-Err-clause-reads g c = rw (← c.self.view_is) (parts_read c.self.inside.front _ _ _ c.self.invariant.1 c.self.invariant.2 c.in-Err.ensures.step.reads)
 
 pub returns-clause-info : goal.returns-clause-info
 returns-clause-info g c =

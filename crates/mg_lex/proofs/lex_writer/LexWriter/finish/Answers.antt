@@ -13,9 +13,9 @@ returns-clause-finished g c = rw (← c.self.view_is) (λ ts took told. finished
 pub returns-clause-others : goal.returns-clause-others
 returns-clause-others g c =
     let took = rw (← c.self.view_is) at c.requires.took in
-    rw (← c.self.view_is) (λ n lex lex_at. c.in_ok-finish.ensures.others n (other_name _ _ _ n took.1 lex lex_at))
+    rw (← c.self.view_is) (λ n lex lex_at. c.in_ok-finish.ensures.step.others n (other_name _ _ _ n took.1 lex lex_at))
 
 pub returns-in_err-finish-clause-others : goal.returns-in_err-finish-clause-others
 returns-in_err-finish-clause-others g c =
     let took = rw (← c.self.view_is) at c.requires.took in
-    rw (← c.self.view_is) (λ n lex lex_at. c.finish.ensures.others n (other_name _ _ _ n took.1 lex lex_at))
+    rw (← c.self.view_is) (λ n lex lex_at. c.finish.ensures.step.others n (other_name _ _ _ n took.1 lex lex_at))

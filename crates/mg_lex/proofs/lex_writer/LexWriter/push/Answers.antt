@@ -28,9 +28,9 @@ returns-clause-took g c =
 pub returns-clause-others : goal.returns-clause-others
 returns-clause-others g c =
     let took = rw (← c.self.view_is) at c.requires.took in
-    rw (← c.self.view_is) (λ n lex lex_at. c.in_ok-push.ensures.others n (other_name _ _ _ n took.1 lex lex_at))
+    rw (← c.self.view_is) (λ n lex lex_at. c.in_ok-push.ensures.step.others n (other_name _ _ _ n took.1 lex lex_at))
 
 pub returns-in_err-push-clause-others : goal.returns-in_err-push-clause-others
 returns-in_err-push-clause-others g c =
     let took = rw (← c.self.view_is) at c.requires.took in
-    rw (← c.self.view_is) (λ n lex lex_at. c.push.ensures.others n (other_name _ _ _ n took.1 lex lex_at))
+    rw (← c.self.view_is) (λ n lex lex_at. c.push.ensures.step.others n (other_name _ _ _ n took.1 lex lex_at))

@@ -43,11 +43,11 @@ loop-symbol-preserved g c =
       name = push.name ∙ inv.name;
       alone = push.places ∙ inv.alone;
       width = push.width ∙ inv.width;
-      later = omega (arith, inv.later, push.cause.later);
+      later = omega (arith, inv.later, push.step.cause.later);
       wrote = record {
-        told = push.told ∙ inv.wrote.told;
-        others = λ n apart. push.others n (is-other n _ c.loop-symbol.writer.places inv.alone (λ e. apart (e ∙ inv.name))) ∙ inv.wrote.others n apart;
-        reads = λ p. push.reads p ∙ inv.wrote.reads p;
+        told = push.step.told ∙ inv.wrote.told;
+        others = λ n apart. push.step.others n (is-other n _ c.loop-symbol.writer.places inv.alone (λ e. apart (e ∙ inv.name))) ∙ inv.wrote.others n apart;
+        reads = λ p. push.step.reads p ∙ inv.wrote.reads p;
       };
     }
 
