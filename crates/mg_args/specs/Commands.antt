@@ -10,6 +10,7 @@ use Rattle.clap.specs.declared.builder.command.Command.TheViews.{out-Command}
 use Rattle.clap.specs.Words.{IsPlain, IsParsedFrom, first_value, found_of, IsPlainArg, args_of, rule_of, App, Rule, Row, Kinds, new_app, new_rule, with_rule, matches_of, rows_of, first_of, one_of, fault_of}
 use Rattle.clap.specs.declared.builder.value_parser.ValueParser.TheVariants as parser
 use Rattle.clap.specs.declared.builder.ArgAction.TheVariants as action
+use Rattle.mg_defs.specs.Limits.{least_budget, greatest_budget, trial_documents}
 use Rattle.mg_args.specs.Plain.{Word}
 
 abbrev pub name_rule : Word → Rule
@@ -22,12 +23,16 @@ number_rule id low high = record (new_rule id) {
   parser = Some (parser.Unsigned low high);
 }
 
+-- how the default is written
+abbrev pub default_text : Word
+default_text = codes "16777216"
+
 abbrev pub budget_rule : Rule
 budget_rule = record (new_rule (codes "budget")) {
   long = Some (codes "budget");
   action = Some action.Set;
-  parser = Some (parser.Unsigned 4096 1073741824);
-  defaults = codes "16777216" ∷ [];
+  parser = Some (parser.Unsigned least_budget greatest_budget);
+  defaults = default_text ∷ [];
 }
 
 -- `TOOL NAME`
@@ -61,7 +66,7 @@ merge_names = codes "first" ∷ codes "second" ∷ codes "new" ∷ []
 -- `trial SEED DOCS`
 abbrev pub trial_app : App
 trial_app = with_rule (with_rule (new_app (codes "trial")) (number_rule (codes "seed") 0 18446744073709551615))
-    (number_rule (codes "docs") 1 20000)
+    (number_rule (codes "docs") 1 trial_documents)
 
 -- the kinds of error that a command may give at the words, none where it takes them
 unfoldable pub faults : App → List Word → Kinds

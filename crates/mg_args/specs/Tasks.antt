@@ -5,11 +5,12 @@ use Rattle.std.specs.declared.result.Result.{Result}
 use Rattle.std.specs.Str.{bytes_eq}
 use Rattle.clap.specs.Words.{App, Row}
 use Rattle.clap.specs.declared.parser.matches.ArgMatches.{ArgMatches}
+use Rattle.mg_defs.specs.Limits.{default_budget, trial_documents}
 use Rattle.mg_args.specs.declared.name_tool.NameTool.{NameTool}
 use Rattle.mg_args.specs.declared.name_tool.NameTool.TheVariants as named
 use Rattle.mg_args.specs.declared.task.Task.{Task as Request}
 use Rattle.mg_args.specs.declared.task.Task.TheVariants as request
-use Rattle.mg_args.specs.Plain.{Word, is_plain_name, plain_number, default_budget, IsBudget, budget_in_one, budget_in_two}
+use Rattle.mg_args.specs.Plain.{Word, is_plain_name, plain_number, IsBudget, budget_in_one, budget_in_two}
 use Rattle.mg_args.specs.Commands.{name_app, build_app, build_names, trial_app, migrate_app, migrate_names, merge_app, merge_names, name_in, number_in, rows_in, if_taken, WhereGiven, HasEmpty, IsRefusedBy}
 
 -- a tool, and the values of its arguments
@@ -49,7 +50,7 @@ plain_build words = None
 
 abbrev pub plain_trial : List Word → Option Task
 plain_trial (seed ∷ docs ∷ []) =
-    option_and_then (λ s. option_map (trial s) (plain_number 1 20000 docs)) (plain_number 0 18446744073709551615 seed)
+    option_and_then (λ s. option_map (trial s) (plain_number 1 trial_documents docs)) (plain_number 0 18446744073709551615 seed)
 plain_trial words = None
 
 abbrev pub plain_migrate : List Word → Option Task
@@ -150,7 +151,7 @@ as_task (request.Merge first second new) = merge first.now second.now new.now
 -- the budget, and the number of documents, lie within their bounds
 abbrev pub IsWithin : Task → Type 0
 IsWithin (build collection name budget) = IsBudget budget
-IsWithin (trial seed docs) = (1 ≤ docs) × (docs ≤ 20000)
+IsWithin (trial seed docs) = (1 ≤ docs) × (docs ≤ trial_documents)
 IsWithin other = ⊤
 
 -- What is asked is this, or nothing.

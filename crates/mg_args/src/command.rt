@@ -1,12 +1,14 @@
 //! The tools' commands: arguments, ranges and the default, as `clap` reads them.
 ghost use Rattle.std.specs.Prelude.{◌≡◌, ◌≢◌, IfOk, OnOk, IsErrOf, [], codes, map, string_bytes, true};
 ghost use Rattle.clap.specs.Words.{app_of, is_simple, is_simple_and_free, rows_of, found_of, kind_of, IsParsedFrom};
+ghost use Rattle.mg_defs.specs.Limits.{least_budget, greatest_budget, trial_documents};
 ghost use Rattle.mg_args.specs.declared.command.NotTaken.TheVariants.{Memory};
 ghost use Rattle.mg_args.specs.Commands.{faults, rows, name_rule, number_rule, budget_rule, name_app, build_app, trial_app, migrate_app, merge_app, IsArg, TakesNumbers, IsPlainCommand, Gives, IsOwnId};
 
 use clap::builder::ValueParser;
 use clap::error::ErrorKind;
 use clap::{Arg, ArgAction, ArgMatches, Command, Error};
+use mg_defs::{GREATEST_BUDGET, LEAST_BUDGET, TRIAL_DOCUMENTS};
 use std::alloc::{AllocError, Global};
 
 /// Why a command did not take the words.
@@ -77,7 +79,7 @@ fn budget_arg(alloc: Global) -> Arg<'static>
     Arg::new(alloc, "budget")
         .long("budget")
         .action(ArgAction::Set)
-        .value_parser(ValueParser::unsigned(4096, 1_073_741_824))
+        .value_parser(ValueParser::unsigned(LEAST_BUDGET, GREATEST_BUDGET))
         .default_value("16777216")
 }
 
@@ -99,7 +101,7 @@ pub fn build_command<'a>(alloc: Global) -> Result<Command<'a>, AllocError>
     ensures app { IfOk result (λ c. app_of c ≡ build_app) }
     ensures plain { IfOk result IsPlainCommand }
     ensures given { IfOk result (λ c. Gives c (codes "collection") × Gives c (codes "name")) }
-    ensures budget { IfOk result (λ c. TakesNumbers c (codes "budget") 4096 1073741824) }
+    ensures budget { IfOk result (λ c. TakesNumbers c (codes "budget") least_budget greatest_budget) }
 {
     Command::new(alloc, "build")
         .arg(name_arg(alloc, "collection"))?
@@ -113,11 +115,11 @@ pub fn trial_command<'a>(alloc: Global) -> Result<Command<'a>, AllocError>
     ensures plain { IfOk result IsPlainCommand }
     ensures given { IfOk result (λ c. Gives c (codes "seed") × Gives c (codes "docs")) }
     ensures seed { IfOk result (λ c. TakesNumbers c (codes "seed") 0 18446744073709551615) }
-    ensures docs { IfOk result (λ c. TakesNumbers c (codes "docs") 1 20000) }
+    ensures docs { IfOk result (λ c. TakesNumbers c (codes "docs") 1 trial_documents) }
 {
     Command::new(alloc, "trial")
         .arg(number_arg(alloc, "seed", 0, 18_446_744_073_709_551_615))?
-        .arg(number_arg(alloc, "docs", 1, 20_000))
+        .arg(number_arg(alloc, "docs", 1, TRIAL_DOCUMENTS))
 }
 
 /// The command of `migrate NAME NEW`.

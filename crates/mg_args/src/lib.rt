@@ -4,7 +4,7 @@
 //! tool's names and numbers in order, are read by a rule of their own, so that no name or number that
 //! is written plainly is ever refused. All other words go to the tool's command of `clap`, which has
 //! exactly the tool's arguments: it takes names behind `--`, and numbers with a plus or leading zeros.
-//! The crate stands on no other crate of the workspace, so an edit of a tool does not prove it again.
+//! Of the workspace the crate stands on mg_defs alone, so an edit of a tool does not prove it again.
 #![tactic(auto)]
 
 mod command;

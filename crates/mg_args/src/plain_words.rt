@@ -6,15 +6,13 @@ ghost use Rattle.mg_args.specs.Tasks.{Asks, plain_name as plain_name_spec, plain
 
 use crate::plain::{is_plain_name, plain_number};
 use crate::task::Task;
-
-/// The budget where none is given.
-pub const DEFAULT_BUDGET: u64 = 16_777_216;
+use mg_defs::{DEFAULT_BUDGET, GREATEST_BUDGET, LEAST_BUDGET, TRIAL_DOCUMENTS};
 
 fn plain_budget(bytes: &str) -> Option<u64>
     ensures is { result ≡ plain_budget_spec bytes.now }
     ensures within { IfSome result IsBudget }
 {
-    plain_number(bytes, 4096, 1_073_741_824)
+    plain_number(bytes, LEAST_BUDGET, GREATEST_BUDGET)
 }
 
 /// The budget of the one word `--budget=BYTES`.
@@ -118,7 +116,7 @@ pub fn plain_trial(words: &[String]) -> Option<Task<'_>>
     let Some(seed) = plain_number(seed.as_str(), 0, u64::MAX) else {
         return None;
     };
-    let Some(docs) = plain_number(docs.as_str(), 1, 20_000) else {
+    let Some(docs) = plain_number(docs.as_str(), 1, TRIAL_DOCUMENTS) else {
         return None;
     };
     Some(Task::Trial {

@@ -2,6 +2,7 @@
 ghost use Rattle.std.specs.Prelude.{◌≡◌, ℕ, List, ◌∷◌, [], ◌≢◌, IfOk, Some, None, codes, map, string_bytes};
 ghost use Rattle.std.specs.Option.{option_copied};
 ghost use Rattle.clap.specs.Words.{first_of, one_of, IsUnsignedIn};
+ghost use Rattle.mg_defs.specs.Limits.{least_budget, greatest_budget, trial_documents};
 ghost use Rattle.mg_args.specs.Commands.{name_app, build_app, build_names, trial_app, migrate_app, migrate_names, merge_app, merge_names, if_taken, name_in, number_in, rows_in, IsGiven, IsOwnId, IsRefusedBy, WritesNumber};
 ghost use Rattle.mg_args.specs.Tasks.{build_in, trial_in, migrate_in, merge_in, Asks, AsksBy, AsksIn};
 
@@ -9,9 +10,9 @@ use crate::command::{
     NotTaken, build_command, matches_by, merge_command, migrate_command, name_command,
     trial_command,
 };
-use crate::plain_words::DEFAULT_BUDGET;
 use crate::task::Task;
 use clap::ArgMatches;
+use mg_defs::DEFAULT_BUDGET;
 use std::alloc::{AllocError, Global};
 
 /// The name of this id; an empty one is no name.
@@ -77,7 +78,7 @@ pub fn build_taken<'a>(alloc: Global, words: &'a [String]) -> Result<Option<Task
 
 fn build_of<'a>(matches: &ArgMatches<'a>) -> Option<Task<'a>>
     requires { (text : List ℕ) → one_of (codes "budget") (rows_in matches.now) ≡ Some text →
-        IsUnsignedIn 4096 1073741824 text }
+        IsUnsignedIn least_budget greatest_budget text }
     ensures { AsksIn matches.now build_names (build_in (rows_in matches.now)) result }
 {
     let Some(collection) = name_of(matches, "collection") else {
@@ -114,7 +115,7 @@ fn trial_of<'a>(matches: &ArgMatches<'a>) -> Option<Task<'a>>
     requires seed { (text : List ℕ) → one_of (codes "seed") (rows_in matches.now) ≡ Some text →
         IsUnsignedIn 0 18446744073709551615 text }
     requires docs { (text : List ℕ) → one_of (codes "docs") (rows_in matches.now) ≡ Some text →
-        IsUnsignedIn 1 20000 text }
+        IsUnsignedIn 1 trial_documents text }
     ensures there { IsGiven matches.now (codes "seed") → IsGiven matches.now (codes "docs") →
         result ≢ None }
     ensures asks { Asks result (trial_in (rows_in matches.now)) }

@@ -1,5 +1,6 @@
 use Rattle.std.proofs.Common.{◌≡◌, codes, ap, arith, slice_index, refl}
 use Rattle.std.proofs.lemmas.Result.{IfOk-weaker}
+use Rattle.mg_defs.specs.Limits.{least_budget, greatest_budget}
 use Rattle.mg_args.specs.Commands.{Gives, name_rule, budget_rule}
 use Rattle.mg_args.proofs.CommandLaws.{app_more, plain_start, plain_more, numbers_start, numbers_other, numbers_here}
 use Rattle.mg_args.proofs.GivenLaws.{new_start, new_more, wants_here, wants_more, given_by}
@@ -20,12 +21,12 @@ returns-clause-plain c = IfOk-weaker _ _ _ (λ n added.
 
 pub returns-clause-budget : goal.returns-clause-budget
 returns-clause-budget c = IfOk-weaker _ _ _ (λ n added.
-    numbers_here _ n _ budget_rule (codes "budget") 4096 1073741824 added c.budget_arg.ensures refl
-    (numbers_other _ _ _ (name_rule (codes "name")) (codes "budget") 4096 1073741824 c.in_ok-arg-2.ensures c.name_arg-2.ensures
+    numbers_here _ n _ budget_rule (codes "budget") least_budget greatest_budget added c.budget_arg.ensures refl
+    (numbers_other _ _ _ (name_rule (codes "name")) (codes "budget") least_budget greatest_budget c.in_ok-arg-2.ensures c.name_arg-2.ensures
     (λ e. let bad : 110 ≡ 98 = ap (λ l. slice_index l 0) e in absurd (omega (arith, bad)))
-    (numbers_other _ _ _ (name_rule (codes "collection")) (codes "budget") 4096 1073741824 c.in_ok-arg.ensures c.name_arg.ensures
+    (numbers_other _ _ _ (name_rule (codes "collection")) (codes "budget") least_budget greatest_budget c.in_ok-arg.ensures c.name_arg.ensures
     (λ e. let bad : 99 ≡ 98 = ap (λ l. slice_index l 0) e in absurd (omega (arith, bad)))
-    (numbers_start _ (codes "budget") 4096 1073741824 c.new.ensures.empty.0)))) c.arg-3.ensures
+    (numbers_start _ (codes "budget") least_budget greatest_budget c.new.ensures.empty.0)))) c.arg-3.ensures
 
 pub returns-clause-given : goal.returns-clause-given
 returns-clause-given c = IfOk-weaker _ _ (λ n. Gives n (codes "collection") × Gives n (codes "name")) (λ n added. (
