@@ -36,6 +36,7 @@ impl<'p> PhraseCount<'p> {
         requires { length phrase.now ≤ 64 }
         ensures phrase { result.phrase ≡ phrase.entry.now }
         ensures none { result.places ≡ 0 }
+        ensures begun { result.begun ≡ [] }
         ensures count { (doc : List ℕ) →
             places_with result (words_of doc) ≡ phrase_places phrase.entry.now doc }
     {
