@@ -1,5 +1,5 @@
 -- Two texts that are read: what stands of them, and what their documents are.
-use Rattle.std.proofs.Common.{arith, ◌≡◌, ◌+◌, ◌-◌, ◌≤◌, ◌<◌, ℕ, Bool, true, false, List, [], ◌∷◌, ◌++◌, length, get_or, Option, Ok, Err, is_some, refl, sym, ◌∙◌, ap, subst, append-nil}
+use Rattle.std.proofs.Common.{arith, ◌≡◌, ◌+◌, ◌-◌, ◌≤◌, ◌<◌, ℕ, Bool, true, false, List, [], ◌∷◌, ◌++◌, length, Option, Ok, Err, is_some, refl, sym, ◌∙◌, ap, subst, append-nil}
 use Rattle.std.specs.Prelude.{OnOk, Result}
 use Rattle.mg_dev.specs.Faults.{ReadStops, fault_of_part}
 use Rattle.mg_dev.specs.Files.{Files, file_at}

@@ -1,6 +1,6 @@
 -- The sums of documents, as the lists of terms are gone through.
 use Rattle.std.proofs.Common.{arith, ◌≡◌, ◌+◌, ◌-◌, ◌*◌, ◌^◌, ◌≤◌, ◌<◌, ℕ, Bool, true, false, List, [], ◌∷◌, ◌++◌}
-use Rattle.std.proofs.Common.{length, get_or, take, drop, refl, sym, ap, subst, ◌∙◌, inl, inr, Some, None, nat_eq, unwrap_or, sum_by, filter, if◌then◌else◌}
+use Rattle.std.proofs.Common.{length, take, drop, refl, sym, ap, subst, ◌∙◌, inl, inr, Some, None, nat_eq, unwrap_or, sum_by, filter, if◌then◌else◌}
 use Rattle.std.specs.Prelude.{◌||◌, nat_lt}
 use Rattle.std.specs.List.{list_any}
 use Rattle.std.specs.Map.{lookup}

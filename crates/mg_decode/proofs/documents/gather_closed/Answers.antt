@@ -1,5 +1,4 @@
-use Rattle.std.proofs.Common.{◌++◌, ◌-◌, get_or, [], subst}
-use Rattle.mg_defs.specs.Split.{documents}
+use Rattle.std.proofs.Common.{◌++◌, subst}
 use Rattle.mg_defs.specs.Terms.{document}
 use Rattle.mg_text.specs.Decoding.{Gathers, Shown}
 use Rattle.mg_text.proofs.CallerLemmas.{adds_more}
