@@ -18,7 +18,7 @@ use Rattle.mg_post.specs.Cursor.{Cursoring, SameList}
 use Rattle.mg_post.proofs.CallerLemmas.{first_same}
 use Rattle.mg_bool.specs.Leads.{NeedsPlace}
 use Rattle.mg_bool.specs.Matches.{Matching, SameMatches}
-use Rattle.mg_bool.specs.Places.{AreInfos, Place, SamePlace, nth_place}
+use Rattle.mg_bool.specs.Places.{Place, SamePlace, nth_place}
 use Rattle.mg_bool.specs.Shown.{AnswersShown, AreLists, DecidesShown, IsPassed, IsShown, MatchesStand, PlaceShows, SameLists, ShowsWhether}
 use Rattle.mg_layout.specs.declared.term_info.TermInfo.{TermInfo}
 use Rattle.mg_query.specs.AllOf.{IsAllOf}
@@ -29,7 +29,7 @@ use Rattle.mg_rank.specs.Ranked.{Ranking}
 use Rattle.mg_reply.specs.Pending.{Passed}
 use Rattle.mg_reply.proofs.CallerLemmas.{pass_both, pass_nothing}
 use Rattle.mg_session.specs.Answering.{known_infos}
-use Rattle.mg_session.specs.Decided.{PrintsLine, PrintsPhrase, PrintsShown, QueryPrinted, QueryPrinting, QueryToldPrinted, RowRule, TermsPrinted, TermsToldPrinted}
+use Rattle.mg_session.specs.Decided.{PrintsLine, PrintsPhrase, PrintsShown, QueryPrinted, QueryPrinting, QueryToldPrinted, RowRule, TermsPrinted, TermsTold, TermsToldPrinted}
 use Rattle.mg_session.specs.Searching.{Opened}
 use Rattle.mg_session.proofs.TotalLaws.{put_rest, put_rows}
 
@@ -229,16 +229,16 @@ terms_printed w0 w1 (Err error) is whole counted = tt
 
 -- ---- over open parts
 
-pub told_printed : {own opened : Opened} {files now : Option Files} {collection : List ℕ} {infos : List (Option TermInfo)} (q : Query) (IsRow : RowRule) (w0 w1 : Option (List ℕ))
-    (r : Result (Unit {0}) ShowErr) → own ≡ opened → now ≡ files → AreInfos collection (query_terms q) infos →
-    OnOk r (QueryPrinted q own.base now infos own.all IsRow w0 w1) → OnOk r (QueryToldPrinted collection q files opened IsRow w0 w1)
-told_printed {own} {opened} {files} {now} {collection} {infos} q IsRow w0 w1 (Ok done) is same told printed =
-    (infos, told, subst (λ (o : Opened). QueryPrinted q o.base files infos o.all IsRow w0 w1) is (subst (λ f. QueryPrinted q own.base f infos own.all IsRow w0 w1) same printed))
+pub told_printed : {own opened : Opened} {files now : Option Files} {infos : List (Option TermInfo)} (q : Query) (IsRow : RowRule) (w0 w1 : Option (List ℕ))
+    (r : Result (Unit {0}) ShowErr) → own ≡ opened → now ≡ files → TermsTold own.lex files (query_terms q) infos →
+    OnOk r (QueryPrinted q own.base now infos own.all IsRow w0 w1) → OnOk r (QueryToldPrinted q files opened IsRow w0 w1)
+told_printed {own} {opened} {files} {now} {infos} q IsRow w0 w1 (Ok done) is same told printed =
+    subst (λ (o : Opened). QueryToldPrinted q files o IsRow w0 w1) is (infos, told, subst (λ f. QueryPrinted q own.base f infos own.all IsRow w0 w1) same printed)
 told_printed q IsRow w0 w1 (Err error) is same told printed = tt
 
-pub told_ranked : {own opened : Opened} {collection : List ℕ} {ts : List (List ℕ)} {infos : List (Option TermInfo)} (w0 w1 : Option (List ℕ)) (r : Result (Unit {0}) ShowErr) →
-    own ≡ opened → AreInfos collection ts infos → OnOk r (TermsPrinted (known_infos infos) own.all w0 w1) → OnOk r (TermsToldPrinted collection ts opened w0 w1)
-told_ranked {own} {opened} {collection} {ts} {infos} w0 w1 (Ok done) is told printed = (infos, told, subst (λ (o : Opened). TermsPrinted (known_infos infos) o.all w0 w1) is printed)
+pub told_ranked : {own opened : Opened} {files : Option Files} {ts : List (List ℕ)} {infos : List (Option TermInfo)} (w0 w1 : Option (List ℕ)) (r : Result (Unit {0}) ShowErr) →
+    own ≡ opened → TermsTold own.lex files ts infos → OnOk r (TermsPrinted (known_infos infos) own.all w0 w1) → OnOk r (TermsToldPrinted ts files opened w0 w1)
+told_ranked {own} {opened} {files} {ts} {infos} w0 w1 (Ok done) is told printed = subst (λ (o : Opened). TermsToldPrinted ts files o w0 w1) is (infos, told, printed)
 told_ranked w0 w1 (Err error) is told printed = tt
 
 -- ---- a line

@@ -3,11 +3,14 @@ use Rattle.std.proofs.Common.{arith, ◌≡◌, ℕ, zero, suc, ◌+◌, ◌<◌
 use Rattle.std.specs.Prelude.{slice_index_or}
 use Rattle.std.proofs.lemmas.Bool.{cases_lt}
 use Rattle.std.specs.declared.option.Option.{Option}
+use Rattle.mg_dev.specs.Files.{Files}
 use Rattle.mg_dev.specs.declared.part_err.PartErr.{PartErr}
 use Rattle.mg_dev.specs.declared.part_err.PartErr.TheVariants.{Device, Memory, Bad}
 use Rattle.mg_bool.specs.Places.{AreInfos, IsToldOf}
+use Rattle.mg_front.specs.Reading.{Fronted}
 use Rattle.mg_layout.specs.declared.term_info.TermInfo.{TermInfo}
 use Rattle.mg_lex.specs.Reading.{AnswersInfo}
+use Rattle.mg_lex.specs.Stood.{TermTold}
 use Rattle.mg_rank.specs.Ranked.{AnswersOr}
 use Rattle.mg_session.specs.Answering.{FirstInfos, known_infos}
 
@@ -49,6 +52,18 @@ infos_more collection ts count infos o first size told = record {
 pub infos_all : (collection : List ℕ) (ts : List (List ℕ)) (count : ℕ) (infos : List (Option TermInfo)) → FirstInfos collection ts count infos →
     length infos ≡ count → count ≡ length ts → AreInfos collection ts infos
 infos_all collection ts count infos first size all = record { size = size ∙ all; each = λ k lt. first.each k (omega (arith, lt, all)) }
+
+-- what the lexicon tells of one term more
+pub told_more : (lex : Fronted) (files : Option Files) (ts : List (List ℕ)) (count : ℕ) (infos : List (Option TermInfo)) (o : Option TermInfo) → length infos ≡ count →
+    ((k : ℕ) → k < count → TermTold lex files (get_or ts k []) (slice_index_or infos k None)) → TermTold lex files (get_or ts count []) o →
+    (k : ℕ) → k < count + 1 → TermTold lex files (get_or ts k []) (slice_index_or (infos ++ o ∷ []) k None)
+told_more lex files ts count infos o size first told k lt = elim (cases_lt k count) [
+  | inl before ↦ subst (TermTold lex files (get_or ts k [])) (sym (index_before infos o None k (omega (arith, before, size)))) (first k before)
+  | inr after ↦
+      let here : k ≡ count = omega (arith, after, lt) in
+      let is : slice_index_or (infos ++ o ∷ []) k None ≡ o = ap (λ n. slice_index_or (infos ++ o ∷ []) n None) (here ∙ sym size) ∙ index_last infos o None in
+      subst (TermTold lex files (get_or ts k [])) (sym is) (subst (λ n. TermTold lex files (get_or ts n []) o) (sym here) told)
+]
 
 -- ---- those that are known
 

@@ -1,5 +1,5 @@
 -- What the lines of a session printed by the parts that were opened is told by the files alone.
-use Rattle.std.proofs.Common.{◌≡◌, ◌∙◌, ℕ, List, Some, Ok, Err, IsSome, Option, subst}
+use Rattle.std.proofs.Common.{◌≡◌, ◌∙◌, ℕ, List, Some, Ok, IsSome, Option, subst}
 use Rattle.std.specs.Prelude.{Result}
 use Rattle.mg_dev.specs.Files.{Files}
 use Rattle.mg_dev.specs.Moments.{SinkAt, SourceAt, StoreAt}

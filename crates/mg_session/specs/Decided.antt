@@ -1,5 +1,5 @@
 -- By what an answer is decided, and what is printed of it, whatever the parts have.
-use Rattle.std.specs.Prelude.{◌≡◌, ◌⊎◌, ℕ, zero, suc, ◌+◌, Bool, true, false, List, [], ◌∷◌, ◌++◌, length, None, Ok, IfSome, IsSome, OnOk}
+use Rattle.std.specs.Prelude.{◌≡◌, ◌⊎◌, ℕ, zero, suc, ◌+◌, ◌<◌, Bool, true, false, List, [], ◌∷◌, ◌++◌, length, get_or, slice_index_or, None, Ok, IfSome, IsSome, OnOk}
 use Rattle.std.specs.declared.option.Option.{Option}
 use Rattle.std.specs.declared.result.Result.{Result}
 use Rattle.mg_dev.specs.Files.{Files}
@@ -24,6 +24,7 @@ use Rattle.mg_layout.specs.Stands.{HasHead}
 use Rattle.mg_layout.specs.declared.head.Head.{Head}
 use Rattle.mg_layout.specs.declared.term_info.TermInfo.{TermInfo}
 use Rattle.mg_lex.specs.Reading.{IsLexiconReader}
+use Rattle.mg_lex.specs.Stood.{TermTold}
 use Rattle.mg_query.specs.QueryOf.{query_of}
 use Rattle.mg_rank.specs.Added.{CountsWhole}
 use Rattle.mg_rank.specs.Ranked.{Ranking}
@@ -137,26 +138,34 @@ PrintsMatches before now result files m IsRow = OnOk result ((total : ℕ) × (t
     × PrintsShown (query_of m.asks) files m.places m.lead IsRow m.all total text
     × (now ≡ appended before (text ++ count total)))
 
--- ---- over open parts, where the lexicon is that of a collection: by the lists of which it tells
+-- ---- over open parts: by the lists of which the lexicon tells
 
-abbrev pub QueryToldPrinted : List ℕ → Query → Option Files → Opened → RowRule → Option (List ℕ) → Option (List ℕ) →
-    Type 0
-QueryToldPrinted collection q files opened IsRow before now = (infos : List (Option TermInfo))
-    × AreInfos collection (query_terms q) infos × QueryPrinted q opened.base files infos opened.all IsRow before now
+-- What a lexicon told of some terms, whatever it holds.
+pub record TermsTold (lex : Fronted) (files : Option Files) (ts : List (List ℕ)) (infos : List (Option TermInfo)) :
+    Type 0 where
+  -- something of each
+  pub size : length infos ≡ length ts
+  -- its entry stands, or those around the term do and show that it has none
+  pub each : IsSome files → (k : ℕ) → k < length ts → TermTold lex files (get_or ts k []) (slice_index_or infos k None)
+  -- where the lexicon is that of a collection, this is what stands of its terms
+  pub are : ForLexicon lex files (λ collection. AreInfos collection ts infos)
 
-abbrev pub TermsToldPrinted : List ℕ → List (List ℕ) → Opened → Option (List ℕ) → Option (List ℕ) → Type 0
-TermsToldPrinted collection ts opened before now = (infos : List (Option TermInfo))
-    × AreInfos collection ts infos × TermsPrinted (known_infos infos) opened.all before now
+abbrev pub QueryToldPrinted : Query → Option Files → Opened → RowRule → Option (List ℕ) → Option (List ℕ) → Type 0
+QueryToldPrinted q files opened IsRow before now = (infos : List (Option TermInfo))
+    × TermsTold opened.lex files (query_terms q) infos
+    × QueryPrinted q opened.base files infos opened.all IsRow before now
+
+abbrev pub TermsToldPrinted : List (List ℕ) → Option Files → Opened → Option (List ℕ) → Option (List ℕ) → Type 0
+TermsToldPrinted ts files opened before now = (infos : List (Option TermInfo))
+    × TermsTold opened.lex files ts infos × TermsPrinted (known_infos infos) opened.all before now
 
 abbrev pub PrintsTold : Option (List ℕ) → Option (List ℕ) → Result (Unit {0}) ShowErr → Option Files →
     Opened → Query → RowRule → Type 0
-PrintsTold before now result files opened q IsRow = ForLexicon opened.lex files (λ collection. OnOk result
-    (QueryToldPrinted collection q files opened IsRow before now))
+PrintsTold before now result files opened q IsRow = OnOk result (QueryToldPrinted q files opened IsRow before now)
 
 abbrev pub RanksTold : Option (List ℕ) → Option (List ℕ) → Result (Unit {0}) ShowErr → Option Files →
     Opened → List (List ℕ) → Type 0
-RanksTold before now result files opened ts = ForLexicon opened.lex files (λ collection. OnOk result
-    (TermsToldPrinted collection ts opened before now))
+RanksTold before now result files opened ts = OnOk result (TermsToldPrinted ts files opened before now)
 
 -- of a phrase of these words; nothing is sought for one without words
 abbrev pub PrintsWords : Option (List ℕ) → Option (List ℕ) → Result (Unit {0}) ShowErr → Option Files →

@@ -20,7 +20,7 @@ pub record Phrased (base : List ℕ) (run : Run) : Type 0 where
   -- it prints the session of phrases; of the lists and of the text it reads no more pages than the phrases allow, and some parts never
   pub served : Served phrase_session Questions (λ collection now. phrase_reply collection) ReadsPhrases NeverRead
       CountsNone base run
-  -- status 0, whatever the files hold: each line was answered, and what is printed is decided by lists that stand
+  -- status 0, whatever the files hold: each line was answered, and what is printed is decided by entries and lists that stand
   pub printed : (given : List ℕ) → IsSome run.store.files → run.input.left ≡ Some given → run.status ≡ Done →
       InputPrints Questions (PrintsOver PhrasePrints base run.store.files) run.out.written run.out_now.written given
   -- status 3, whatever the files hold: so was each whole line that was taken of the input

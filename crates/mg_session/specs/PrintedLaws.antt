@@ -1,13 +1,18 @@
 -- What a line prints by one state of a search it prints by an earlier one.
-use Rattle.std.proofs.Common.{◌≡◌, ℕ, List, ◌∷◌, Bool, true, false, Ok, subst}
+use Rattle.std.proofs.Common.{◌≡◌, ◌<◌, ◌/◌, ◌%◌, ℕ, List, [], Bool, true, false, get_or, slice_index_or, Some, None, Ok, IsSome, sym, subst}
 use Rattle.std.specs.declared.option.Option.{Option}
+use Rattle.mg_dev.specs.Files.{Files}
 use Rattle.mg_defs.specs.Phrases.{all_of}
 use Rattle.mg_defs.specs.Sat.{Query}
 use Rattle.mg_defs.specs.Session.{Question}
 use Rattle.mg_defs.specs.declared.session.Settings.{Settings}
+use Rattle.mg_front.specs.Reading.{Fronted, SameParts}
+use Rattle.mg_front.proofs.CallerLemmas.{absent_as, stands_as}
+use Rattle.mg_layout.specs.declared.term_info.TermInfo.{TermInfo}
+use Rattle.mg_lex.specs.Stood.{TermTold}
 use Rattle.mg_reply.specs.PrintedLines.{PrintRule}
 use Rattle.mg_session.specs.Answering.{known_infos}
-use Rattle.mg_session.specs.Decided.{BooleanRow, PhrasePrints, PhraseRow, PrintsLine, PrintsPhrase, PrintsTold, QueryPrinted, QuestionPrints, RanksTold, RowRule, TermsPrinted}
+use Rattle.mg_session.specs.Decided.{BooleanRow, PhrasePrints, PhraseRow, PrintsLine, PrintsPhrase, PrintsTold, QueryPrinted, QuestionPrints, RanksTold, RowRule, TermsPrinted, TermsTold}
 use Rattle.mg_session.specs.PhraseSearching.{PhrasesAsked}
 use Rattle.mg_session.specs.SearchLaws.{lex_later}
 use Rattle.mg_session.specs.Searching.{Asked, SameOpened, Searching}
@@ -21,25 +26,42 @@ PhraseRule s question before now = PhrasePrints s.files s.opened question before
 
 -- ---- by the same parts
 
+pub told_as : (r u : Fronted) (files now : Option Files) (term : List ℕ) (info : Option TermInfo) → SameParts r u →
+    now ≡ files → TermTold u now term info → TermTold r files term info
+told_as r u files now term (Some info) same e told = record {
+  among = subst (λ n. info.number < n) same.count told.among;
+  entry = told.entry;
+  stands = stands_as r u files now (info.number / 4) (info.number % 4) told.entry same e told.stands;
+  string = told.string;
+  field = told.field;
+}
+told_as r u files now term None same e told = absent_as r u files now term same e told
+
 module _ (s t : Searching) (files : t.files ≡ s.files) (same : SameOpened s.opened t.opened) where
+  terms_back : {ts : List (List ℕ)} {infos : List (Option TermInfo)} → TermsTold t.opened.lex t.files ts infos →
+      TermsTold s.opened.lex s.files ts infos
+  terms_back {ts} {infos} told = record {
+    size = told.size;
+    each = λ known k lt. told_as s.opened.lex t.opened.lex s.files t.files (get_or ts k []) (slice_index_or infos k None)
+        same.lex files (told.each (subst IsSome (sym files) known) k lt);
+    are = λ version collection limits stands. told.are version collection limits
+        (lex_later s.opened.lex t.opened.lex s.files t.files collection same.lex files stands);
+  }
+
   query_back : (q : Query) (IsRow : RowRule) (before now : Option (List ℕ)) → PrintsTold before now (Ok tt) t.files t.opened q IsRow →
       PrintsTold before now (Ok tt) s.files s.opened q IsRow
-  query_back q IsRow before now told version collection limits stands =
-      let is = told version collection limits
-      (lex_later s.opened.lex t.opened.lex s.files t.files collection same.lex files stands) in (
-        is.0,
-        is.1,
-        subst (λ n. QueryPrinted q s.opened.base s.files is.0 n IsRow before now) same.all
-            (subst (λ b. QueryPrinted q b s.files is.0 t.opened.all IsRow before now) same.base
-            (subst (λ f. QueryPrinted q t.opened.base f is.0 t.opened.all IsRow before now) files is.2)),
-      )
+  query_back q IsRow before now is = (
+    is.0,
+    terms_back is.1,
+    subst (λ n. QueryPrinted q s.opened.base s.files is.0 n IsRow before now) same.all
+        (subst (λ b. QueryPrinted q b s.files is.0 t.opened.all IsRow before now) same.base
+        (subst (λ f. QueryPrinted q t.opened.base f is.0 t.opened.all IsRow before now) files is.2)),
+  )
 
   ranked_back : (ts : List (List ℕ)) (before now : Option (List ℕ)) → RanksTold before now (Ok tt) t.files t.opened ts →
       RanksTold before now (Ok tt) s.files s.opened ts
-  ranked_back ts before now told version collection limits stands =
-      let is = told version collection limits
-      (lex_later s.opened.lex t.opened.lex s.files t.files collection same.lex files stands) in
-      (is.0, is.1, subst (λ n. TermsPrinted (known_infos is.0) n before now) same.all is.2)
+  ranked_back ts before now is =
+      (is.0, terms_back is.1, subst (λ n. TermsPrinted (known_infos is.0) n before now) same.all is.2)
 
   line_back : (is_ranked : Bool) (now : Settings) (line : List ℕ) (before after : Option (List ℕ)) →
       PrintsLine before after (Ok tt) t.files t.opened is_ranked now line →

@@ -22,7 +22,7 @@ pub record Queried (base : List ℕ) (run : Run) : Type 0 where
   -- it prints the session; of the lists, the weights and the text it reads no more pages than the query lines allow, and some
   -- parts never
   pub served : Served session Commands reply ReadsWithin NeverRead CountsNone base run
-  -- status 0, whatever the files hold: each line was answered, and what is printed is decided by lists that stand
+  -- status 0, whatever the files hold: each line was answered, and what is printed is decided by entries and lists that stand
   pub printed : (given : List ℕ) → IsSome run.store.files → run.input.left ≡ Some given → run.status ≡ Done →
       InputPrints Commands (PrintsOver QuestionPrints base run.store.files) run.out.written run.out_now.written given
   -- status 3, whatever the files hold: so was each whole line that was taken of the input

@@ -124,13 +124,13 @@ RepliesToPhrase of_store of_out store store_now out out_now result opened line =
     PhraseReplied code collection line (of_out.written out) (of_out.written out_now) (of_store.reads store)
     (of_store.reads store_now) result)
 
--- ---- over the open parts: what is answered where they stand, what is printed whatever the lists have, and what is done
+-- ---- over the open parts: what is answered where they stand, what is printed whatever they have, and what is done
 
 -- A question was answered over the open parts.
 pub record AnsweredOver (IsAnswered IsPrinted IsStepped : Type 0) : Type 0 where
   -- where the parts are those of a collection, this is answered of it
   pub answer : IsAnswered
-  -- whatever the lists have, this is printed
+  -- whatever the parts have, this is printed
   pub printed : IsPrinted
   -- and this is done to the parts and to the devices
   pub stepped : IsStepped

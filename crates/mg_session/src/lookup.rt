@@ -7,6 +7,7 @@ ghost use Rattle.mg_front.specs.Reading.{FrontFits, LookedAt, SameParts};
 ghost use Rattle.mg_bool.specs.Places.{AreInfos};
 ghost use Rattle.mg_rank.specs.Ranked.{AnswersOr};
 ghost use Rattle.mg_session.specs.Answering.{known_infos};
+ghost use Rattle.mg_session.specs.Decided.{TermsTold};
 ghost use Rattle.mg_session.specs.Sessions.{ForLexicon};
 
 use mg_dev::{PartErr, Store};
@@ -32,9 +33,11 @@ pub(crate) fn find_terms<S: Store>(
     requires fits { FrontFits lex.old (S.files store.old) }
     ensures fits { FrontFits lex.new (S.files store.new) }
     ensures same { SameParts lex.old lex.new }
-    ensures size { IfOk result (λ infos. length infos.items ≡ length terms.now) }
     ensures answer { ForLexicon lex.old (S.files store.old)
         (λ collection. AnswersOr result (λ infos. AreInfos collection terms.now infos.items)) }
+    // Whatever the lexicon holds, the entries stand by which it tells of each term.
+    ensures told { IfOk result (λ infos.
+        TermsTold lex.old (S.files store.old) terms.now infos.items) }
     ensures looked { Between S.files S.reads S.faults store.old store.new
         (LookedAt part.Lex part.LexAt) }
     ensures cause { HasPartCause (S.faults store.old) (S.faults store.new) result }

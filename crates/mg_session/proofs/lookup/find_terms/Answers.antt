@@ -1,11 +1,13 @@
-use Rattle.std.proofs.Common.{arith, List, [], ◌∷◌, ◌+◌, length, sym, ◌∙◌, ap, subst, length-append}
+use Rattle.std.proofs.Common.{arith, ◌≡◌, ◌<◌, ℕ, List, [], ◌∷◌, ◌+◌, length, get_or, slice_index_or, None, IsSome, sym, ◌∙◌, ap, subst, length-append}
 use Rattle.std.specs.declared.option.Option.{Option}
 use Rattle.std.proofs.lemmas.List.{get_or_read}
 use Rattle.mg_bool.specs.Places.{IsToldOf}
 use Rattle.mg_layout.specs.declared.term_info.TermInfo.{TermInfo}
+use Rattle.mg_lex.specs.Stood.{TermTold}
 use Rattle.mg_session.specs.Answering.{FirstInfos}
+use Rattle.mg_session.specs.PrintedLaws.{told_as}
 use Rattle.mg_session.specs.SearchLaws.{lex_later, parts_then}
-use Rattle.mg_session.proofs.FindLaws.{infos_all, infos_more, told_of, told_or}
+use Rattle.mg_session.proofs.FindLaws.{infos_all, infos_more, told_more, told_of, told_or}
 use Rattle.mg_session.proofs.StepLaws.{looked_then}
 use Rattle.mg_session.proofs.WildListLaws.{caused_then}
 use Rattle.mg_session.proofs.lookup.find_terms.Goals as goal
@@ -22,6 +24,14 @@ loop-term-preserved g c = record {
       subst (λ (xs : List (Option TermInfo)). FirstInfos collection c.args.terms.now (c.loop-term.term-index + 1) xs) (sym c.in-Ok-push.ensures.items)
       (infos_more collection c.args.terms.now c.loop-term.term-index c.loop-term.infos.items c.in-Ok.info
       (c.loop-term.invariant.told version collection limits stands) c.loop-term.invariant.size (subst (λ t. IsToldOf collection t c.in-Ok.info) term told));
+  stood = λ known.
+      let term = c.as_bytes.ensures ∙ get_or_read c.args.terms.now c.loop-term.term-index c.term-item.result c.loop-term-test.true c.term-item.is [] in
+      let files = c.loop-term.invariant.looked.files in
+      let told = told_as _ _ _ _ _ c.in-Ok.info c.loop-term.invariant.same files (c.in-Ok.ensures.stood (subst IsSome (sym files) known)) in
+      subst (λ (xs : List (Option TermInfo)). (k : ℕ) → k < c.loop-term.term-index + 1 →
+      TermTold c.args.lex.now (g.S.Store.files c.args.store.now) (get_or c.args.terms.now k []) (slice_index_or xs k None)) (sym c.in-Ok-push.ensures.items)
+      (told_more _ _ c.args.terms.now c.loop-term.term-index c.loop-term.infos.items c.in-Ok.info c.loop-term.invariant.size (c.loop-term.invariant.stood known)
+      (subst (λ t. TermTold c.args.lex.now (g.S.Store.files c.args.store.now) t c.in-Ok.info) term told));
   size = omega (arith, ap length c.in-Ok-push.ensures.items, length-append c.loop-term.infos.items (c.in-Ok.info ∷ []), c.loop-term.invariant.size);
 }
 
@@ -29,6 +39,17 @@ pub returns-clause-answer : goal.returns-clause-answer
 returns-clause-answer g c = λ version collection limits stands.
     infos_all collection c.args.terms.now c.loop-term.term-index c.loop-term.infos.items (c.loop-term.invariant.told version collection limits stands)
     c.loop-term.invariant.size (omega (arith, c.loop-term-test.false, c.loop-term.auto.term-index-end))
+
+pub returns-clause-told : goal.returns-clause-told
+returns-clause-told g c =
+    let whole : c.loop-term.term-index ≡ length c.args.terms.now = omega (arith, c.loop-term-test.false, c.loop-term.auto.term-index-end) in
+    record {
+      size = omega (arith, c.loop-term.invariant.size, whole);
+      each = λ known k lt. c.loop-term.invariant.stood known k (omega (arith, lt, whole));
+      are = λ version collection limits stands.
+          infos_all collection c.args.terms.now c.loop-term.term-index c.loop-term.infos.items (c.loop-term.invariant.told version collection limits stands)
+          c.loop-term.invariant.size whole;
+    }
 
 -- ---- the lexicon is refused
 

@@ -5,7 +5,7 @@ use Rattle.mg_session.proofs.phrase_searcher.PhraseSearcher.answer_parsed.Goals 
 pub returns-in-Err : goal.returns-in-Err
 returns-in-Err g c = record {
   answer = λ code collection over. none_answered code collection c.args.phrase.now _ _;
-  printed = λ t us words version collection limits stands. tt;
+  printed = λ t us words. tt;
   stepped = opened_lacked c.requires.fits;
 }
 

@@ -5,7 +5,7 @@ use Rattle.mg_bool.specs.Places.{AreInfos}
 use Rattle.mg_layout.specs.declared.term_info.TermInfo.{TermInfo}
 use Rattle.mg_lex.specs.Reading.{LexStands}
 use Rattle.mg_query.specs.QueryOf.{query_of}
-use Rattle.mg_session.specs.Decided.{PhraseRow, PrintsTold}
+use Rattle.mg_session.specs.Decided.{PhraseRow, PrintsTold, TermsTold}
 use Rattle.mg_session.specs.Searching.{Opened, OpenedOver}
 use Rattle.mg_session.proofs.DecidedLaws.{joined_words, told_printed}
 use Rattle.mg_session.proofs.CallLaws.{opened_answered, opened_refused}
@@ -22,14 +22,14 @@ returns-in-Err g c = record {
       (part_sound c.in-Err.refusal _ _ c.from.ensures (c.in-Err.ensures.answer over.version collection over.limits
       (subst (λ (o : Opened). LexStands o.lex (g.S.Store.files c.args.store.now) collection) (sym c.self.view_is) over.lex)))
       (lex_post _ _ _ _ _ _ c.in-Err.ensures.looked) (lex_text _ _ _ _ _ _ c.in-Err.ensures.looked);
-  printed = λ t us words version collection limits stands. tt;
+  printed = λ t us words. tt;
   stepped = let e = c.in-Err.ensures in
       opened_refused c.self.view_is c.requires.fits e.fits e.same e.looked c.in-Err.refusal c.from.ensures e.cause;
 }
 
 pub answer_phrase-requires-clause-size : goal.answer_phrase-requires-clause-size
 answer_phrase-requires-clause-size g c =
-    omega (arith, ap length c.deref.ensures.value, c.in-Ok.ensures.size, ap length c.as_slice.ensures, ap length (terms_joined c.args.phrase.now c.args.query.now c.requires.joined))
+    omega (arith, ap length c.deref.ensures.value, c.in-Ok.ensures.told.size, ap length c.as_slice.ensures, ap length (terms_joined c.args.phrase.now c.args.query.now c.requires.joined))
 
 pub returns : goal.returns
 returns g c = record {
@@ -48,13 +48,12 @@ returns g c = record {
       (lex_post _ _ _ _ _ _ c.in-Ok.ensures.looked) (lex_text _ _ _ _ _ _ c.in-Ok.ensures.looked);
   printed = λ t us words. subst (λ q. PrintsTold (g.O.Sink.written c.args.out.now) (g.O.Sink.written c.answer_phrase.new.out) c.answer_phrase.result
       (g.S.Store.files c.args.store.now) c.args.self.now q PhraseRow)
-      (joined_words c.args.phrase.now t us c.args.query.now c.requires.joined words) (λ version collection limits stands.
-      let told = c.in-Ok.ensures.answer version collection limits
-      (subst (λ (o : Opened). LexStands o.lex (g.S.Store.files c.args.store.now) collection) (sym c.self.view_is) stands) in
-      let terms = c.as_slice.ensures ∙ sym (terms_joined c.args.phrase.now c.args.query.now c.requires.joined) in
-      let same : AreInfos collection (query_terms (query_of c.args.query.now)) c.deref.result.now =
-      subst (λ (xs : List (Option TermInfo)). AreInfos collection (query_terms (query_of c.args.query.now)) xs) (sym c.deref.ensures.value)
-      (subst (λ (ts : List (List ℕ)). AreInfos collection ts c.in-Ok.infos.items) terms told) in
+      (joined_words c.args.phrase.now t us c.args.query.now c.requires.joined words)
+      (let terms = c.as_slice.ensures ∙ sym (terms_joined c.args.phrase.now c.args.query.now c.requires.joined) in
+      let same : TermsTold c.self.inside.lex (g.S.Store.files c.args.store.now) (query_terms (query_of c.args.query.now)) c.deref.result.now =
+      subst (λ (xs : List (Option TermInfo)). TermsTold c.self.inside.lex (g.S.Store.files c.args.store.now) (query_terms (query_of c.args.query.now)) xs)
+      (sym c.deref.ensures.value)
+      (subst (λ (ts : List (List ℕ)). TermsTold c.self.inside.lex (g.S.Store.files c.args.store.now) ts c.in-Ok.infos.items) terms c.in-Ok.ensures.told) in
       told_printed (query_of c.args.query.now) PhraseRow _ _ c.answer_phrase.result c.self.view_is c.in-Ok.ensures.looked.files same c.answer_phrase.ensures.printed);
   stepped = let e = c.in-Ok.ensures in
       opened_answered c.self.view_is c.requires.fits e.fits e.same e.looked c.answer_phrase.ensures.stepped;

@@ -3,6 +3,7 @@ use Rattle.std.specs.declared.option.Option.{Option}
 use Rattle.mg_bool.specs.Places.{AreInfos}
 use Rattle.mg_layout.specs.declared.term_info.TermInfo.{TermInfo}
 use Rattle.mg_lex.specs.Reading.{LexStands}
+use Rattle.mg_session.specs.Decided.{TermsTold}
 use Rattle.mg_session.specs.Searching.{Opened, OpenedOver}
 use Rattle.mg_session.proofs.DecidedLaws.{told_ranked}
 use Rattle.mg_session.proofs.CallLaws.{opened_answered, opened_refused}
@@ -17,13 +18,13 @@ returns-in-Err g c = record {
       (part_sound c.in-Err.refusal _ _ c.from.ensures (c.in-Err.ensures.answer over.version collection over.limits
       (subst (λ (o : Opened). LexStands o.lex (g.S.Store.files c.args.store.now) collection) (sym c.self.view_is) over.lex)))
       (lex_keeps c.in-Err.ensures.looked) (lex_text _ _ _ _ _ _ c.in-Err.ensures.looked);
-  printed = λ version collection limits stands. tt;
+  printed = tt;
   stepped = let e = c.in-Err.ensures in
       opened_refused c.self.view_is c.requires.fits e.fits e.same e.looked c.in-Err.refusal c.from.ensures e.cause;
 }
 
 pub answer_terms-requires-clause-few : goal.answer_terms-requires-clause-few
-answer_terms-requires-clause-few g c = omega (arith, ap length c.deref.ensures.value, c.in-Ok.ensures.size, ap length c.as_slice.ensures, c.requires.few)
+answer_terms-requires-clause-few g c = omega (arith, ap length c.deref.ensures.value, c.in-Ok.ensures.told.size, ap length c.as_slice.ensures, c.requires.few)
 
 pub returns : goal.returns
 returns g c = record {
@@ -38,11 +39,11 @@ returns g c = record {
       answered_behind code collection _ _ _ _ _ _ (g.S.Store.reads c.find_terms.new.store) _ _
       (c.answer_terms.ensures.answer code collection stands c.args.terms.now same c.requires.apart)
       (lex_keeps c.in-Ok.ensures.looked) (lex_text _ _ _ _ _ _ c.in-Ok.ensures.looked);
-  printed = λ version collection limits stands.
-      let told = c.in-Ok.ensures.answer version collection limits
-      (subst (λ (o : Opened). LexStands o.lex (g.S.Store.files c.args.store.now) collection) (sym c.self.view_is) stands) in
-      let same : AreInfos collection c.args.terms.now c.deref.result.now = subst (λ (xs : List (Option TermInfo)). AreInfos collection c.args.terms.now xs)
-      (sym c.deref.ensures.value) (subst (λ (ts : List (List ℕ)). AreInfos collection ts c.in-Ok.infos.items) (c.as_slice.ensures) told) in
+  printed =
+      let same : TermsTold c.self.inside.lex (g.S.Store.files c.args.store.now) c.args.terms.now c.deref.result.now =
+      subst (λ (xs : List (Option TermInfo)). TermsTold c.self.inside.lex (g.S.Store.files c.args.store.now) c.args.terms.now xs) (sym c.deref.ensures.value)
+      (subst (λ (ts : List (List ℕ)). TermsTold c.self.inside.lex (g.S.Store.files c.args.store.now) ts c.in-Ok.infos.items) c.as_slice.ensures
+      c.in-Ok.ensures.told) in
       told_ranked _ _ c.answer_terms.result c.self.view_is same c.answer_terms.ensures.printed;
   stepped = let e = c.in-Ok.ensures in
       opened_answered c.self.view_is c.requires.fits e.fits e.same e.looked c.answer_terms.ensures.stepped;

@@ -5,7 +5,7 @@ use Rattle.mg_query.specs.QueryOf.{query_of}
 use Rattle.mg_bool.specs.Places.{AreInfos}
 use Rattle.mg_layout.specs.declared.term_info.TermInfo.{TermInfo}
 use Rattle.mg_lex.specs.Reading.{LexStands}
-use Rattle.mg_session.specs.Decided.{BooleanRow}
+use Rattle.mg_session.specs.Decided.{BooleanRow, TermsTold}
 use Rattle.mg_session.specs.Searching.{Opened, OpenedOver}
 use Rattle.mg_session.proofs.DecidedLaws.{told_printed}
 use Rattle.mg_session.proofs.CallLaws.{opened_answered, opened_refused}
@@ -20,13 +20,13 @@ returns-in-Err g c = record {
       (part_sound c.in-Err.refusal _ _ c.from.ensures (c.in-Err.ensures.answer over.version collection over.limits
       (subst (λ (o : Opened). LexStands o.lex (g.S.Store.files c.args.store.now) collection) (sym c.self.view_is) over.lex)))
       (lex_keeps c.in-Err.ensures.looked) (lex_text _ _ _ _ _ _ c.in-Err.ensures.looked);
-  printed = λ version collection limits stands. tt;
+  printed = tt;
   stepped = let e = c.in-Err.ensures in
       opened_refused c.self.view_is c.requires.fits e.fits e.same e.looked c.in-Err.refusal c.from.ensures e.cause;
 }
 
 pub answer_query-requires-clause-size : goal.answer_query-requires-clause-size
-answer_query-requires-clause-size g c = omega (arith, ap length c.deref.ensures.value, c.in-Ok.ensures.size, ap length c.as_slice.ensures, ap length c.requires.terms)
+answer_query-requires-clause-size g c = omega (arith, ap length c.deref.ensures.value, c.in-Ok.ensures.told.size, ap length c.as_slice.ensures, ap length c.requires.terms)
 
 pub returns : goal.returns
 returns g c = record {
@@ -42,12 +42,11 @@ returns g c = record {
       answered_behind code collection _ _ _ _ _ _ (g.S.Store.reads c.find_terms.new.store) _ _
       (c.answer_query.ensures.answer code collection stands same)
       (lex_keeps c.in-Ok.ensures.looked) (lex_text _ _ _ _ _ _ c.in-Ok.ensures.looked);
-  printed = λ version collection limits stands.
-      let told = c.in-Ok.ensures.answer version collection limits
-      (subst (λ (o : Opened). LexStands o.lex (g.S.Store.files c.args.store.now) collection) (sym c.self.view_is) stands) in
-      let same : AreInfos collection (query_terms (query_of c.args.query.now)) c.deref.result.now =
-      subst (λ (xs : List (Option TermInfo)). AreInfos collection (query_terms (query_of c.args.query.now)) xs) (sym c.deref.ensures.value)
-      (subst (λ (ts : List (List ℕ)). AreInfos collection ts c.in-Ok.infos.items) (c.as_slice.ensures ∙ c.requires.terms) told) in
+  printed =
+      let same : TermsTold c.self.inside.lex (g.S.Store.files c.args.store.now) (query_terms (query_of c.args.query.now)) c.deref.result.now =
+      subst (λ (xs : List (Option TermInfo)). TermsTold c.self.inside.lex (g.S.Store.files c.args.store.now) (query_terms (query_of c.args.query.now)) xs)
+      (sym c.deref.ensures.value) (subst (λ (ts : List (List ℕ)). TermsTold c.self.inside.lex (g.S.Store.files c.args.store.now) ts c.in-Ok.infos.items)
+      (c.as_slice.ensures ∙ c.requires.terms) c.in-Ok.ensures.told) in
       told_printed (query_of c.args.query.now) (BooleanRow c.args.now.now) _ _ c.answer_query.result c.self.view_is c.in-Ok.ensures.looked.files same c.answer_query.ensures.printed;
   stepped = let e = c.in-Ok.ensures in
       opened_answered c.self.view_is c.requires.fits e.fits e.same e.looked c.answer_query.ensures.stepped;

@@ -5,7 +5,7 @@ use Rattle.mg_session.proofs.searcher.Searcher.answer_parsed.Goals as goal
 pub returns-in-Err : goal.returns-in-Err
 returns-in-Err g c = record {
   answer = λ code collection over. none_answered _ _ _ _ _ _ _;
-  printed = λ version collection limits stands. tt;
+  printed = tt;
   stepped = opened_lacked c.requires.fits;
 }
 
