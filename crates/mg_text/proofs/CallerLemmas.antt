@@ -5,3 +5,5 @@ pub use Rattle.mg_text.proofs.Shows.{shown_none, shown_from, shown_grew, shown_p
 -- readers, as long as their files stay
 pub use Rattle.mg_text.proofs.ReaderLaws.{text_fits, text_stays}
 pub use Rattle.mg_text.proofs.Sets.{set_is_text}
+-- the words of the symbols of pairs
+pub use Rattle.mg_text.proofs.ListLaws.{words_of_symbols}
