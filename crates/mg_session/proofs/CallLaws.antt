@@ -21,7 +21,7 @@ use Rattle.mg_front.specs.Reading.{Fronted, FrontFits, LookedAt, SameParts}
 use Rattle.mg_layout.specs.declared.head.Head.{Head}
 use Rattle.mg_reply.specs.Refusals.{AnswerStops}
 use Rattle.mg_session.specs.Answering.{HasShowCause, HasShowLack}
-use Rattle.mg_session.specs.Calls.{OpenedStep, OutputStep, PutStep, TextShown, TextStep}
+use Rattle.mg_session.specs.Calls.{AreShowable, OpenedStep, OutputStep, PutStep, TextShown, TextStep}
 use Rattle.mg_session.specs.Parts.{ShownIn, Stepped}
 use Rattle.mg_session.specs.SearchLaws.{same_opened, same_texts, texts_then}
 use Rattle.mg_session.specs.Searching.{Opened, SearchFits}
@@ -246,13 +246,17 @@ module _ {base : List ℕ} {lex lex_now : Fronted} {texts : Texting} {all : ℕ}
   asked_step : (m : Mode) → Stepped m at.files next.files at.reads next.reads at.faults next.faults
   asked_step m = lex_step m _ _ _ _ _ _ looked
 
+  -- documents can be shown then
+  pub opened_showable : AreShowable next.files texts all
+  opened_showable = record { fits = subst (λ (f : Option Files). TextsFit f texts) (sym looked.files) own_fits.texts; all = own_fits.all }
+
   -- it is refused
   pub opened_refused : {T : Type 0} {m : Mode} {out : SinkAt} (refusal : PartErr) {error : ShowErr} → error ≡ show.Part refusal →
       HasPartCause {T = T} at.faults next.faults (Err refusal) →
       OpenedStep opened (record { base = base; lex = lex_now; texts = texts; all = all }) at next out out (Err error) m
   opened_refused {T} {m} {out} refusal {error} is cause =
       subst (λ (o : Opened). OpenedStep o (record { base = base; lex = lex_now; texts = texts; all = all }) at next out out (Err error) m) own (record {
-        fits = record { lex = fits_now; texts = subst (λ (f : Option Files). TextsFit f texts) (sym looked.files) own_fits.texts; all = own_fits.all };
+        fits = record { lex = fits_now; texts = opened_showable.fits; all = own_fits.all };
         same = record { base = refl; lex = same; texts = same_texts texts; all = refl };
         step = asked_step m;
         cause = part_cause {T = T} refusal is cause;

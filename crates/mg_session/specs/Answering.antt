@@ -18,9 +18,10 @@ use Rattle.mg_defs.specs.Weights.{Hit, limited_to}
 use Rattle.mg_defs.specs.declared.session.Mode.{Mode}
 use Rattle.mg_defs.specs.declared.session.Mode.TheVariants.{Docnums, Text, Count}
 use Rattle.mg_defs.specs.declared.session.Settings.{Settings}
-use Rattle.mg_bool.specs.Matches.{Matching, MatchesOver, left_of}
+use Rattle.mg_bool.specs.Matches.{Matching, MatchesFit, MatchesOver, left_of}
 use Rattle.mg_bool.specs.Calls.{SkipsWithin, skips_read}
 use Rattle.mg_bool.specs.Places.{IsToldOf, pages_read}
+use Rattle.mg_bool.specs.Shown.{MatchesStand}
 use Rattle.mg_layout.specs.declared.term_info.TermInfo.{TermInfo}
 use Rattle.mg_rank.specs.Ranked.{WeightsStand}
 use Rattle.mg_reply.specs.Pending.{Passed}
@@ -102,6 +103,17 @@ pub record Replied (code : TextCode) (collection : List ℕ) (ranked : Bool) (no
         (answer_by ranked collection line)
 
 -- ---- while the documents of a Boolean answer are shown
+
+-- None of the documents that satisfy a query was asked for yet.
+pub record AreUnasked (files : Option Files) (m : Matching) : Type 0 where
+  -- its places are those of lists of some base, and what they keep agrees with the files
+  pub on : (base : List ℕ) × MatchesFit base files m
+  -- and stands there
+  pub stands : MatchesStand files m
+  -- each has read no more of Skip than the entries of its list lie on
+  pub within : SkipsWithin m.places
+  -- no document was decided
+  pub first : m.decided ≡ 0
 
 -- So many were found, and the first of them shown.
 pub record Walked (base : List ℕ) (code : TextCode) (collection : List ℕ) (q : Query) (now : Settings)

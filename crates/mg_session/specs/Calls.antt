@@ -1,5 +1,5 @@
 -- What a call does to the parts that it takes and to its devices, whatever it answers, and why it stops: the moment before it and the one after it.
-use Rattle.std.specs.Prelude.{ℕ, ◌+◌, ◌≤◌, List}
+use Rattle.std.specs.Prelude.{◌≡◌, ℕ, ◌+◌, ◌≤◌, List}
 use Rattle.std.specs.declared.option.Option.{Option}
 use Rattle.std.specs.declared.result.Result.{Result}
 use Rattle.mg_dev.specs.Causes.{HasLack, HasPutCause}
@@ -45,6 +45,13 @@ pub record IsShowable (files : Option Files) (texts : Texting) (number : ℕ) : 
   -- there is such a document
   pub some : 1 ≤ number
   pub within : number ≤ texts.head.documents
+
+-- So many documents can be shown.
+pub record AreShowable (files : Option Files) (texts : Texting) (count : ℕ) : Type 0 where
+  -- what the reader of the text keeps agrees with the files
+  pub fits : TextsFit files texts
+  -- the head tells of so many
+  pub all : texts.head.documents ≡ count
 
 -- Documents were shown in a mode, or a part of what that prints.
 pub record TextShown (texts texts_now : Texting) (before now : StoreAt) (out out_now : SinkAt)

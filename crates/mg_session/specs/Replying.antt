@@ -20,15 +20,27 @@ use Rattle.mg_bool.specs.Places.{AreInfos}
 use Rattle.mg_layout.specs.declared.term_info.TermInfo.{TermInfo}
 use Rattle.mg_query.specs.QueryOf.{query_of}
 use Rattle.mg_session.specs.Answering.{Answered, AnswersFor, Replied}
-use Rattle.mg_session.specs.Calls.{StepsOpened}
-use Rattle.mg_session.specs.Decided.{BooleanRow, PrintsLine, PrintsPhrase, PrintsTold, PrintsWords, RanksTold}
+use Rattle.mg_session.specs.Calls.{StepsOpened, StepsText}
+use Rattle.mg_session.specs.Decided.{BooleanRow, PhraseRow, PrintsLine, PrintsMatches, PrintsPhrase, PrintsQuery, PrintsTerms, PrintsTold, PrintsWords, RanksTold}
 use Rattle.mg_session.specs.PagesAllowed.{PartPages, query_allows, ranked_allows}
+use Rattle.mg_session.specs.Parts.{Stepped}
 use Rattle.mg_session.specs.PhraseAnswers.{DocumentSearched, PhraseAnswered, PhraseReplied}
 use Rattle.mg_session.specs.Searching.{Opened}
 use Rattle.mg_session.specs.Sessions.{ForOpened, ForText}
 use Rattle.mg_session.specs.Texts.{Texting}
 use Rattle.mg_session.specs.WildAnswers.{WildAnswered, WildReplied}
 use Rattle.mg_session.specs.declared.phrase_rows.PhraseRows.{PhraseRows}
+
+-- ---- what is promised of a question
+
+-- A question was answered.
+pub record AnsweredOver (IsAnswered IsPrinted IsStepped : Type 0) : Type 0 where
+  -- where the parts are those of a collection, this is answered of it
+  pub answer : IsAnswered
+  -- whatever the parts have, this is printed
+  pub printed : IsPrinted
+  -- and this is done to the parts and to the devices
+  pub stepped : IsStepped
 
 -- ---- queries and ranked terms
 
@@ -63,6 +75,31 @@ AnswersTerms of_store of_out store store_now out out_now result base texts all i
     (terms : List (List ℕ)) → AreInfos collection terms infos → IsDistinct bytes_eq terms →
     Answered code collection now (ranking collection terms) (ranked_allows collection now terms) (of_out.written out)
     (of_out.written out_now) (of_store.reads store) (of_store.reads store_now) result)
+
+-- the documents that satisfy a query are shown, whose lists those of the terms are
+abbrev pub ShowsQuery : {X Y : Type 0} → stores.Ghosts X → sinks.Ghosts Y → X → X → Y → Y →
+    Result (Unit {0}) ShowErr → List ℕ → Texting → Texting → ℕ → Query → List (Option TermInfo) → Settings → Type 0
+ShowsQuery of_store of_out store store_now out out_now result base texts texts_now all q infos now = AnsweredOver
+    (AnswersQuery of_store of_out store store_now out out_now result base texts all q infos now)
+    (PrintsQuery (of_out.written out) (of_out.written out_now) result base (of_store.files store) q infos all
+    (BooleanRow now))
+    (StepsText of_store of_out store store_now out out_now result texts texts_now (Stepped now.mode))
+
+-- those of which none was asked for yet
+abbrev pub ShowsMatches : {X Y : Type 0} → stores.Ghosts X → sinks.Ghosts Y → X → X → Y → Y →
+    Result (Unit {0}) ShowErr → Texting → Texting → Matching → Settings → Type 0
+ShowsMatches of_store of_out store store_now out out_now result texts texts_now m now = AnsweredOver
+    (AnswersMatches of_store of_out store store_now out out_now result texts m now)
+    (PrintsMatches (of_out.written out) (of_out.written out_now) result (of_store.files store) m (BooleanRow now))
+    (StepsText of_store of_out store store_now out out_now result texts texts_now (Stepped now.mode))
+
+-- the documents with one of the terms are shown, ranked
+abbrev pub ShowsTerms : {X Y : Type 0} → stores.Ghosts X → sinks.Ghosts Y → X → X → Y → Y →
+    Result (Unit {0}) ShowErr → List ℕ → Texting → Texting → ℕ → List (Option TermInfo) → Settings → Type 0
+ShowsTerms of_store of_out store store_now out out_now result base texts texts_now all infos now = AnsweredOver
+    (AnswersTerms of_store of_out store store_now out out_now result base texts all infos now)
+    (PrintsTerms (of_out.written out) (of_out.written out_now) result infos all)
+    (StepsText of_store of_out store store_now out out_now result texts texts_now (Stepped now.mode))
 
 -- over the open parts: an answer is shown, and no more pages of Post, Skip and Weights are read than it allows
 abbrev pub AnswersOpened : {X Y : Type 0} → stores.Ghosts X → sinks.Ghosts Y → X → X → Y → Y →
@@ -108,6 +145,23 @@ AnswersCandidates of_store of_out store store_now out out_now result texts m phr
     PhraseAnswered code collection phrase (of_out.written out) (of_out.written out_now) (of_store.reads store)
     (of_store.reads store_now) result)
 
+-- the documents that have a phrase are shown, whose lists those of the terms are
+abbrev pub ShowsPhrase : {X Y : Type 0} → stores.Ghosts X → sinks.Ghosts Y → X → X → Y → Y →
+    Result (Unit {0}) ShowErr → List ℕ → Texting → Texting → ℕ → Query → List (Option TermInfo) → List (List ℕ) →
+    Type 0
+ShowsPhrase of_store of_out store store_now out out_now result base texts texts_now all q infos phrase = AnsweredOver
+    (AnswersPhrase of_store of_out store store_now out out_now result base texts all q infos phrase)
+    (PrintsQuery (of_out.written out) (of_out.written out_now) result base (of_store.files store) q infos all PhraseRow)
+    (StepsText of_store of_out store store_now out out_now result texts texts_now (Stepped mode.Text))
+
+-- those of which none was asked for yet
+abbrev pub ShowsCandidates : {X Y : Type 0} → stores.Ghosts X → sinks.Ghosts Y → X → X → Y → Y →
+    Result (Unit {0}) ShowErr → Texting → Texting → Matching → List (List ℕ) → Type 0
+ShowsCandidates of_store of_out store store_now out out_now result texts texts_now m phrase = AnsweredOver
+    (AnswersCandidates of_store of_out store store_now out out_now result texts m phrase)
+    (PrintsMatches (of_out.written out) (of_out.written out_now) result (of_store.files store) m PhraseRow)
+    (StepsText of_store of_out store store_now out out_now result texts texts_now (Stepped mode.Text))
+
 -- over the open parts: a phrase of these words is answered
 abbrev pub AnswersWords : {X Y : Type 0} → stores.Ghosts X → sinks.Ghosts Y → X → X → Y → Y →
     Result (Unit {0}) ShowErr → Opened → List (List ℕ) → Type 0
@@ -125,15 +179,6 @@ RepliesToPhrase of_store of_out store store_now out out_now result opened line =
     (of_store.reads store_now) result)
 
 -- ---- over the open parts: what is answered where they stand, what is printed whatever they have, and what is done
-
--- A question was answered over the open parts.
-pub record AnsweredOver (IsAnswered IsPrinted IsStepped : Type 0) : Type 0 where
-  -- where the parts are those of a collection, this is answered of it
-  pub answer : IsAnswered
-  -- whatever the parts have, this is printed
-  pub printed : IsPrinted
-  -- and this is done to the parts and to the devices
-  pub stepped : IsStepped
 
 -- a query
 abbrev pub AsksQuery : {X Y : Type 0} → stores.Ghosts X → sinks.Ghosts Y → X → X → Y → Y →

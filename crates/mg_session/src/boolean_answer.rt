@@ -1,15 +1,10 @@
 //! The answer to a Boolean query.
-ghost use Rattle.std.specs.Prelude.{◌≡◌, ℕ, List, length};
+ghost use Rattle.std.specs.Prelude.{◌≡◌, length};
 ghost use Rattle.mg_defs.specs.QueryTerms.{query_terms};
-ghost use Rattle.mg_bool.specs.Calls.{SkipsWithin};
-ghost use Rattle.mg_bool.specs.Matches.{MatchesFit};
-ghost use Rattle.mg_bool.specs.Shown.{MatchesStand};
 ghost use Rattle.mg_query.specs.QueryOf.{query_of};
-ghost use Rattle.mg_session.specs.Calls.{StepsText};
-ghost use Rattle.mg_session.specs.Decided.{BooleanRow, PrintsMatches, PrintsQuery};
-ghost use Rattle.mg_session.specs.Parts.{Stepped};
-ghost use Rattle.mg_session.specs.Replying.{AnswersMatches, AnswersQuery};
-ghost use Rattle.mg_session.specs.Texts.{TextsFit};
+ghost use Rattle.mg_session.specs.Answering.{AreUnasked};
+ghost use Rattle.mg_session.specs.Calls.{AreShowable};
+ghost use Rattle.mg_session.specs.Replying.{ShowsMatches, ShowsQuery};
 
 use crate::documents::Documents;
 use crate::hit::show_hit;
@@ -21,8 +16,8 @@ use mg_defs::Settings;
 use mg_dev::{PartErr, ShowErr, Sink, Store};
 use mg_reply::Pending;
 
-/// Shows the documents that satisfy a query, of which none was asked for yet: the first of them, and how
-/// many there are.
+/// Shows the documents that satisfy a query, of which none was asked for yet: the first of them, and
+/// how many there are.
 fn show_matches<S: Store, D: Documents<S>, O: Sink>(
     texts: &mut D,
     store: &mut S,
@@ -30,18 +25,10 @@ fn show_matches<S: Store, D: Documents<S>, O: Sink>(
     now: &Settings,
     out: &mut O,
 ) -> Result<(), ShowErr>
-    requires fits { TextsFit (S.files store.old) (D.texts texts.old) }
-    requires on { (base : List ℕ) × MatchesFit base (S.files store.old) matches.old }
-    requires stands { MatchesStand (S.files store.old) matches.old }
-    requires first { matches.old.decided ≡ 0 }
-    requires within { SkipsWithin matches.old.places }
-    requires all { (D.texts texts.old).head.documents ≡ matches.old.all }
-    ensures answer { AnswersMatches S.Store O.Sink store.old store.new out.old out.new result
-        (D.texts texts.old) matches.old now.now }
-    ensures printed { PrintsMatches (O.written out.old) (O.written out.new) result
-        (S.files store.old) matches.old (BooleanRow now.now) }
-    ensures stepped { StepsText S.Store O.Sink store.old store.new out.old out.new result
-        (D.texts texts.old) (D.texts texts.new) (Stepped now.now.mode) }
+    requires showable { AreShowable (S.files store.old) (D.texts texts.old) matches.old.all }
+    requires unasked { AreUnasked (S.files store.old) matches.old }
+    ensures { ShowsMatches S.Store O.Sink store.old store.new out.old out.new result
+        (D.texts texts.old) (D.texts texts.new) matches.old now.now }
 {
     skips_are_within();
     let mut pending = Pending::new();
@@ -71,17 +58,10 @@ pub(crate) fn answer_query<S: Store, D: Documents<S>, O: Sink>(
 ) -> Result<(), ShowErr>
     requires size { length sought.now.infos.now
         ≡ length (query_terms (query_of sought.now.query.now)) }
-    requires fits { TextsFit (S.files store.old) (D.texts texts.old) }
-    requires all { (D.texts texts.old).head.documents ≡ lists.now.all }
-    ensures answer { AnswersQuery S.Store O.Sink store.old store.new out.old out.new result
-        lists.now.base.now (D.texts texts.old) lists.now.all (query_of sought.now.query.now)
-        sought.now.infos.now now.now }
-    // Whatever the parts have, each document is decided by blocks of the lists that stand.
-    ensures printed { PrintsQuery (O.written out.old) (O.written out.new) result
-        lists.now.base.now (S.files store.old) (query_of sought.now.query.now) sought.now.infos.now lists.now.all
-        (BooleanRow now.now) }
-    ensures stepped { StepsText S.Store O.Sink store.old store.new out.old out.new result
-        (D.texts texts.old) (D.texts texts.new) (Stepped now.now.mode) }
+    requires showable { AreShowable (S.files store.old) (D.texts texts.old) lists.now.all }
+    ensures { ShowsQuery S.Store O.Sink store.old store.new out.old out.new result
+        lists.now.base.now (D.texts texts.old) (D.texts texts.new) lists.now.all
+        (query_of sought.now.query.now) sought.now.infos.now now.now }
 {
     let mut matches = match Matches::start(
         lists.alloc,

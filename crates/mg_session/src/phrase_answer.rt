@@ -1,17 +1,15 @@
 //! The documents that have a phrase, sought among those that have all its words.
-ghost use Rattle.std.specs.Prelude.{◌≡◌, ◌≤◌, ◌<◌, ℕ, List, [], OnOk, Some, length};
-ghost use Rattle.mg_bool.specs.Matches.{MatchesFit};
-ghost use Rattle.mg_bool.specs.Shown.{MatchesStand};
+ghost use Rattle.std.specs.Prelude.{◌≡◌, ◌≤◌, ◌<◌, [], OnOk, Some, length};
 ghost use Rattle.mg_defs.specs.QueryTerms.{query_terms};
 ghost use Rattle.mg_defs.specs.declared.session.Mode.TheVariants as mode;
 ghost use Rattle.mg_query.specs.AllOf.{IsAllOf};
 ghost use Rattle.mg_query.specs.QueryOf.{query_of};
-ghost use Rattle.mg_session.specs.Calls.{IsShowable, StepsText};
-ghost use Rattle.mg_session.specs.Decided.{PassesRow, PhraseRow, PrintsMatches, PrintsQuery};
-ghost use Rattle.mg_session.specs.Parts.{ShownIn, Stepped};
+ghost use Rattle.mg_session.specs.Answering.{AreUnasked};
+ghost use Rattle.mg_session.specs.Calls.{AreShowable, IsShowable, StepsText};
+ghost use Rattle.mg_session.specs.Decided.{PassesRow};
+ghost use Rattle.mg_session.specs.Parts.{ShownIn};
 ghost use Rattle.mg_session.specs.PhraseTexts.{AreMarksOf};
-ghost use Rattle.mg_session.specs.Replying.{AnswersCandidates, AnswersPhrase, SearchesDocument};
-ghost use Rattle.mg_session.specs.Texts.{TextsFit};
+ghost use Rattle.mg_session.specs.Replying.{SearchesDocument, ShowsCandidates, ShowsPhrase};
 
 use crate::lists::Lists;
 use crate::lookup::Sought;
@@ -66,17 +64,10 @@ fn search_matches<S: Store, T: Searched<S>, O: Sink>(
 ) -> Result<(), ShowErr>
     requires unmarked { marks.old.marks ≡ [] }
     requires joined { IsAllOf marks.old.phrase (Some matches.old.asks) }
-    requires fits { TextsFit (S.files store.old) (T.texts texts.old) }
-    requires on { (base : List ℕ) × MatchesFit base (S.files store.old) matches.old }
-    requires stands { MatchesStand (S.files store.old) matches.old }
-    requires first { matches.old.decided ≡ 0 }
-    requires all { (T.texts texts.old).head.documents ≡ matches.old.all }
-    ensures answer { AnswersCandidates S.Store O.Sink store.old store.new out.old out.new result
-        (T.texts texts.old) matches.old marks.old.phrase }
-    ensures printed { PrintsMatches (O.written out.old) (O.written out.new) result
-        (S.files store.old) matches.old PhraseRow }
-    ensures stepped { StepsText S.Store O.Sink store.old store.new out.old out.new result
-        (T.texts texts.old) (T.texts texts.new) (Stepped mode.Text) }
+    requires showable { AreShowable (S.files store.old) (T.texts texts.old) matches.old.all }
+    requires unasked { AreUnasked (S.files store.old) matches.old }
+    ensures { ShowsCandidates S.Store O.Sink store.old store.new out.old out.new result
+        (T.texts texts.old) (T.texts texts.new) matches.old marks.old.phrase }
 {
     let mut rows = PhraseRows::new();
     'matches: loop {
@@ -106,17 +97,10 @@ pub(crate) fn answer_phrase<S: Store, T: Searched<S>, O: Sink>(
         ≡ length (query_terms (query_of sought.now.query.now)) }
     requires few { length phrase.now ≤ 64 }
     requires joined { IsAllOf phrase.now (Some sought.now.query.now) }
-    requires fits { TextsFit (S.files store.old) (T.texts texts.old) }
-    requires all { (T.texts texts.old).head.documents ≡ lists.now.all }
-    ensures answer { AnswersPhrase S.Store O.Sink store.old store.new out.old out.new result
-        lists.now.base.now (T.texts texts.old) lists.now.all
+    requires showable { AreShowable (S.files store.old) (T.texts texts.old) lists.now.all }
+    ensures { ShowsPhrase S.Store O.Sink store.old store.new out.old out.new result
+        lists.now.base.now (T.texts texts.old) (T.texts texts.new) lists.now.all
         (query_of sought.now.query.now) sought.now.infos.now phrase.now }
-    // Whatever the parts have, each document is decided by blocks of the lists that stand.
-    ensures printed { PrintsQuery (O.written out.old) (O.written out.new) result
-        lists.now.base.now (S.files store.old) (query_of sought.now.query.now) sought.now.infos.now lists.now.all
-        PhraseRow }
-    ensures stepped { StepsText S.Store O.Sink store.old store.new out.old out.new result
-        (T.texts texts.old) (T.texts texts.new) (Stepped mode.Text) }
 {
     let mut matches = match Matches::start(
         lists.alloc,

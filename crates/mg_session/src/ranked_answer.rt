@@ -3,10 +3,9 @@ ghost use Rattle.std.specs.Prelude.{◌≡◌, ◌≤◌, All, length};
 ghost use Rattle.mg_defs.specs.Texts.{count as count_text};
 ghost use Rattle.mg_rank.specs.Ranked.{IsNumbered};
 ghost use Rattle.mg_session.specs.PagesAllowed.{rows_asked};
-ghost use Rattle.mg_session.specs.Calls.{ShowsText, StepsText};
-ghost use Rattle.mg_session.specs.Decided.{PassesSome, PrintsTerms, PutsSome};
-ghost use Rattle.mg_session.specs.Parts.{Stepped};
-ghost use Rattle.mg_session.specs.Replying.{AnswersTerms};
+ghost use Rattle.mg_session.specs.Calls.{AreShowable, ShowsText};
+ghost use Rattle.mg_session.specs.Decided.{PassesSome, PutsSome};
+ghost use Rattle.mg_session.specs.Replying.{ShowsTerms};
 ghost use Rattle.mg_session.specs.Showing.{PassesRows, PutsRanking, ranked_pages};
 ghost use Rattle.mg_session.specs.Texts.{TextsFit};
 
@@ -102,15 +101,10 @@ pub(crate) fn answer_terms<S: Store, D: Documents<S>, O: Sink>(
     out: &mut O,
 ) -> Result<(), ShowErr>
     requires few { length infos.now ≤ 64 }
-    requires fits { TextsFit (S.files store.old) (D.texts texts.old) }
-    requires all { (D.texts texts.old).head.documents ≡ lists.now.all }
-    ensures answer { AnswersTerms S.Store O.Sink store.old store.new out.old out.new result
-        lists.now.base.now (D.texts texts.old) lists.now.all infos.now now.now }
-    // Whatever the parts have, whole lists are counted.
-    ensures printed { PrintsTerms (O.written out.old) (O.written out.new) result infos.now
-        lists.now.all }
-    ensures stepped { StepsText S.Store O.Sink store.old store.new out.old out.new result
-        (D.texts texts.old) (D.texts texts.new) (Stepped now.now.mode) }
+    requires showable { AreShowable (S.files store.old) (D.texts texts.old) lists.now.all }
+    ensures { ShowsTerms S.Store O.Sink store.old store.new out.old out.new result
+        lists.now.base.now (D.texts texts.old) (D.texts texts.new) lists.now.all infos.now
+        now.now }
 {
     let known = match known_of(lists.alloc, infos) {
         Ok(known) => known,

@@ -15,42 +15,54 @@ use Rattle.mg_session.proofs.boolean_answer.show_matches.Goals as goal
 
 pub matches-init : goal.matches-init
 matches-init g c = record {
-  so_far = text_start c.requires.fits;
-  on = c.requires.on;
+  so_far = text_start c.requires.showable.fits;
+  on = c.requires.unasked.on;
   kept = record { asks = refl; all = refl };
   few = omega arith;
-  within = omega (arith, c.requires.first);
-  printing = printing_start c.requires.stands c.requires.first c.new-pending.ensures refl;
-  walked = λ base code collection stands over. walked_start c.new-pending.ensures refl c.requires.first c.requires.within over;
+  within = omega (arith, c.requires.unasked.first);
+  printing = printing_start c.requires.unasked.stands c.requires.unasked.first c.new-pending.ensures refl;
+  walked = λ base code collection stands over. walked_start c.new-pending.ensures refl c.requires.unasked.first c.requires.unasked.within over;
 }
 
-pub returns-in-Err-clause-answer : goal.returns-in-Err-clause-answer
-returns-in-Err-clause-answer g c = λ base code collection stands over.
-    let inv = c.matches.invariant in
-    let walked = inv.walked base code collection stands over in
-    let lists = (weights_later base base _ _ collection refl inv.so_far.step.files stands.weights).lists in
-    let read = next_read c.args.matches.now inv.kept.asks (c.in-Err.ensures.least base collection lists walked.over) (c.in-Err.ensures.pages base collection lists walked.over)
-    c.in-Err.ensures.lists c.in-Err.ensures.skips c.in-Err.ensures.reads in
-    walked_stop c.matches.matches c.next.new.self (g.S.Store.reads c.matches.store) c.skips_are_within.ensures.terms walked
-    read
-    (list_sound c.in-Err.refusal _ _ c.from.ensures (c.in-Err.ensures.answer base collection lists walked.over))
+pub returns-in-Err : goal.returns-in-Err
+returns-in-Err g c = record {
+  answer = λ base code collection stands over.
+      let inv = c.matches.invariant in
+      let walked = inv.walked base code collection stands over in
+      let lists = (weights_later base base _ _ collection refl inv.so_far.step.files stands.weights).lists in
+      let read = next_read c.args.matches.now inv.kept.asks (c.in-Err.ensures.least base collection lists walked.over) (c.in-Err.ensures.pages base collection lists walked.over)
+      c.in-Err.ensures.lists c.in-Err.ensures.skips c.in-Err.ensures.reads in
+      walked_stop c.matches.matches c.next.new.self (g.S.Store.reads c.matches.store) c.skips_are_within.ensures.terms walked
+      read
+      (list_sound c.in-Err.refusal _ _ c.from.ensures (c.in-Err.ensures.answer base collection lists walked.over));
+  printed = tt;
+  stepped =
+      let e = c.in-Err.ensures in
+      text_refused c.matches.invariant.so_far (lists_step _ _ _ _ _ _ _ e.files e.cause.later e.reads) c.in-Err.refusal c.from.ensures e.cause;
+}
 
-pub returns-in-Err-show_hit-clause-answer : goal.returns-in-Err-show_hit-clause-answer
-returns-in-Err-show_hit-clause-answer g c = λ base code collection stands over.
-    let inv = c.matches.invariant in
-    let walked = inv.walked base code collection stands over in
-    let lists = (weights_later base base _ _ collection refl inv.so_far.step.files stands.weights).lists in
-    let text = texts_later _ _ _ _ code collection inv.so_far.same (c.in-Ok-Some.ensures.files ∙ inv.so_far.step.files) stands.texts_are in
-    let read = next_read c.args.matches.now inv.kept.asks (c.in-Ok-Some.ensures.least base collection lists walked.over) (c.in-Ok-Some.ensures.pages base collection lists walked.over)
-    c.in-Ok-Some.ensures.lists c.in-Ok-Some.ensures.skips c.in-Ok-Some.ensures.reads in
-    let answer = c.in-Ok-Some.ensures.answer base collection lists walked.over in
-    walked_cut c.matches.total c.in-Ok-Some.number c.matches.matches c.next.new.self (g.S.Store.reads c.matches.store) (g.S.Store.reads c.next.new.store) c.skips_are_within.ensures.terms walked
-    (subst (GoesOn (left_of collection c.matches.matches) (left_of collection c.next.new.self)) c.in-Ok-Some.field-0-is answer.0)
-    read
-    (c.in-Err-show_hit.ensures.shown.content code collection text)
-    (shown_keeps c.in-Err-show_hit.ensures.shown.looked)
-    (c.in-Err-show_hit.ensures.shown.pages code collection text)
-    (c.in-Err-show_hit.ensures.shown.sound code collection text)
+pub returns-in-Err-show_hit : goal.returns-in-Err-show_hit
+returns-in-Err-show_hit g c = record {
+  answer = λ base code collection stands over.
+      let inv = c.matches.invariant in
+      let walked = inv.walked base code collection stands over in
+      let lists = (weights_later base base _ _ collection refl inv.so_far.step.files stands.weights).lists in
+      let text = texts_later _ _ _ _ code collection inv.so_far.same (c.in-Ok-Some.ensures.files ∙ inv.so_far.step.files) stands.texts_are in
+      let read = next_read c.args.matches.now inv.kept.asks (c.in-Ok-Some.ensures.least base collection lists walked.over) (c.in-Ok-Some.ensures.pages base collection lists walked.over)
+      c.in-Ok-Some.ensures.lists c.in-Ok-Some.ensures.skips c.in-Ok-Some.ensures.reads in
+      let answer = c.in-Ok-Some.ensures.answer base collection lists walked.over in
+      walked_cut c.matches.total c.in-Ok-Some.number c.matches.matches c.next.new.self (g.S.Store.reads c.matches.store) (g.S.Store.reads c.next.new.store) c.skips_are_within.ensures.terms walked
+      (subst (GoesOn (left_of collection c.matches.matches) (left_of collection c.next.new.self)) c.in-Ok-Some.field-0-is answer.0)
+      read
+      (c.in-Err-show_hit.ensures.shown.content code collection text)
+      (shown_keeps c.in-Err-show_hit.ensures.shown.looked)
+      (c.in-Err-show_hit.ensures.shown.pages code collection text)
+      (c.in-Err-show_hit.ensures.shown.sound code collection text);
+  printed = tt;
+  stepped =
+      let e = c.in-Ok-Some.ensures in
+      text_shown c.matches.invariant.so_far (lists_step _ _ _ _ _ _ _ e.files e.cause.later e.reads) (shown_text c.in-Err-show_hit.ensures.shown);
+}
 
 pub matches-preserved : goal.matches-preserved
 matches-preserved g c =
@@ -81,49 +93,27 @@ matches-preserved g c =
           (c.in-Ok.ensures.shown.pages code collection text);
     }
 
-pub returns-in-Ok-None-clause-answer : goal.returns-in-Ok-None-clause-answer
-returns-in-Ok-None-clause-answer g c = λ base code collection stands over.
-    let inv = c.matches.invariant in
-    let walked = inv.walked base code collection stands over in
-    let lists = (weights_later base base _ _ collection refl inv.so_far.step.files stands.weights).lists in
-    let read = next_read c.args.matches.now inv.kept.asks (c.in-Ok-None.ensures.least base collection lists walked.over) (c.in-Ok-None.ensures.pages base collection lists walked.over)
-    c.in-Ok-None.ensures.lists c.in-Ok-None.ensures.skips c.in-Ok-None.ensures.reads in
-    let answer = c.in-Ok-None.ensures.answer base collection lists walked.over in
-    walked_end c.matches.total c.matches.matches c.next.new.self (g.S.Store.reads c.matches.store) c.skips_are_within.ensures.terms walked
-    (subst (GoesOn (left_of collection c.matches.matches) (left_of collection c.next.new.self)) c.in-Ok-None.field-0-is answer.0)
-    read
-    c.put_total.ensures.content
-    c.put_total.ensures.alone.sound
-
--- ---- what is printed, whatever the parts have
-
-pub returns-in-Err-clause-printed : goal.returns-in-Err-clause-printed
-returns-in-Err-clause-printed g c = tt
-
-pub returns-in-Err-show_hit-clause-printed : goal.returns-in-Err-show_hit-clause-printed
-returns-in-Err-show_hit-clause-printed g c = tt
-
-pub returns-in-Ok-None-clause-printed : goal.returns-in-Ok-None-clause-printed
-returns-in-Ok-None-clause-printed g c =
-    let inv = c.matches.invariant in
-    printing_end c.next.new.self inv.printing inv.kept inv.so_far.step.files _ c.in-Ok-None.ensures.shows _ c.put_total.result c.in-Ok-None.field-0-is inv.within c.put_total.ensures.content
-
--- ---- what is left of the parts, and why it stops
-
-pub returns-in-Err-clause-stepped : goal.returns-in-Err-clause-stepped
-returns-in-Err-clause-stepped g c =
-    let e = c.in-Err.ensures in
-    text_refused c.matches.invariant.so_far (lists_step _ _ _ _ _ _ _ e.files e.cause.later e.reads) c.in-Err.refusal c.from.ensures e.cause
-
-pub returns-in-Err-show_hit-clause-stepped : goal.returns-in-Err-show_hit-clause-stepped
-returns-in-Err-show_hit-clause-stepped g c =
-    let e = c.in-Ok-Some.ensures in
-    text_shown c.matches.invariant.so_far (lists_step _ _ _ _ _ _ _ e.files e.cause.later e.reads) (shown_text c.in-Err-show_hit.ensures.shown)
-
-pub returns-in-Ok-None-clause-stepped : goal.returns-in-Ok-None-clause-stepped
-returns-in-Ok-None-clause-stepped g c =
-    let e = c.in-Ok-None.ensures in
-    text_written c.matches.invariant.so_far (lists_step _ _ _ _ _ _ _ e.files e.cause.later e.reads) c.put_total.ensures.alone
+pub returns-in-Ok-None : goal.returns-in-Ok-None
+returns-in-Ok-None g c = record {
+  answer = λ base code collection stands over.
+      let inv = c.matches.invariant in
+      let walked = inv.walked base code collection stands over in
+      let lists = (weights_later base base _ _ collection refl inv.so_far.step.files stands.weights).lists in
+      let read = next_read c.args.matches.now inv.kept.asks (c.in-Ok-None.ensures.least base collection lists walked.over) (c.in-Ok-None.ensures.pages base collection lists walked.over)
+      c.in-Ok-None.ensures.lists c.in-Ok-None.ensures.skips c.in-Ok-None.ensures.reads in
+      let answer = c.in-Ok-None.ensures.answer base collection lists walked.over in
+      walked_end c.matches.total c.matches.matches c.next.new.self (g.S.Store.reads c.matches.store) c.skips_are_within.ensures.terms walked
+      (subst (GoesOn (left_of collection c.matches.matches) (left_of collection c.next.new.self)) c.in-Ok-None.field-0-is answer.0)
+      read
+      c.put_total.ensures.content
+      c.put_total.ensures.alone.sound;
+  printed =
+      let inv = c.matches.invariant in
+      printing_end c.next.new.self inv.printing inv.kept inv.so_far.step.files _ c.in-Ok-None.ensures.shows _ c.put_total.result c.in-Ok-None.field-0-is inv.within c.put_total.ensures.content;
+  stepped =
+      let e = c.in-Ok-None.ensures in
+      text_written c.matches.invariant.so_far (lists_step _ _ _ _ _ _ _ e.files e.cause.later e.reads) c.put_total.ensures.alone;
+}
 
 -- ---- the document that is found
 
@@ -135,5 +125,5 @@ show_hit-requires g c =
     record {
       fits = subst (λ (f : Option Files). TextsFit f (g.D.Documents.texts c.matches.texts)) (sym c.in-Ok-Some.ensures.files) inv.so_far.fits;
       some = omega (arith, range);
-      within = omega (arith, range, inv.kept.all, c.requires.all, ap (λ (h : Head). h.documents) inv.so_far.same.head);
+      within = omega (arith, range, inv.kept.all, c.requires.showable.all, ap (λ (h : Head). h.documents) inv.so_far.same.head);
     }

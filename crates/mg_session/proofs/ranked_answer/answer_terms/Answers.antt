@@ -12,59 +12,51 @@ use Rattle.mg_session.proofs.ReplyLaws.{none_answered, top_sound}
 use Rattle.mg_session.proofs.StepLaws.{ranked_step, ranked_text, shown_keeps}
 use Rattle.mg_session.proofs.ranked_answer.answer_terms.Goals as goal
 
-pub returns-in-Err-clause-answer : goal.returns-in-Err-clause-answer
-returns-in-Err-clause-answer g c = λ code collection stands terms told apart. none_answered _ _ _ _ _ _ _
+pub returns-in-Err : goal.returns-in-Err
+returns-in-Err g c = record {
+  answer = λ code collection stands terms told apart. none_answered _ _ _ _ _ _ _;
+  printed = tt;
+  stepped = text_lacked c.requires.showable.fits;
+}
 
-pub returns-in-Err-rank-clause-answer : goal.returns-in-Err-rank-clause-answer
-returns-in-Err-rank-clause-answer g c = λ code collection stands terms told apart.
-    let kept = known_terms terms c.args.infos.now in
-    let is_told : AreTold collection kept c.deref.result.now = subst (λ (xs : List TermInfo). AreTold collection kept xs)
-    (sym (c.deref.ensures.value ∙ c.in-Ok.ensures.known)) (known_told collection terms c.args.infos.now told apart) in
-    let e = c.in-Err-rank.ensures in
-    let few : length c.deref.result.now ≤ length c.args.infos.now = omega (arith, ap length c.deref.ensures.value, c.in-Ok.ensures.few) in
-    let allowed = ranked_read c.args.now.now terms c.args.infos.now c.deref.result.now told (c.deref.ensures.value ∙ c.in-Ok.ensures.known) few stands.all_is
-    c.rows_asked-most.ensures (e.once collection kept stands.weights.lists is_told stands.all_is) e.skips e.weights e.none in
-    terms_stop _ _ _ terms _ _ _ _ _ allowed (ranked_text _ _ e.reads)
-    (top_sound c.in-Err-rank.refusal _ collection kept _ c.from.ensures (c.in-Err-rank.ensures.answer collection kept stands.weights is_told stands.all_is))
+pub returns-in-Err-rank : goal.returns-in-Err-rank
+returns-in-Err-rank g c = record {
+  answer = λ code collection stands terms told apart.
+      let kept = known_terms terms c.args.infos.now in
+      let is_told : AreTold collection kept c.deref.result.now = subst (λ (xs : List TermInfo). AreTold collection kept xs)
+      (sym (c.deref.ensures.value ∙ c.in-Ok.ensures.known)) (known_told collection terms c.args.infos.now told apart) in
+      let e = c.in-Err-rank.ensures in
+      let few : length c.deref.result.now ≤ length c.args.infos.now = omega (arith, ap length c.deref.ensures.value, c.in-Ok.ensures.few) in
+      let allowed = ranked_read c.args.now.now terms c.args.infos.now c.deref.result.now told (c.deref.ensures.value ∙ c.in-Ok.ensures.known) few stands.all_is
+      c.rows_asked-most.ensures (e.once collection kept stands.weights.lists is_told stands.all_is) e.skips e.weights e.none in
+      terms_stop _ _ _ terms _ _ _ _ _ allowed (ranked_text _ _ e.reads)
+      (top_sound c.in-Err-rank.refusal _ collection kept _ c.from.ensures (c.in-Err-rank.ensures.answer collection kept stands.weights is_told stands.all_is));
+  printed = tt;
+  stepped =
+      let e = c.in-Err-rank.ensures in
+      text_refused (text_start c.requires.showable.fits) (ranked_step _ _ _ _ _ _ _ e.files e.cause.later e.reads) c.in-Err-rank.refusal c.from.ensures e.cause;
+}
 
-pub returns-clause-answer : goal.returns-clause-answer
-returns-clause-answer g c = λ code collection stands terms told apart.
-    let kept = known_terms terms c.args.infos.now in
-    let is_told : AreTold collection kept c.deref.result.now = subst (λ (xs : List TermInfo). AreTold collection kept xs)
-    (sym (c.deref.ensures.value ∙ c.in-Ok.ensures.known)) (known_told collection terms c.args.infos.now told apart) in
-    let top = c.in-Ok-rank.ensures.answer collection kept stands.weights is_told stands.all_is in
-    let are = are_rows collection kept terms c.args.now.now c.args.lists.now.all c.rows_asked-most.result c.in-Ok-rank.ranked.total c.in-Ok-rank.ranked.rows
-    (known_hits collection terms c.args.infos.now told) stands.all_is c.rows_asked-most.ensures top.0 top.1 in
-    let text = texts_later (g.D.Documents.texts c.args.texts.now) (g.D.Documents.texts c.args.texts.now) _ _ code collection
-    (same_texts (g.D.Documents.texts c.args.texts.now)) c.in-Ok-rank.ensures.files stands.texts_are in
-    let e = c.in-Ok-rank.ensures in
-    let few : length c.deref.result.now ≤ length c.args.infos.now = omega (arith, ap length c.deref.ensures.value, c.in-Ok.ensures.few) in
-    let allowed = ranked_read c.args.now.now terms c.args.infos.now c.deref.result.now told (c.deref.ensures.value ∙ c.in-Ok.ensures.known) few stands.all_is
-    c.rows_asked-most.ensures (e.once collection kept stands.weights.lists is_told stands.all_is) e.skips e.weights e.none in
-    rows_end terms (g.S.Store.reads c.rank.new.store) are allowed (ranked_text _ _ e.reads)
-    (c.show_ranked.ensures.shown.content code collection text) (shown_keeps c.show_ranked.ensures.shown.looked)
-    (c.show_ranked.ensures.shown.pages code collection text) (c.show_ranked.ensures.shown.sound code collection text)
-
-pub returns-in-Err-clause-stepped : goal.returns-in-Err-clause-stepped
-returns-in-Err-clause-stepped g c = text_lacked c.requires.fits
-
-pub returns-in-Err-rank-clause-stepped : goal.returns-in-Err-rank-clause-stepped
-returns-in-Err-rank-clause-stepped g c =
-    let e = c.in-Err-rank.ensures in
-    text_refused (text_start c.requires.fits) (ranked_step _ _ _ _ _ _ _ e.files e.cause.later e.reads) c.in-Err-rank.refusal c.from.ensures e.cause
-
-pub returns-clause-stepped : goal.returns-clause-stepped
-returns-clause-stepped g c =
-    let e = c.in-Ok-rank.ensures in
-    text_shown (text_start c.requires.fits) (ranked_step _ _ _ _ _ _ _ e.files e.cause.later e.reads) (shown_text c.show_ranked.ensures.shown)
-
--- ---- what is printed, whatever the parts have
-
-pub returns-in-Err-clause-printed : goal.returns-in-Err-clause-printed
-returns-in-Err-clause-printed g c = tt
-
-pub returns-in-Err-rank-clause-printed : goal.returns-in-Err-rank-clause-printed
-returns-in-Err-rank-clause-printed g c = tt
-
-pub returns-clause-printed : goal.returns-clause-printed
-returns-clause-printed g c = terms_printed _ _ c.show_ranked.result (c.deref.ensures.value ∙ c.in-Ok.ensures.known) c.in-Ok-rank.ensures.whole c.show_ranked.ensures.counted
+pub returns : goal.returns
+returns g c = record {
+  answer = λ code collection stands terms told apart.
+      let kept = known_terms terms c.args.infos.now in
+      let is_told : AreTold collection kept c.deref.result.now = subst (λ (xs : List TermInfo). AreTold collection kept xs)
+      (sym (c.deref.ensures.value ∙ c.in-Ok.ensures.known)) (known_told collection terms c.args.infos.now told apart) in
+      let top = c.in-Ok-rank.ensures.answer collection kept stands.weights is_told stands.all_is in
+      let are = are_rows collection kept terms c.args.now.now c.args.lists.now.all c.rows_asked-most.result c.in-Ok-rank.ranked.total c.in-Ok-rank.ranked.rows
+      (known_hits collection terms c.args.infos.now told) stands.all_is c.rows_asked-most.ensures top.0 top.1 in
+      let text = texts_later (g.D.Documents.texts c.args.texts.now) (g.D.Documents.texts c.args.texts.now) _ _ code collection
+      (same_texts (g.D.Documents.texts c.args.texts.now)) c.in-Ok-rank.ensures.files stands.texts_are in
+      let e = c.in-Ok-rank.ensures in
+      let few : length c.deref.result.now ≤ length c.args.infos.now = omega (arith, ap length c.deref.ensures.value, c.in-Ok.ensures.few) in
+      let allowed = ranked_read c.args.now.now terms c.args.infos.now c.deref.result.now told (c.deref.ensures.value ∙ c.in-Ok.ensures.known) few stands.all_is
+      c.rows_asked-most.ensures (e.once collection kept stands.weights.lists is_told stands.all_is) e.skips e.weights e.none in
+      rows_end terms (g.S.Store.reads c.rank.new.store) are allowed (ranked_text _ _ e.reads)
+      (c.show_ranked.ensures.shown.content code collection text) (shown_keeps c.show_ranked.ensures.shown.looked)
+      (c.show_ranked.ensures.shown.pages code collection text) (c.show_ranked.ensures.shown.sound code collection text);
+  printed = terms_printed _ _ c.show_ranked.result (c.deref.ensures.value ∙ c.in-Ok.ensures.known) c.in-Ok-rank.ensures.whole c.show_ranked.ensures.counted;
+  stepped =
+      let e = c.in-Ok-rank.ensures in
+      text_shown (text_start c.requires.showable.fits) (ranked_step _ _ _ _ _ _ _ e.files e.cause.later e.reads) (shown_text c.show_ranked.ensures.shown);
+}

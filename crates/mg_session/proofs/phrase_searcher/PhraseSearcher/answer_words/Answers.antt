@@ -8,7 +8,7 @@ use Rattle.mg_query.specs.QueryOf.{query_of}
 use Rattle.mg_session.specs.Decided.{PhraseRow, PrintsTold, TermsTold}
 use Rattle.mg_session.specs.Searching.{Opened, OpenedOver}
 use Rattle.mg_session.proofs.DecidedLaws.{joined_words, told_printed}
-use Rattle.mg_session.proofs.CallLaws.{opened_answered, opened_refused}
+use Rattle.mg_session.proofs.CallLaws.{opened_answered, opened_refused, opened_showable}
 use Rattle.mg_session.proofs.PhraseReplyLaws.{answered_behind, nothing_answered}
 use Rattle.mg_session.proofs.PhraseWalkLaws.{terms_joined}
 use Rattle.mg_session.proofs.ReplyLaws.{answers_for, part_sound}
@@ -30,6 +30,9 @@ returns-in-Err g c = record {
 pub answer_phrase-requires-clause-size : goal.answer_phrase-requires-clause-size
 answer_phrase-requires-clause-size g c =
     omega (arith, ap length c.deref.ensures.value, c.in-Ok.ensures.told.size, ap length c.as_slice.ensures, ap length (terms_joined c.args.phrase.now c.args.query.now c.requires.joined))
+
+pub answer_phrase-requires-clause-showable : goal.answer_phrase-requires-clause-showable
+answer_phrase-requires-clause-showable g c = let e = c.in-Ok.ensures in opened_showable c.self.view_is c.requires.fits e.fits e.same e.looked
 
 pub returns : goal.returns
 returns g c = record {

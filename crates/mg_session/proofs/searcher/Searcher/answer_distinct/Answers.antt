@@ -6,7 +6,7 @@ use Rattle.mg_lex.specs.Reading.{LexStands}
 use Rattle.mg_session.specs.Decided.{TermsTold}
 use Rattle.mg_session.specs.Searching.{Opened, OpenedOver}
 use Rattle.mg_session.proofs.DecidedLaws.{told_ranked}
-use Rattle.mg_session.proofs.CallLaws.{opened_answered, opened_refused}
+use Rattle.mg_session.proofs.CallLaws.{opened_answered, opened_refused, opened_showable}
 use Rattle.mg_session.proofs.ReplyLaws.{answered_behind, answers_for, nothing_answered, part_sound}
 use Rattle.mg_session.proofs.StepLaws.{lex_keeps, lex_text}
 use Rattle.mg_session.proofs.searcher.Searcher.answer_distinct.Goals as goal
@@ -25,6 +25,9 @@ returns-in-Err g c = record {
 
 pub answer_terms-requires-clause-few : goal.answer_terms-requires-clause-few
 answer_terms-requires-clause-few g c = omega (arith, ap length c.deref.ensures.value, c.in-Ok.ensures.told.size, ap length c.as_slice.ensures, c.requires.few)
+
+pub answer_terms-requires-clause-showable : goal.answer_terms-requires-clause-showable
+answer_terms-requires-clause-showable g c = let e = c.in-Ok.ensures in opened_showable c.self.view_is c.requires.fits e.fits e.same e.looked
 
 pub returns : goal.returns
 returns g c = record {

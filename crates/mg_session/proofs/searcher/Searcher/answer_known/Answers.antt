@@ -8,7 +8,7 @@ use Rattle.mg_lex.specs.Reading.{LexStands}
 use Rattle.mg_session.specs.Decided.{BooleanRow, TermsTold}
 use Rattle.mg_session.specs.Searching.{Opened, OpenedOver}
 use Rattle.mg_session.proofs.DecidedLaws.{told_printed}
-use Rattle.mg_session.proofs.CallLaws.{opened_answered, opened_refused}
+use Rattle.mg_session.proofs.CallLaws.{opened_answered, opened_refused, opened_showable}
 use Rattle.mg_session.proofs.ReplyLaws.{answered_behind, answers_for, nothing_answered, part_sound}
 use Rattle.mg_session.proofs.StepLaws.{lex_keeps, lex_text}
 use Rattle.mg_session.proofs.searcher.Searcher.answer_known.Goals as goal
@@ -27,6 +27,9 @@ returns-in-Err g c = record {
 
 pub answer_query-requires-clause-size : goal.answer_query-requires-clause-size
 answer_query-requires-clause-size g c = omega (arith, ap length c.deref.ensures.value, c.in-Ok.ensures.told.size, ap length c.as_slice.ensures, ap length c.requires.terms)
+
+pub answer_query-requires-clause-showable : goal.answer_query-requires-clause-showable
+answer_query-requires-clause-showable g c = let e = c.in-Ok.ensures in opened_showable c.self.view_is c.requires.fits e.fits e.same e.looked
 
 pub returns : goal.returns
 returns g c = record {
