@@ -1,5 +1,7 @@
 -- What lines that are phrases do to a search over built files.
-use Rattle.std.specs.Prelude.{◌≡◌, ℕ, ◌+◌, ◌≤◌, List, sum_by}
+use Rattle.std.specs.Prelude.{◌≡◌, ℕ, ◌+◌, ◌≤◌, List, length, sum_by}
+use Rattle.std.specs.declared.option.Option.{Option}
+use Rattle.mg_dev.specs.Files.{Files}
 use Rattle.mg_dev.specs.declared.part.Part.TheVariants as part
 use Rattle.mg_defs.specs.CodedText.{TextCode}
 use Rattle.mg_defs.specs.PhraseSession.{phrase_reply}
@@ -8,7 +10,7 @@ use Rattle.mg_defs.specs.declared.session.Mode.TheVariants as mode
 use Rattle.mg_defs.specs.declared.session.Settings.{Settings}
 use Rattle.mg_session.specs.Parts.{Stepped}
 use Rattle.mg_session.specs.PhraseAnswers.{line_lists, line_pages}
-use Rattle.mg_session.specs.Searching.{Over, SameOpened, Searching}
+use Rattle.mg_session.specs.Searching.{Opened, Over, SameOpened, SearchFits, Searching}
 
 -- it answers as a session of phrases over a collection does, whatever the settings are
 pub record PhrasesBy (s : Searching) (by : Settings → List ℕ → List ℕ) : Type 0 where
@@ -16,6 +18,13 @@ pub record PhrasesBy (s : Searching) (by : Settings → List ℕ → List ℕ) :
   pub collection : List ℕ
   pub over : Over s code collection
   pub by_is : by ≡ (λ now. phrase_reply collection)
+
+-- A phrase of these words can be sought in the open parts.
+pub record CanSeek (files : Option Files) (o : Opened) (words : List (List ℕ)) : Type 0 where
+  -- it has no more words than a line may have terms
+  pub few : length words ≤ 64
+  -- what the readers keep agrees with the files
+  pub fits : SearchFits files o
 
 -- these lines were answered in between
 pub record PhrasesAsked (s t : Searching) (questions : List Question) : Type 0 where

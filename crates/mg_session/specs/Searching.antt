@@ -8,6 +8,7 @@ use Rattle.mg_dev.specs.declared.part.Part.TheVariants as part
 use Rattle.mg_dev.specs.declared.part_err.PartErr.{PartErr}
 use Rattle.mg_dev.specs.declared.part_err.PartErr.TheVariants.{Device, Memory, Bad}
 use Rattle.mg_defs.specs.CodedText.{TextCode}
+use Rattle.mg_defs.specs.Limits.{line_bytes}
 use Rattle.mg_defs.specs.declared.session.Mode.TheVariants as mode
 use Rattle.mg_defs.specs.declared.session.Settings.{Settings}
 use Rattle.mg_defs.specs.WithinLimits.{IsWithinLimits}
@@ -54,6 +55,13 @@ pub record SearchFits (files : Option Files) (o : Opened) : Type 0 where
   pub lex : FrontFits o.lex files
   pub texts : TextsFit files o.texts
   pub all : o.texts.head.documents ≡ o.all
+
+-- A line can be answered from them.
+pub record CanAnswer (files : Option Files) (o : Opened) (line : List ℕ) : Type 0 where
+  -- it is no longer than lines of a session are
+  pub short : length line ≤ line_bytes
+  -- what the readers keep agrees with the files
+  pub fits : SearchFits files o
 
 -- the same parts
 pub record SameOpened (old new : Opened) : Type 0 where

@@ -7,12 +7,12 @@ ghost use Rattle.mg_query.specs.AllOf.{IsAllOf};
 ghost use Rattle.mg_session.specs.Calls.{WritesAlone};
 ghost use Rattle.mg_session.specs.Decided.{OpenedParts};
 ghost use Rattle.mg_session.specs.Opening.{KeptByQueries, SetOpened};
-ghost use Rattle.mg_session.specs.PhraseSearching.{PhrasesAsked, PhrasesBy};
+ghost use Rattle.mg_session.specs.PhraseSearching.{CanSeek, PhrasesAsked, PhrasesBy};
 ghost use Rattle.mg_session.specs.PhraseSearchLaws.{phrases_later, phrases_more, phrases_none, phrases_stop};
 ghost use Rattle.mg_session.specs.Replying.{AsksPhrase, AsksWords};
 ghost use Rattle.mg_session.specs.Served.{LineAnswered};
 ghost use Rattle.mg_session.specs.PrintedLaws.{PhraseRule as Prints, phrase_later as prints_later};
-ghost use Rattle.mg_session.specs.Searching.{Fits, MayStop, OpenedOver, SearchFits, Searching, opened_at, state_of};
+ghost use Rattle.mg_session.specs.Searching.{CanAnswer, Fits, MayStop, OpenedOver, SearchFits, Searching, opened_at, state_of};
 
 use crate::lists::Lists;
 use crate::lookup::{Sought, find_terms};
@@ -95,8 +95,7 @@ impl<'a, S: Store> PhraseSearcher<'a, S> {
         line: &[u8],
         out: &mut O,
     ) -> Result<(), ShowErr>
-        requires short { length line.now ≤ 1024 }
-        requires fits { SearchFits (S.files store.old) self.old }
+        requires { CanAnswer (S.files store.old) self.old line.now }
         ensures { AsksPhrase S.Store O.Sink store.old store.new out.old out.new result
             self.old self.new line.now }
     {
@@ -113,35 +112,15 @@ impl<'a, S: Store> PhraseSearcher<'a, S> {
         phrase: &Terms,
         out: &mut O,
     ) -> Result<(), ShowErr>
-        requires few { length phrase.now ≤ 64 }
-        requires fits { SearchFits (S.files store.old) self.old }
+        requires { CanSeek (S.files store.old) self.old phrase.now }
         ensures { AsksWords S.Store O.Sink store.old store.new out.old out.new result
             self.old self.new phrase.now }
     {
         match Query::all_of(self.lists.alloc, phrase) {
-            Ok(joined) => self.answer_joined(store, phrase, joined, out),
-            Err(_) => Err(ShowErr::Part(PartErr::Memory)),
-        }
-    }
-
-    /// Writes the reply to a phrase of these words, which a query joins if there are any.
-    fn answer_joined<O: Sink>(
-        &mut self,
-        store: &mut S,
-        phrase: &Terms,
-        joined: Option<Query>,
-        out: &mut O,
-    ) -> Result<(), ShowErr>
-        requires few { length phrase.now ≤ 64 }
-        requires joined { IsAllOf phrase.now joined }
-        requires fits { SearchFits (S.files store.old) self.old }
-        ensures { AsksWords S.Store O.Sink store.old store.new out.old out.new result
-            self.old self.new phrase.now }
-    {
-        match joined {
-            Some(query) => self.answer_words(store, phrase, &query, out),
+            Ok(Some(query)) => self.answer_words(store, phrase, &query, out),
             // No document has a phrase without words.
-            None => answer_none(out),
+            Ok(None) => answer_none(out),
+            Err(_) => Err(ShowErr::Part(PartErr::Memory)),
         }
     }
 
@@ -153,9 +132,8 @@ impl<'a, S: Store> PhraseSearcher<'a, S> {
         query: &Query,
         out: &mut O,
     ) -> Result<(), ShowErr>
-        requires few { length phrase.now ≤ 64 }
+        requires can { CanSeek (S.files store.old) self.old phrase.now }
         requires joined { IsAllOf phrase.now (Some query.now) }
-        requires fits { SearchFits (S.files store.old) self.old }
         ensures { AsksWords S.Store O.Sink store.old store.new out.old out.new result
             self.old self.new phrase.now }
     {

@@ -9,7 +9,7 @@ ghost use Rattle.mg_session.specs.Decided.{OpenedParts};
 ghost use Rattle.mg_session.specs.Opening.{KeptByQueries, SetOpened};
 ghost use Rattle.mg_session.specs.Replying.{AsksLine, AsksQuery, AsksTerms};
 ghost use Rattle.mg_session.specs.Served.{LineAnswered};
-ghost use Rattle.mg_session.specs.Searching.{AnswersBy, Asked, Fits, MayStop, OpenedOver, SearchFits, Searching, opened_at, state_of};
+ghost use Rattle.mg_session.specs.Searching.{AnswersBy, Asked, CanAnswer, Fits, MayStop, OpenedOver, SearchFits, Searching, opened_at, state_of};
 ghost use Rattle.mg_session.specs.PrintedLaws.{Prints, prints_later};
 ghost use Rattle.mg_session.specs.SearchLaws.{answers_later, asked_more, asked_none, stops_later};
 
@@ -92,8 +92,7 @@ impl<'a, S: Store> Searcher<'a, S> {
         now: &Settings,
         out: &mut O,
     ) -> Result<(), ShowErr>
-        requires short { length line.now ≤ 1024 }
-        requires fits { SearchFits (S.files store.old) self.old }
+        requires { CanAnswer (S.files store.old) self.old line.now }
         ensures { AsksLine S.Store O.Sink store.old store.new out.old out.new result
             self.old self.new false now.now line.now }
     {
@@ -154,8 +153,7 @@ impl<'a, S: Store> Searcher<'a, S> {
         now: &Settings,
         out: &mut O,
     ) -> Result<(), ShowErr>
-        requires short { length line.now ≤ 1024 }
-        requires fits { SearchFits (S.files store.old) self.old }
+        requires { CanAnswer (S.files store.old) self.old line.now }
         ensures { AsksLine S.Store O.Sink store.old store.new out.old out.new result
             self.old self.new true now.now line.now }
     {
@@ -194,8 +192,7 @@ impl<'a, S: Store> Searcher<'a, S> {
         now: &Settings,
         out: &mut O,
     ) -> Result<(), ShowErr>
-        requires short { length line.now ≤ 1024 }
-        requires fits { SearchFits (S.files store.old) self.old }
+        requires { CanAnswer (S.files store.old) self.old line.now }
         ensures { AsksLine S.Store O.Sink store.old store.new out.old out.new result
             self.old self.new now.now.ranked now.now line.now }
     {

@@ -15,8 +15,8 @@ returns-in-Err g c = record {
   stepped = opened_unread c.requires.fits (line_told _ c.answer_refused.ensures.later c.answer_refused.ensures.lacks c.answer_refused.ensures.cause);
 }
 
-pub answer_parsed-requires-clause-few : goal.answer_parsed-requires-clause-few
-answer_parsed-requires-clause-few g c = line_words c.args.line.now c.in-Ok.phrase c.in-Ok.ensures.reads
+pub answer_parsed-requires : goal.answer_parsed-requires
+answer_parsed-requires g c = record { few = line_words c.args.line.now c.in-Ok.phrase c.in-Ok.ensures.reads; fits = c.requires.fits }
 
 pub returns-in-Ok : goal.returns-in-Ok
 returns-in-Ok g c = record {

@@ -24,7 +24,7 @@ returns-in-Err g c = record {
       (lex_post _ _ _ _ _ _ c.in-Err.ensures.looked) (lex_text _ _ _ _ _ _ c.in-Err.ensures.looked);
   printed = λ t us words. tt;
   stepped = let e = c.in-Err.ensures in
-      opened_refused c.self.view_is c.requires.fits e.fits e.same e.looked c.in-Err.refusal c.from.ensures e.cause;
+      opened_refused c.self.view_is c.requires.can.fits e.fits e.same e.looked c.in-Err.refusal c.from.ensures e.cause;
 }
 
 pub answer_phrase-requires-clause-size : goal.answer_phrase-requires-clause-size
@@ -32,7 +32,7 @@ answer_phrase-requires-clause-size g c =
     omega (arith, ap length c.deref.ensures.value, c.in-Ok.ensures.told.size, ap length c.as_slice.ensures, ap length (terms_joined c.args.phrase.now c.args.query.now c.requires.joined))
 
 pub answer_phrase-requires-clause-showable : goal.answer_phrase-requires-clause-showable
-answer_phrase-requires-clause-showable g c = let e = c.in-Ok.ensures in opened_showable c.self.view_is c.requires.fits e.fits e.same e.looked
+answer_phrase-requires-clause-showable g c = let e = c.in-Ok.ensures in opened_showable c.self.view_is c.requires.can.fits e.fits e.same e.looked
 
 pub returns : goal.returns
 returns g c = record {
@@ -59,5 +59,5 @@ returns g c = record {
       (subst (λ (ts : List (List ℕ)). TermsTold c.self.inside.lex (g.S.Store.files c.args.store.now) ts c.in-Ok.infos.items) terms c.in-Ok.ensures.told) in
       told_printed (query_of c.args.query.now) PhraseRow _ _ c.answer_phrase.result c.self.view_is c.in-Ok.ensures.looked.files same c.answer_phrase.ensures.printed);
   stepped = let e = c.in-Ok.ensures in
-      opened_answered c.self.view_is c.requires.fits e.fits e.same e.looked c.answer_phrase.ensures.stepped;
+      opened_answered c.self.view_is c.requires.can.fits e.fits e.same e.looked c.answer_phrase.ensures.stepped;
 }
