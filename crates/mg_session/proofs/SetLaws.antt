@@ -1,5 +1,5 @@
 -- Sets that stand: their lists, weights and lexicon, and what is opened of them.
-use Rattle.std.proofs.Common.{arith, ◌≡◌, ◌≤◌, ◌^◌, ℕ, List, length, refl, sym, ◌∙◌, ap, subst}
+use Rattle.std.proofs.Common.{arith, ◌≡◌, ℕ, List, length, refl, sym, ◌∙◌, ap, subst}
 use Rattle.std.specs.declared.option.Option.{Option}
 use Rattle.mg_dev.specs.Files.{Files, bytes_at}
 use Rattle.mg_dev.specs.Names.{full_name}
@@ -30,6 +30,7 @@ use Rattle.mg_text.proofs.CallerLemmas.{set_is_text}
 use Rattle.mg_text.specs.Reading.{IsText}
 use Rattle.mg_session.specs.SearchLaws.{weights_later}
 use Rattle.mg_session.specs.Searching.{OpenedOver, SearchFits, opened_at}
+use Rattle.mg_session.specs.Texts.{HasFewPieces}
 
 -- ---- the parts of a set
 
@@ -77,10 +78,11 @@ opened_over base files now head code collection lex same is lexicon = record {
   all = ap (λ (h : defs.Head). h.documents) is.head_is;
 }
 
-pub opened_fits : (base : List ℕ) (files : Option Files) (head : Head) (lex : Fronted) → FrontFits lex files → head.words ≤ 2 ^ 22 → head.others ≤ 2 ^ 22 → SearchFits files (opened_at base lex head)
-opened_fits base files head lex lexicon words others = record {
+pub opened_fits : (base : List ℕ) (files : Option Files) (head : Head) (lex : Fronted) → FrontFits lex files → HasFewPieces head →
+    SearchFits files (opened_at base lex head)
+opened_fits base files head lex lexicon few = record {
   lex = lexicon;
-  texts = record { words = words; others = others; reader = tt };
+  texts = record { words = few.words; others = few.others; reader = tt };
   all = refl;
 }
 

@@ -1,9 +1,11 @@
 -- By what an answer is decided, and what is printed of it, whatever the parts have.
-use Rattle.std.specs.Prelude.{◌≡◌, ◌⊎◌, ℕ, zero, suc, ◌+◌, ◌<◌, Bool, true, false, List, [], ◌∷◌, ◌++◌, length, get_or, slice_index_or, None, Ok, IfSome, IsSome, OnOk}
+use Rattle.std.specs.Prelude.{◌≡◌, ◌⊎◌, ℕ, zero, suc, ◌+◌, ◌<◌, Bool, true, false, List, [], ◌∷◌, ◌++◌, length, get_or, slice_index_or, None, Ok, IfOk, IfSome, IsSome, OnOk}
 use Rattle.std.specs.declared.option.Option.{Option}
 use Rattle.std.specs.declared.result.Result.{Result}
 use Rattle.mg_dev.specs.Files.{Files}
+use Rattle.mg_dev.specs.Moments.{StoreAt}
 use Rattle.mg_dev.specs.Streams.{appended}
+use Rattle.mg_dev.specs.declared.fault.Fault.{Fault}
 use Rattle.mg_dev.specs.declared.show_err.ShowErr.{ShowErr}
 use Rattle.mg_defs.specs.Phrases.{all_of, phrase_of}
 use Rattle.mg_defs.specs.QueryTerms.{query_terms}
@@ -32,8 +34,9 @@ use Rattle.mg_reply.specs.Pending.{Passed}
 use Rattle.mg_reply.specs.Printed.{at_score, hit_by}
 use Rattle.mg_reply.specs.PrintedLines.{PrintRule}
 use Rattle.mg_session.specs.Answering.{known_infos}
+use Rattle.mg_session.specs.Opening.{KeptByQueries, SetOpened}
 use Rattle.mg_session.specs.PhraseAnswers.{found_at, rows_of}
-use Rattle.mg_session.specs.Searching.{Opened, opened_at}
+use Rattle.mg_session.specs.Searching.{Opened, OpenedOver, SearchFits, opened_at}
 use Rattle.mg_session.specs.Sessions.{ForLexicon}
 use Rattle.mg_session.specs.declared.phrase_rows.PhraseRows.{PhraseRows}
 
@@ -202,7 +205,17 @@ pub record OpenedParts (base : List ℕ) (head : Head) (opened : Opened) : Type 
   pub reader : IsLexiconReader base head.terms lex
   pub opened_is : opened ≡ opened_at base lex head
 
--- the same of a set under a base, by its head
+-- The parts of a set with this head were opened for queries or phrases, or one of them is refused.
+pub record SearchOpened (head : Head) (base : List ℕ) (before now : StoreAt) (result : Result Opened Fault) : Type 0
+  where
+    -- what the readers keep agrees with the files
+    pub fits : IfOk result (SearchFits now.files)
+    -- they are over each collection for which the set stands; no file changed, and no part was read
+    pub set : SetOpened (OpenedOver now.files) KeptByQueries (λ count. ⊥) head base before now result
+    -- they are of this base, by its head
+    pub parts : IfOk result (OpenedParts base head)
+
+-- By parts of a set under a base that were opened by its head, this is printed.
 pub record PrintsOver (IsPrinted : Option Files → Opened → PrintRule) (base : List ℕ) (files : Option Files)
     (question : Question) (before now : Option (List ℕ)) : Type 0 where
   pub head : Head

@@ -20,6 +20,11 @@ pub record IsLoaded (base : List ℕ) (head : Head) (files : Option Files) (r : 
       TextStands r files collection
   pub code : (code : TextCode) (collection : List ℕ) → IsText base files head code collection → r.code ≡ code
 
+-- A head tells of no more pieces than a model may have.
+pub record HasFewPieces (head : Head) : Type 0 where
+  pub words : head.words ≤ 2 ^ 22
+  pub others : head.others ≤ 2 ^ 22
+
 -- the head's numbers are within the limits of the models, and the reader was loaded from these files
 pub record TextsFit (files : Option Files) (t : Texting) : Type 0 where
   pub words : t.head.words ≤ 2 ^ 22

@@ -1,18 +1,18 @@
 //! An answerer of phrases over the open parts of a set.
-ghost use Rattle.std.specs.Prelude.{◌≡◌, ◌≤◌, ◌^◌, Some, length, IfOk};
+ghost use Rattle.std.specs.Prelude.{◌≡◌, ◌≤◌, Some, length};
 ghost use Rattle.mg_defs.specs.Texts.{count as count_text};
 ghost use Rattle.mg_dev.specs.Moments.{sink_at, store_at};
 ghost use Rattle.mg_dev.specs.Streams.{AfterPut};
 ghost use Rattle.mg_query.specs.AllOf.{IsAllOf};
 ghost use Rattle.mg_session.specs.Calls.{WritesAlone};
-ghost use Rattle.mg_session.specs.Decided.{OpenedParts};
-ghost use Rattle.mg_session.specs.Opening.{KeptByQueries, SetOpened};
+ghost use Rattle.mg_session.specs.Decided.{SearchOpened};
 ghost use Rattle.mg_session.specs.PhraseSearching.{CanSeek, PhrasesAsked, PhrasesBy};
 ghost use Rattle.mg_session.specs.PhraseSearchLaws.{phrases_later, phrases_more, phrases_none, phrases_stop};
 ghost use Rattle.mg_session.specs.Replying.{AsksPhrase, AsksWords};
 ghost use Rattle.mg_session.specs.Served.{LineAnswered};
 ghost use Rattle.mg_session.specs.PrintedLaws.{PhraseRule as Prints, phrase_later as prints_later};
-ghost use Rattle.mg_session.specs.Searching.{CanAnswer, Fits, MayStop, OpenedOver, SearchFits, Searching, opened_at, state_of};
+ghost use Rattle.mg_session.specs.Searching.{CanAnswer, Fits, MayStop, SearchFits, Searching, opened_at, state_of};
+ghost use Rattle.mg_session.specs.Texts.{HasFewPieces};
 
 use crate::lists::Lists;
 use crate::lookup::{Sought, find_terms};
@@ -71,14 +71,10 @@ impl<'a, S: Store> PhraseSearcher<'a, S> {
         base: &'a str,
         head: &Head,
     ) -> Result<Self, Fault>
-        requires words { head.now.words ≤ 2 ^ 22 }
-        requires others { head.now.others ≤ 2 ^ 22 }
-        ensures fits { IfOk result (SearchFits (S.files store.new)) }
-        ensures opened { SetOpened (OpenedOver (S.files store.new)) KeptByQueries (λ count. ⊥)
-            head.now base.entry.now
+        requires { HasFewPieces head.now }
+        ensures { SearchOpened head.now base.entry.now
             (store_at S.files S.reads S.faults store.old)
             (store_at S.files S.reads S.faults store.new) result }
-        ensures parts { IfOk result (OpenedParts base.entry.now head.now) }
     {
         let lex = match Lex::load(alloc, store, base, head) {
             Ok(lex) => lex,

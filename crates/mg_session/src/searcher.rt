@@ -1,17 +1,17 @@
 //! An answerer over the open parts of a set.
-ghost use Rattle.std.specs.Prelude.{◌≡◌, ◌≤◌, ◌^◌, false, true, length, IfOk};
+ghost use Rattle.std.specs.Prelude.{◌≡◌, ◌≤◌, false, true, length};
 ghost use Rattle.std.specs.List.{IsDistinct};
 ghost use Rattle.std.specs.Str.{bytes_eq};
 ghost use Rattle.mg_defs.specs.QueryTerms.{query_terms};
 ghost use Rattle.mg_dev.specs.Moments.{sink_at, store_at};
 ghost use Rattle.mg_query.specs.QueryOf.{query_of};
-ghost use Rattle.mg_session.specs.Decided.{OpenedParts};
-ghost use Rattle.mg_session.specs.Opening.{KeptByQueries, SetOpened};
+ghost use Rattle.mg_session.specs.Decided.{SearchOpened};
 ghost use Rattle.mg_session.specs.Replying.{AsksLine, AsksQuery, AsksTerms};
 ghost use Rattle.mg_session.specs.Served.{LineAnswered};
-ghost use Rattle.mg_session.specs.Searching.{AnswersBy, Asked, CanAnswer, Fits, MayStop, OpenedOver, SearchFits, Searching, opened_at, state_of};
+ghost use Rattle.mg_session.specs.Searching.{AnswersBy, Asked, CanAnswer, Fits, MayStop, SearchFits, Searching, opened_at, state_of};
 ghost use Rattle.mg_session.specs.PrintedLaws.{Prints, prints_later};
 ghost use Rattle.mg_session.specs.SearchLaws.{answers_later, asked_more, asked_none, stops_later};
+ghost use Rattle.mg_session.specs.Texts.{HasFewPieces};
 
 use crate::boolean_answer::answer_query;
 use crate::lists::Lists;
@@ -67,14 +67,10 @@ impl<'a, S: Store> Searcher<'a, S> {
         base: &'a str,
         head: &Head,
     ) -> Result<Self, Fault>
-        requires words { head.now.words ≤ 2 ^ 22 }
-        requires others { head.now.others ≤ 2 ^ 22 }
-        ensures fits { IfOk result (SearchFits (S.files store.new)) }
-        ensures opened { SetOpened (OpenedOver (S.files store.new)) KeptByQueries (λ count. ⊥)
-            head.now base.entry.now
+        requires { HasFewPieces head.now }
+        ensures { SearchOpened head.now base.entry.now
             (store_at S.files S.reads S.faults store.old)
             (store_at S.files S.reads S.faults store.new) result }
-        ensures parts { IfOk result (OpenedParts base.entry.now head.now) }
     {
         let lex = match Lex::load(alloc, store, base, head) {
             Ok(lex) => lex,

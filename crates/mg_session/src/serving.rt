@@ -1,8 +1,9 @@
 //! What each session over files does: its head is loaded, and its lines are answered.
-ghost use Rattle.std.specs.Prelude.{◌≤◌, ◌^◌, IfOk};
+ghost use Rattle.std.specs.Prelude.{IfOk};
 ghost use Rattle.mg_dev.specs.Moments.{sink_at, source_at, store_at};
 ghost use Rattle.mg_session.specs.Opening.{HeadOpened};
 ghost use Rattle.mg_session.specs.Served.{LinesServed};
+ghost use Rattle.mg_session.specs.Texts.{HasFewPieces};
 
 use mg_defs::Hearing;
 use mg_dev::{Fault, Sink, Source, Store};
@@ -11,8 +12,7 @@ use mg_reply::{Answerer, fault_of, serve_lines};
 
 /// Loads the head of the files under a base.
 pub(crate) fn load_head<S: Store>(store: &mut S, base: &str) -> Result<Head, Fault>
-    ensures words { IfOk result (λ head. head.words ≤ 2 ^ 22) }
-    ensures others { IfOk result (λ head. head.others ≤ 2 ^ 22) }
+    ensures few { IfOk result HasFewPieces }
     ensures opened { HeadOpened base.now
         (store_at S.files S.reads S.faults store.old)
         (store_at S.files S.reads S.faults store.new) result }
