@@ -1,5 +1,6 @@
 -- A term that no document has changes no answer to ranked terms.
-use Rattle.std.proofs.Common.{arith, ◌≡◌, ℕ, zero, suc, ◌+◌, ◌<◌, ◌≤◌, Bool, true, false, ◌||◌, if◌then◌else◌, List, [], ◌∷◌, length, get_or, Some, None, map, filter, sum_by, refl, sym, ◌∙◌, ap, subst}
+use Rattle.std.proofs.Common.{arith, ◌≡◌, ℕ, zero, suc, ◌+◌, ◌<◌, ◌≤◌, Bool, true, false, ◌||◌, if◌then◌else◌}
+use Rattle.std.proofs.Common.{List, [], ◌∷◌, length, get_or, Some, None, map, filter, sum_by, refl, sym, ◌∙◌, ap, subst}
 use Rattle.std.specs.Prelude.{count_by, slice_index_or}
 use Rattle.std.specs.List.{list_any, enumerate_from, AllByRecursion, IsDistinct}
 use Rattle.std.specs.Str.{bytes_eq}

@@ -156,16 +156,16 @@ lacks StoreFault g lack = inr (inl refl)
 lacks Memory g lack = inr (inr refl)
 lacks _ g lack = absurd lack
 
-pub no_head : (base : List ℕ) (s0 s1 : StoreAt) (i : SourceAt) (o e e1 : SinkAt) (f : Fault) → HeadOpened base s0 s1 (Err f) → Matched base (run_of s0 s1 i i o o e e1 (Err f))
-no_head base s0 s1 i o e e1 f h =
+pub no_head : {base : List ℕ} {s0 s1 : StoreAt} {i : SourceAt} {o e e1 : SinkAt} (f : Fault) → HeadOpened base s0 s1 (Err f) → Matched base (run_of s0 s1 i i o o e e1 (Err f))
+no_head {base} {s0} {s1} {i} {o} {e} {e1} f h =
     matched_as base (run_of s0 s1 i i o o e e1 (Err f)) (Err f) refl (head_stopped patterns base s0 s1 i o e e1 f h)
     (λ count told terms. lacks f _ (h.built terms.head told terms.head_is))
     (λ collection stands more. lacks f _ (h.built _ stands.told (own_head s0.files base collection stands)))
 
-pub no_set : (base : List ℕ) (s0 s1 s2 : StoreAt) (i : SourceAt) (o e e1 : SinkAt) (head : Head) (f : Fault) → HeadOpened base s0 s1 (Ok head) →
+pub no_set : {base : List ℕ} {s0 s1 s2 : StoreAt} {i : SourceAt} {o e e1 : SinkAt} (head : Head) (f : Fault) → HeadOpened base s0 s1 (Ok head) →
     SetOpened (PartsAreBy s2.files) KeptByPatterns (CountedBy head s1.files base) head base s1 s2 (Err f) →
     (IsSome s1.files → (count : ℕ) → TooManyBy head s1.files base count → RefusedFor {T = WildParts} (Err f) (TooManyRotations count)) → Matched base (run_of s0 s2 i i o o e e1 (Err f))
-no_set base s0 s1 s2 i o e e1 head f h set many =
+no_set {base} {s0} {s1} {s2} {i} {o} {e} {e1} head f h set many =
     matched_as base (run_of s0 s2 i i o o e e1 (Err f)) (Err f) refl
     (set_stopped patterns (PartsAreBy s2.files) (CountedBy head s1.files base) base s0 s1 s2 i o e e1 head f h set (counted_by base s0 s1 head h))
     (λ count told terms. refused_as {A = WildParts} {B = Unit {0}} f _ (many (told_then s0 s1 h.files told) count (told_by base s0 s1 head h told count terms)))
@@ -173,12 +173,12 @@ no_set base s0 s1 s2 i o e e1 head f h set many =
     let by = stands_opened base s0 s1 head h collection stands in
     refused_as {A = WildParts} {B = Unit {0}} f _ (many by.1.told _ (set_has base s1.files head by.0 collection by.1 more)))
 
-pub matched : (base : List ℕ) (s0 s1 : StoreAt) (old new : WildState) (i i1 : SourceAt) (o o1 e e1 : SinkAt) (head : Head) (r : Result (Unit {0}) Fault) → HeadOpened base s0 s1 (Ok head) →
+pub matched : {base : List ℕ} {s0 s1 : StoreAt} (old new : WildState) {i i1 : SourceAt} {o o1 e e1 : SinkAt} (head : Head) (r : Result (Unit {0}) Fault) → HeadOpened base s0 s1 (Ok head) →
     SetOpened (PartsAreBy old.files) KeptByPatterns (CountedBy head s1.files base) head base s1 (patterns.at old) (Ok old.parts) →
     (IsSome s1.files → (count : ℕ) → TooManyBy head s1.files base count → RefusedFor {T = WildParts} (Ok old.parts) (TooManyRotations count)) →
     LinesServed Questions WildBy WildAsked WildPrints WildMayStop old new i i1 o o1 r →
     Matched base (run_of s0 (patterns.at new) i i1 o o1 e e1 r)
-matched base s0 s1 old new i i1 o o1 e e1 head r h set many lines =
+matched {base} {s0} {s1} old new {i} {i1} {o} {o1} {e} {e1} head r h set many lines =
     matched_as base (run_of s0 (patterns.at new) i i1 o o1 e e1 r) r refl
     (lines_served patterns (PartsAreBy old.files) (CountedBy head s1.files base) base s0 s1 old new i i1 o o1 e e1 head old.parts r h set (λ code collection over. over) lines)
     (λ count told terms. not_refused old.parts _ _ (many (told_then s0 s1 h.files told) count (told_by base s0 s1 head h told count terms)))

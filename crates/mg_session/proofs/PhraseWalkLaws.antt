@@ -1,5 +1,6 @@
 -- An answer to a phrase that is under way.
-use Rattle.std.proofs.Common.{arith, ◌≡◌, ℕ, ◌+◌, ◌≤◌, inl, inr, Bool, true, false, List, [], ◌∷◌, ◌++◌, length, drop, map, nat_lt, Some, None, Err, refl, sym, ◌∙◌, ap, subst, append_assoc, append-nil, length-append, sum_by}
+use Rattle.std.proofs.Common.{arith, ◌≡◌, ℕ, ◌+◌, ◌≤◌, inl, inr, Bool, true, false}
+use Rattle.std.proofs.Common.{List, [], ◌∷◌, ◌++◌, length, drop, map, nat_lt, Some, None, Err, refl, sym, ◌∙◌, ap, subst, append_assoc, append-nil, length-append, sum_by}
 use Rattle.std.specs.Prelude.{flat_map, OnOk, Ok}
 use Rattle.std.specs.List.{AllByRecursion}
 use Rattle.std.specs.declared.option.Option.{Option}

@@ -89,21 +89,21 @@ phrased_as base run r is served printed broken = record {
       done_or CountsNone base collection given run r is served.cause stands (λ n counted. counted) some short no_store no_input no_output;
 }
 
-pub no_head : (base : List ℕ) (s0 s1 : StoreAt) (i : SourceAt) (o e e1 : SinkAt) (f : Fault) → HeadOpened base s0 s1 (Err f) → Phrased base (run_of s0 s1 i i o o e e1 (Err f))
-no_head base s0 s1 i o e e1 f h = phrased_as base (run_of s0 s1 i i o o e e1 (Err f)) (Err f) refl (head_stopped phrases base s0 s1 i o e e1 f h)
+pub no_head : {base : List ℕ} {s0 s1 : StoreAt} {i : SourceAt} {o e e1 : SinkAt} (f : Fault) → HeadOpened base s0 s1 (Err f) → Phrased base (run_of s0 s1 i i o o e e1 (Err f))
+no_head {base} {s0} {s1} {i} {o} {e} {e1} f h = phrased_as base (run_of s0 s1 i i o o e e1 (Err f)) (Err f) refl (head_stopped phrases base s0 s1 i o e e1 f h)
     (λ given told some end. when_ok {T = Unit {0}} _ (Err f) end tt) (λ given told some end. none_answered Questions (PrintsOver PhrasePrints base s0.files) given refl refl some)
 
-pub no_set : (base : List ℕ) (s0 s1 s2 : StoreAt) (i : SourceAt) (o e e1 : SinkAt) (head : Head) (f : Fault) → HeadOpened base s0 s1 (Ok head) →
+pub no_set : {base : List ℕ} {s0 s1 s2 : StoreAt} {i : SourceAt} {o e e1 : SinkAt} (head : Head) (f : Fault) → HeadOpened base s0 s1 (Ok head) →
     SetOpened (OpenedOver s2.files) KeptByQueries (λ count. ⊥) head base s1 s2 (Err f) → Phrased base (run_of s0 s2 i i o o e e1 (Err f))
-no_set base s0 s1 s2 i o e e1 head f h set =
+no_set {base} {s0} {s1} {s2} {i} {o} {e} {e1} head f h set =
     phrased_as base (run_of s0 s2 i i o o e e1 (Err f)) (Err f) refl (set_stopped phrases (OpenedOver s2.files) (λ count. ⊥) base s0 s1 s2 i o e e1 head f h set (λ n never. absurd never))
     (λ given told some end. when_ok {T = Unit {0}} _ (Err f) end tt) (λ given told some end. none_answered Questions (PrintsOver PhrasePrints base s0.files) given refl refl some)
 
-pub phrased : (base : List ℕ) (s0 s1 : StoreAt) (old new : Searching) (i i1 : SourceAt) (o o1 e e1 : SinkAt) (head : Head) (r : Result (Unit {0}) Fault) → HeadOpened base s0 s1 (Ok head) →
+pub phrased : {base : List ℕ} {s0 s1 : StoreAt} (old new : Searching) {i i1 : SourceAt} {o o1 e e1 : SinkAt} (head : Head) (r : Result (Unit {0}) Fault) → HeadOpened base s0 s1 (Ok head) →
     SetOpened (OpenedOver old.files) KeptByQueries (λ count. ⊥) head base s1 (phrases.at old) (Ok old.opened) → OpenedParts base head old.opened →
     LinesServed Questions PhrasesBy PhrasesAsked PhraseRule MayStop old new i i1 o o1 r →
     Phrased base (run_of s0 (phrases.at new) i i1 o o1 e e1 r)
-phrased base s0 s1 old new i i1 o o1 e e1 head r h set parts lines =
+phrased {base} {s0} {s1} old new {i} {i1} {o} {o1} {e} {e1} head r h set parts lines =
     phrased_as base (run_of s0 (phrases.at new) i i1 o o1 e e1 r) r refl
     (lines_served phrases (OpenedOver old.files) (λ count. ⊥) base s0 s1 old new i i1 o o1 e e1 head old.opened r h set (λ code collection over. over) lines)
     (printed_over PhrasePrints base s0 s1 old new i i1 o o1 head r h set.files parts lines) (broken_over PhrasePrints base s0 s1 old new i i1 o o1 head r h set.files parts lines)

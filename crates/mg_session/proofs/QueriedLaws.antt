@@ -92,24 +92,24 @@ queried_as base run r is served printed broken texts_unread = record {
   texts_unread = texts_unread;
 }
 
-pub no_head : (base : List ℕ) (s0 s1 : StoreAt) (i : SourceAt) (o e e1 : SinkAt) (f : Fault) → HeadOpened base s0 s1 (Err f) → Queried base (run_of s0 s1 i i o o e e1 (Err f))
-no_head base s0 s1 i o e e1 f h =
+pub no_head : {base : List ℕ} {s0 s1 : StoreAt} {i : SourceAt} {o e e1 : SinkAt} (f : Fault) → HeadOpened base s0 s1 (Err f) → Queried base (run_of s0 s1 i i o o e e1 (Err f))
+no_head {base} {s0} {s1} {i} {o} {e} {e1} f h =
     queried_as base (run_of s0 s1 i i o o e e1 (Err f)) (Err f) refl (head_stopped queries base s0 s1 i o e e1 f h)
     (λ given told some end. when_ok {T = Unit {0}} _ (Err f) end tt) (λ given told some end. none_answered Commands (PrintsOver QuestionPrints base s0.files) given refl refl some)
     (λ given some asks p of_text. h.unread p (text_behind p of_text))
 
-pub no_set : (base : List ℕ) (s0 s1 s2 : StoreAt) (i : SourceAt) (o e e1 : SinkAt) (head : Head) (f : Fault) → HeadOpened base s0 s1 (Ok head) →
+pub no_set : {base : List ℕ} {s0 s1 s2 : StoreAt} {i : SourceAt} {o e e1 : SinkAt} (head : Head) (f : Fault) → HeadOpened base s0 s1 (Ok head) →
     SetOpened (OpenedOver s2.files) KeptByQueries (λ count. ⊥) head base s1 s2 (Err f) → Queried base (run_of s0 s2 i i o o e e1 (Err f))
-no_set base s0 s1 s2 i o e e1 head f h set =
+no_set {base} {s0} {s1} {s2} {i} {o} {e} {e1} head f h set =
     queried_as base (run_of s0 s2 i i o o e e1 (Err f)) (Err f) refl (set_stopped queries (OpenedOver s2.files) (λ count. ⊥) base s0 s1 s2 i o e e1 head f h set (λ n never. absurd never))
     (λ given told some end. when_ok {T = Unit {0}} _ (Err f) end tt) (λ given told some end. none_answered Commands (PrintsOver QuestionPrints base s0.files) given refl refl some)
     (λ given some asks p of_text. set.unread p tt ∙ h.unread p (text_behind p of_text))
 
-pub queried : (base : List ℕ) (s0 s1 : StoreAt) (old new : Searching) (i i1 : SourceAt) (o o1 e e1 : SinkAt) (head : Head) (r : Result (Unit {0}) Fault) → HeadOpened base s0 s1 (Ok head) →
+pub queried : {base : List ℕ} {s0 s1 : StoreAt} (old new : Searching) {i i1 : SourceAt} {o o1 e e1 : SinkAt} (head : Head) (r : Result (Unit {0}) Fault) → HeadOpened base s0 s1 (Ok head) →
     SetOpened (OpenedOver old.files) KeptByQueries (λ count. ⊥) head base s1 (queries.at old) (Ok old.opened) → OpenedParts base head old.opened →
     LinesServed Commands AnswersBy Asked Prints MayStop old new i i1 o o1 r →
     Queried base (run_of s0 (queries.at new) i i1 o o1 e e1 r)
-queried base s0 s1 old new i i1 o o1 e e1 head r h set parts lines =
+queried {base} {s0} {s1} old new {i} {i1} {o} {o1} {e} {e1} head r h set parts lines =
     queried_as base (run_of s0 (queries.at new) i i1 o o1 e e1 r) r refl
     (lines_served queries (OpenedOver old.files) (λ count. ⊥) base s0 s1 old new i i1 o o1 e e1 head old.opened r h set (λ code collection over. over) lines)
     (printed_over QuestionPrints base s0 s1 old new i i1 o o1 head r h set.files parts lines) (broken_over QuestionPrints base s0 s1 old new i i1 o o1 head r h set.files parts lines)

@@ -1,5 +1,6 @@
 -- A ranked answer, shown row by row.
-use Rattle.std.proofs.Common.{arith, ◌≡◌, ℕ, zero, suc, ◌+◌, ◌<◌, ◌≤◌, List, [], ◌∷◌, ◌++◌, length, take, drop, filter, Some, None, Err, refl, sym, ◌∙◌, ap, subst, append_assoc, append-nil, add-one, sum_by}
+use Rattle.std.proofs.Common.{arith, ◌≡◌, ℕ, zero, suc, ◌+◌, ◌<◌, ◌≤◌}
+use Rattle.std.proofs.Common.{List, [], ◌∷◌, ◌++◌, length, take, drop, filter, Some, None, Err, refl, sym, ◌∙◌, ap, subst, append_assoc, append-nil, add-one, sum_by}
 use Rattle.std.specs.Prelude.{flat_map, slice_index_or, unwrap_or}
 use Rattle.std.specs.List.{list_any, enumerate_from}
 use Rattle.std.specs.declared.option.Option.{Option}

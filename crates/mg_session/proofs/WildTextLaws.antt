@@ -1,5 +1,6 @@
 -- The answer to a pattern: its terms, their lists, and what is printed of both.
-use Rattle.std.proofs.Common.{arith, ◌≡◌, ◌≢◌, ℕ, zero, suc, ◌+◌, ◌-◌, ◌<◌, ◌≤◌, ◌∙◌, true, false, List, [], ◌∷◌, ◌++◌, length, get_or, slice_get, map, take, drop, filter, codes, Some, None, Err, inl, inr, refl, sym, ap, subst, append_assoc, append-nil, add-one}
+use Rattle.std.proofs.Common.{arith, ◌≡◌, ◌≢◌, ℕ, zero, suc, ◌+◌, ◌-◌, ◌<◌, ◌≤◌, ◌∙◌, true, false}
+use Rattle.std.proofs.Common.{List, [], ◌∷◌, ◌++◌, length, get_or, slice_get, map, take, drop, filter, codes, Some, None, Err, inl, inr, refl, sym, ap, subst, append_assoc, append-nil, add-one}
 use Rattle.std.specs.Prelude.{◌||◌}
 use Rattle.std.specs.List.{flat_map, list_any}
 use Rattle.std.specs.declared.option.Option.{Option}

@@ -4,17 +4,17 @@ use Rattle.mg_session.proofs.QueriedLaws.{no_head, no_set, queried}
 use Rattle.mg_session.proofs.session.serve.Goals as goal
 
 pub returns-in-Err-clause-queried : goal.returns-in-Err-clause-queried
-returns-in-Err-clause-queried g c = λ err err_now. no_head _ _ _ _ _ _ _ c.in-Err.fault c.in-Err.ensures.opened
+returns-in-Err-clause-queried g c = λ err err_now. no_head c.in-Err.fault c.in-Err.ensures.opened
 
 pub returns-in-Err-open-clause-queried : goal.returns-in-Err-open-clause-queried
-returns-in-Err-open-clause-queried g c = λ err err_now. no_set _ _ _ _ _ _ err err_now c.in-Ok.head c.in-Err-open.fault c.in-Ok.ensures.opened c.in-Err-open.ensures.set
+returns-in-Err-open-clause-queried g c = λ err err_now. no_set c.in-Ok.head c.in-Err-open.fault c.in-Ok.ensures.opened c.in-Err-open.ensures.set
 
 pub returns-clause-queried : goal.returns-clause-queried
 returns-clause-queried g c = λ err err_now.
-    queried _ _ _
+    queried
     (state_of (g.S.Store.files c.open.new.store) (g.S.Store.reads c.open.new.store) (g.S.Store.faults c.open.new.store) c.in-Ok-open.searcher)
     (state_of (g.S.Store.files c.answer_lines.new.dev) (g.S.Store.reads c.answer_lines.new.dev) (g.S.Store.faults c.answer_lines.new.dev) c.answer_lines.ensures.served.0)
-    _ _ _ _ _ _ c.in-Ok.head c.answer_lines.result c.in-Ok.ensures.opened c.in-Ok-open.ensures.set c.in-Ok-open.ensures.parts c.answer_lines.ensures.served.1
+    c.in-Ok.head c.answer_lines.result c.in-Ok.ensures.opened c.in-Ok-open.ensures.set c.in-Ok-open.ensures.parts c.answer_lines.ensures.served.1
 
 pub returns-in-Err-clause-later : goal.returns-in-Err-clause-later
 returns-in-Err-clause-later g c = c.in-Err.ensures.opened.faults

@@ -4,18 +4,18 @@ use Rattle.mg_session.proofs.MatchedLaws.{matched, no_head, no_set}
 use Rattle.mg_session.proofs.wild.serve_wild.Goals as goal
 
 pub returns-in-Err-clause-matched : goal.returns-in-Err-clause-matched
-returns-in-Err-clause-matched g c = λ err err_now. no_head _ _ _ _ _ _ _ c.in-Err.fault c.in-Err.ensures.opened
+returns-in-Err-clause-matched g c = λ err err_now. no_head c.in-Err.fault c.in-Err.ensures.opened
 
 pub returns-in-Err-open-clause-matched : goal.returns-in-Err-open-clause-matched
 returns-in-Err-open-clause-matched g c = λ err err_now.
-    no_set _ _ _ _ _ _ _ _ c.in-Ok.head c.in-Err-open.fault c.in-Ok.ensures.opened c.in-Err-open.ensures.opened c.in-Err-open.ensures.many
+    no_set c.in-Ok.head c.in-Err-open.fault c.in-Ok.ensures.opened c.in-Err-open.ensures.opened c.in-Err-open.ensures.many
 
 pub returns-clause-matched : goal.returns-clause-matched
 returns-clause-matched g c = λ err err_now.
-    matched _ _ _
+    matched
     (wild_state (g.S.Store.files c.open.new.store) (g.S.Store.reads c.open.new.store) (g.S.Store.faults c.open.new.store) c.in-Ok-open.searcher)
     (wild_state (g.S.Store.files c.answer_lines.new.dev) (g.S.Store.reads c.answer_lines.new.dev) (g.S.Store.faults c.answer_lines.new.dev) c.answer_lines.ensures.served.0)
-    _ _ _ _ _ _ c.in-Ok.head c.answer_lines.result c.in-Ok.ensures.opened c.in-Ok-open.ensures.opened c.in-Ok-open.ensures.many c.answer_lines.ensures.served.1
+    c.in-Ok.head c.answer_lines.result c.in-Ok.ensures.opened c.in-Ok-open.ensures.opened c.in-Ok-open.ensures.many c.answer_lines.ensures.served.1
 
 pub returns-in-Err-clause-later : goal.returns-in-Err-clause-later
 returns-in-Err-clause-later g c = c.in-Err.ensures.opened.faults

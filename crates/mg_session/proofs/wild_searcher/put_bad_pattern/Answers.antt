@@ -1,8 +1,9 @@
 use Rattle.std.proofs.Common.{arith, None, codes, ◌++◌}
 use Rattle.mg_defs.specs.Texts.{row}
 use Rattle.mg_defs.specs.WildSession.{bad_pattern}
-use Rattle.mg_reply.proofs.CallerLemmas.{pass_both, pass_cut, pass_part, pass_put, pass_refused}
+use Rattle.mg_reply.proofs.CallerLemmas.{pass_cut, pass_part, pass_refused}
 use Rattle.mg_session.proofs.CallLaws.{put_behind}
+use Rattle.mg_session.proofs.WildTextLaws.{all_put}
 use Rattle.mg_session.proofs.wild_searcher.put_bad_pattern.Goals as goal
 
 pub returns-in-Err-clause-content : goal.returns-in-Err-clause-content
@@ -19,7 +20,7 @@ returns-in-Err-row-clause-content g c =
 pub returns-in-Ok-row-clause-content : goal.returns-in-Ok-row-clause-content
 unfolding bad_pattern row
 returns-in-Ok-row-clause-content g c =
-    pass_put _ _ _ _ _ (codes "? bad pattern at " ++ row c.args.at None) _ c.new-pending.ensures (pass_both _ _ _ _ _ _ _ _ c.in-Ok.ensures.content c.in-Ok-row.ensures.content) c.flush.ensures.content
+    all_put _ _ c.new-pending.ensures c.in-Ok.ensures.content c.in-Ok-row.ensures.content c.flush.ensures.content
 
 -- ---- the output
 
