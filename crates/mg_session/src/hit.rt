@@ -10,7 +10,9 @@ use mg_dev::{ShowErr, Sink, Store};
 use mg_reply::{Pending, shows};
 
 /// Passes on a document's header, its text and what closes it. What waits goes to the sink first, and
-/// the text goes there straight.
+/// the text goes there straight. It stands apart so that a document that is only counted or numbered
+/// does not pay for the room that texts take.
+#[inline(never)]
 fn show_text<S: Store, D: Documents<S>, O: Sink>(
     texts: &mut D,
     store: &mut S,
