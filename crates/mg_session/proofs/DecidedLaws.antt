@@ -13,6 +13,7 @@ use Rattle.mg_defs.specs.Refusals.{Reading, Refusal, reads, refused}
 use Rattle.mg_defs.specs.Replies.{refusal}
 use Rattle.mg_defs.specs.Sat.{Query}
 use Rattle.mg_defs.specs.Texts.{count}
+use Rattle.mg_defs.specs.Weights.{Hit}
 use Rattle.mg_defs.specs.declared.session.Settings.{Settings}
 use Rattle.mg_post.specs.Cursor.{Cursoring, SameList}
 use Rattle.mg_post.proofs.CallerLemmas.{first_same}
@@ -205,27 +206,24 @@ query_printed files IsRow w0 w1 m (Err error) asks_is all_is lists needs printed
 
 -- ---- ranked terms
 
--- bytes were passed on behind others
-pub some_then : {w0 w1 w2 : Option (List ℕ)} {p0 p1 p2 x y : List ℕ} → Passed w0 w1 p0 p1 x → Passed w1 w2 p1 p2 y → (rows : List ℕ) × Passed w0 w2 p0 p2 rows
-some_then {w0} {w1} {w2} {p0} {p1} {p2} {x} {y} one two = (x ++ y, pass_both w0 w1 w2 p0 p1 p2 x y one two)
-
 -- rows were passed on, and the count was put behind them
-pub counted_behind : {w0 w1 : Option (List ℕ)} {waited waiting rows : List ℕ} (w2 : Option (List ℕ)) (last : List ℕ) (r : Result (Unit {0}) ShowErr) → waited ≡ [] →
-    Passed w0 w1 waited waiting rows →
-    AfterPut w1 w2 (waiting ++ last) r → OnOk r ((rows : List ℕ) × (w2 ≡ appended w0 (rows ++ last)))
-counted_behind {w0} {w1} {waited} {waiting} {rows} w2 last (Ok done) none passed put = (rows, put_rows {E = ShowErr} w0 w1 w2 waited waiting rows last (Ok done) none passed put)
-counted_behind w2 last (Err error) none passed put = tt
+pub counted_behind : {w0 w1 : Option (List ℕ)} {waited waiting rows : List ℕ} (w2 : Option (List ℕ)) (last : List ℕ) (r : Result (Unit {0}) ShowErr)
+    (AreSuch : List ℕ → Type 0) → waited ≡ [] → AreSuch rows → Passed w0 w1 waited waiting rows →
+    AfterPut w1 w2 (waiting ++ last) r → OnOk r ((rows : List ℕ) × AreSuch rows × (w2 ≡ appended w0 (rows ++ last)))
+counted_behind {w0} {w1} {waited} {waiting} {rows} w2 last (Ok done) AreSuch none are passed put = (rows, are, put_rows {E = ShowErr} w0 w1 w2 waited waiting rows last (Ok done) none passed put)
+counted_behind w2 last (Err error) AreSuch none are passed put = tt
 
 -- whole lists were counted
-pub terms_printed : {all : ℕ} {given known : List TermInfo} {ranking : Ranking} (w0 w1 : Option (List ℕ)) (r : Result (Unit {0}) ShowErr) → given ≡ known →
-    CountsWhole all given ranking → OnOk r ((rows : List ℕ) × (w1 ≡ appended w0 (rows ++ count ranking.total))) → OnOk r (TermsPrinted known all w0 w1)
-terms_printed {all} {given} {known} {ranking} w0 w1 (Ok done) is whole counted = record {
+pub terms_printed : {all : ℕ} {given known : List TermInfo} (ranking : Ranking) (AreSuch : List Hit → List ℕ → Type 0) (w0 w1 : Option (List ℕ)) (r : Result (Unit {0}) ShowErr) → given ≡ known →
+    CountsWhole all given ranking → OnOk r ((rows : List ℕ) × AreSuch ranking.rows rows × (w1 ≡ appended w0 (rows ++ count ranking.total))) → OnOk r (TermsPrinted known all AreSuch w0 w1)
+terms_printed {all} {given} {known} ranking AreSuch w0 w1 (Ok done) is whole counted = record {
   ranking = ranking;
   whole = subst (λ infos. CountsWhole all infos ranking) is whole;
   rows = counted.0;
-  put = counted.1;
+  rows_are = counted.1;
+  put = counted.2;
 }
-terms_printed w0 w1 (Err error) is whole counted = tt
+terms_printed ranking AreSuch w0 w1 (Err error) is whole counted = tt
 
 -- ---- over open parts
 
@@ -236,10 +234,12 @@ told_printed {own} {opened} {files} {now} {infos} q IsRow w0 w1 (Ok done) is sam
     subst (λ (o : Opened). QueryToldPrinted q files o IsRow w0 w1) is (infos, told, subst (λ f. QueryPrinted q own.base f infos own.all IsRow w0 w1) same printed)
 told_printed q IsRow w0 w1 (Err error) is same told printed = tt
 
-pub told_ranked : {own opened : Opened} {files : Option Files} {ts : List (List ℕ)} {infos : List (Option TermInfo)} (w0 w1 : Option (List ℕ)) (r : Result (Unit {0}) ShowErr) →
-    own ≡ opened → TermsTold own.lex files ts infos → OnOk r (TermsPrinted (known_infos infos) own.all w0 w1) → OnOk r (TermsToldPrinted ts files opened w0 w1)
-told_ranked {own} {opened} {files} {ts} {infos} w0 w1 (Ok done) is told printed = subst (λ (o : Opened). TermsToldPrinted ts files o w0 w1) is (infos, told, printed)
-told_ranked w0 w1 (Err error) is told printed = tt
+pub told_ranked : {own opened : Opened} {files : Option Files} {ts : List (List ℕ)} {infos : List (Option TermInfo)} (AreSuch : List Hit → List ℕ → Type 0) (w0 w1 : Option (List ℕ))
+    (r : Result (Unit {0}) ShowErr) → own ≡ opened → TermsTold own.lex files ts infos → OnOk r (TermsPrinted (known_infos infos) own.all AreSuch w0 w1) →
+    OnOk r (TermsToldPrinted ts files opened AreSuch w0 w1)
+told_ranked {own} {opened} {files} {ts} {infos} AreSuch w0 w1 (Ok done) is told printed =
+    subst (λ (o : Opened). TermsToldPrinted ts files o AreSuch w0 w1) is (infos, told, printed)
+told_ranked AreSuch w0 w1 (Err error) is told printed = tt
 
 -- ---- a line
 

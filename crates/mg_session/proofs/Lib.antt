@@ -12,6 +12,7 @@ pub mod ReplyLaws
 pub mod TermLaws
 pub mod CallLaws
 pub mod DecidedLaws
+pub mod DocStandsLaws
 pub mod SetLaws
 pub mod StopLaws
 pub mod SessionLaws

@@ -19,9 +19,12 @@ use Rattle.mg_phrase.specs.Marks.{Counting, Marking, MarksFit, mark_of, places_w
 use Rattle.mg_text.specs.Held.{HasShortDocument}
 use Rattle.mg_text.specs.Listing.{AreWordsOf}
 use Rattle.mg_text.specs.Reading.{IsText, TextReading, TextStands}
+use Rattle.mg_session.specs.DocStands.{places_in_words}
 use Rattle.mg_session.specs.Parts.{ShownIn}
+use Rattle.mg_session.specs.PhraseMarks.{AreWords}
 use Rattle.mg_session.specs.PhraseTexts.{AreMarksOf, FindsPlaces, SeeksPhrase}
 use Rattle.mg_session.specs.Texts.{IsLoaded, Texting, TextsFit, TextsStand}
+use Rattle.mg_session.proofs.DocStandsLaws.{places_stood}
 use Rattle.mg_session.proofs.StepLaws.{looked_shown, shown_then}
 use Rattle.mg_session.proofs.TextsLaws.{loaded_later, same_pages, short_document}
 
@@ -56,6 +59,15 @@ pub none_taken : (code : TextCode) (symbols doc : List ℕ) (c : Counting) (phra
     places_with c (words_at code symbols) ≡ phrase_places phrase doc
 none_taken code symbols doc c phrase counts are = ap (places_with c) are ∙ ap (λ ts. c.places + place_count_from c.phrase c.begun ts) (terms_again (words_of doc)) ∙ counts doc
 
+pub none_counted : (code : TextCode) (symbols : List ℕ) (words : List (List ℕ)) (c : Counting) (phrase : List (List ℕ)) → c.phrase ≡ phrase → c.places ≡ 0 → c.begun ≡ [] →
+    AreWords code symbols words → places_with c (words_at code symbols) ≡ places_in_words phrase words
+none_counted code symbols words c phrase own none begun are =
+    let one : places_with c (words_at code symbols) ≡ c.places + place_count_from c.phrase c.begun (terms_of_words words) =
+    ap (places_with c) are ∙ ap (λ ts. c.places + place_count_from c.phrase c.begun ts) (terms_again words) in
+    let two : place_count_from c.phrase c.begun (terms_of_words words) ≡ place_count_from phrase [] (terms_of_words words) =
+    ap (λ p. place_count_from p c.begun (terms_of_words words)) own ∙ ap (λ b. place_count_from phrase b (terms_of_words words)) begun in
+    omega (arith, one, two, none)
+
 -- one more word was taken
 pub one_taken : (code : TextCode) (symbols : List ℕ) (i symbol mark total : ℕ) (old new : Counting) → i < length symbols → symbol ≡ get_or symbols i symbol →
     mark ≡ mark_of old.phrase (get_or code.words.pieces symbol []) →
@@ -80,11 +92,11 @@ module _ {base : List ℕ} {head : Head} {reader : Option TextReading} {texts : 
   pub places_read : {reader_now : Option TextReading} {r r_now : TextReading} {now : StoreAt} {number : ℕ} {result : Result ℕ PartErr} {marks marks_now : Marking} →
       reader_now ≡ Some r_now → IsLoaded base head next.files r →
       SeeksPhrase number head.collection result r r_now marks marks_now next.files now.files next.reads now.reads next.faults now.faults →
-      next.reads part.Text ≡ at.reads part.Text →
+      next.files ≡ at.files → next.reads part.Text ≡ at.reads part.Text →
       ((code : TextCode) (collection : List ℕ) → IsText base at.files head code collection → TextStands r next.files collection) →
       ((code : TextCode) (collection : List ℕ) → IsText base at.files head code collection → r.code ≡ code) →
       FindsPlaces number result texts (record { base = base; head = head; reader = reader_now }) marks marks_now at now
-  places_read {r = r} {r_now = r_now} {now = now} {number = number} {result = result} {marks_now = marks_now} is loaded found unread stands code =
+  places_read {r = r} {r_now = r_now} {now = now} {number = number} {result = result} {marks = marks} {marks_now = marks_now} is loaded found same_files unread stands code =
       let own_text : (c : TextCode) (collection : List ℕ) → TextsStand texts at.files c collection → TextsStand (record { base = base; head = head; reader = reader }) at.files c collection =
       λ c collection it. subst (λ (t : Texting). TextsStand t at.files c collection) (sym own) it in
       let short : (c : TextCode) (collection : List ℕ) → TextsStand texts at.files c collection → HasShortDocument r next.files number head.collection collection =
@@ -97,6 +109,7 @@ module _ {base : List ℕ} {head : Head} {reader : Option TextReading} {texts : 
         };
         same = record { base = ap (λ (t : Texting). t.base) own; head = ap (λ (t : Texting). t.head) own };
         content = λ c collection it. found.content collection (short c collection it);
+        stood = places_stood marks.phrase number own result same_files loaded (λ known. found.stood known);
         never_bad = λ c collection it. found.never_bad collection (short c collection it);
         pages = λ c collection it.
             let read = same_pages r c collection number _ _ (code c collection (own_text c collection it).text) (found.pages collection (short c collection it)) in

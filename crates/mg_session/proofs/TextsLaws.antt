@@ -1,5 +1,5 @@
 -- The text of a base: its reader, before and after it is loaded.
-use Rattle.std.proofs.Common.{arith, ◌≡◌, ◌+◌, ◌≤◌, ℕ, zero, suc, List, [], ◌∷◌, length, get_or, Some, None, Ok, Err, sym, ◌∙◌, ap, subst, is_some}
+use Rattle.std.proofs.Common.{arith, ◌≡◌, ◌+◌, ◌≤◌, ℕ, zero, suc, List, [], ◌∷◌, length, get_or, IsSome, Some, None, Ok, Err, sym, ◌∙◌, ap, subst, is_some}
 use Rattle.std.specs.Prelude.{IfSome}
 use Rattle.std.specs.List.{AllByRecursion}
 use Rattle.std.specs.declared.option.Option.{Option}
@@ -27,7 +27,7 @@ use Rattle.mg_reply.specs.Printed.{at_score}
 use Rattle.mg_session.specs.Answering.{HasShowCause, HasShowLack}
 use Rattle.mg_session.specs.Calls.{TextShown}
 use Rattle.mg_session.specs.Parts.{ShownIn}
-use Rattle.mg_session.specs.Texts.{IsLoaded, Texting, TextsFit, TextsStand}
+use Rattle.mg_session.specs.Texts.{IsLoaded, ModelsAre, Texting, TextsFit, TextsStand}
 use Rattle.mg_session.proofs.StepLaws.{cause_after, looked_shown, shown_then}
 
 -- the same reader, over the same files
@@ -45,6 +45,7 @@ loaded_later base head files now r s same fits e o = record {
       text_stays r s files now collection same (ap is_some e) (ap (λ (f : Option Files). file_at f r.text.name) e)
       (ap (λ (f : Option Files). file_at f r.places.name) e) (o.stands code collection (before code collection is));
   code = λ code collection is. same.code ∙ o.code code collection (before code collection is);
+  models = λ told. subst (ModelsAre base now head) (sym same.code) (subst (λ (f : Option Files). ModelsAre base f head r.code) (sym e) (o.models (subst IsSome e told)));
 }
   where
     before : (code : TextCode) (collection : List ℕ) → IsText base now head code collection → IsText base files head code collection
@@ -53,12 +54,13 @@ loaded_later base head files now r s same fits e o = record {
 -- a reader that was loaded
 pub loaded_now : (base : List ℕ) (head : Head) (files now : Option Files) (r : TextReading) → now ≡ files → TextFits r now → IsTextReader r base head →
     ((code : TextCode) (collection : List ℕ) → IsText base files head code collection → TextStands r now collection) →
-    ((code : TextCode) (collection : List ℕ) → IsText base files head code collection → r.code ≡ code) → IsLoaded base head now r
-loaded_now base head files now r e fits reader stands code = record {
+    ((code : TextCode) (collection : List ℕ) → IsText base files head code collection → r.code ≡ code) → (IsSome files → ModelsAre base files head r.code) → IsLoaded base head now r
+loaded_now base head files now r e fits reader stands code models = record {
   fits = fits;
   reader = reader;
   stands = λ c collection is. stands c collection (before c collection is);
   code = λ c collection is. code c collection (before c collection is);
+  models = λ told. subst (λ (f : Option Files). ModelsAre base f head r.code) (sym e) (models (subst IsSome e told));
 }
   where
     before : (c : TextCode) (collection : List ℕ) → IsText base now head c collection → IsText base files head c collection

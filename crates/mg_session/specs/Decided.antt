@@ -15,6 +15,7 @@ use Rattle.mg_defs.specs.Sat.{Query}
 use Rattle.mg_defs.specs.Session.{Question}
 use Rattle.mg_defs.specs.ShownAnswers.{shown_as}
 use Rattle.mg_defs.specs.Texts.{count}
+use Rattle.mg_defs.specs.Weights.{Hit}
 use Rattle.mg_defs.specs.declared.session.Mode.{Mode}
 use Rattle.mg_defs.specs.declared.session.Settings.{Settings}
 use Rattle.mg_bool.specs.Leads.{NeedsPlace}
@@ -34,6 +35,7 @@ use Rattle.mg_reply.specs.Pending.{Passed}
 use Rattle.mg_reply.specs.Printed.{at_score, hit_by}
 use Rattle.mg_reply.specs.PrintedLines.{PrintRule}
 use Rattle.mg_session.specs.Answering.{known_infos}
+use Rattle.mg_session.specs.DocStands.{ArePlacesIn, AreRowsOf, IfShown, IsDocOf}
 use Rattle.mg_session.specs.Opening.{KeptByQueries, SetOpened}
 use Rattle.mg_session.specs.PhraseAnswers.{found_at, rows_of}
 use Rattle.mg_session.specs.Searching.{Opened, OpenedOver, SearchFits, opened_at}
@@ -42,21 +44,26 @@ use Rattle.mg_session.specs.declared.phrase_rows.PhraseRows.{PhraseRows}
 
 -- ---- one document
 
--- at `Ok` this was passed on of some text, whichever the parts have
+-- at `Ok` this was passed on of such a text, whatever the parts have
 abbrev pub PassesSome : Option (List ℕ) → Option (List ℕ) → List ℕ → List ℕ → Result (Unit {0}) ShowErr →
-    (List ℕ → List ℕ) → Type 0
-PassesSome before now waited waiting result of = OnOk result ((doc : List ℕ)
+    (List ℕ → Type 0) → (List ℕ → List ℕ) → Type 0
+PassesSome before now waited waiting result IsSuch of = OnOk result ((doc : List ℕ) × IsSuch doc
     × Passed before now waited waiting (of doc))
 
--- at `Ok` this was put behind some bytes
-abbrev pub PutsSome : Option (List ℕ) → Option (List ℕ) → Result (Unit {0}) ShowErr → List ℕ → Type 0
-PutsSome before now result last = OnOk result ((rows : List ℕ)
+-- at `Ok` such a text was put, whatever the parts have
+abbrev pub PutsDoc : Option (List ℕ) → Option (List ℕ) → Result (Unit {0}) ShowErr → (List ℕ → Type 0) → Type 0
+PutsDoc before now result IsSuch = OnOk result ((doc : List ℕ) × IsSuch doc × (now ≡ appended before doc))
+
+-- at `Ok` this was put behind such rows
+abbrev pub PutsSome : Option (List ℕ) → Option (List ℕ) → Result (Unit {0}) ShowErr → (List ℕ → Type 0) → List ℕ →
+    Type 0
+PutsSome before now result AreSuch last = OnOk result ((rows : List ℕ) × AreSuch rows
     × (now ≡ appended before (rows ++ last)))
 
--- at `Ok` the row of a document with some number of places was passed on, and it is counted if there are any
+-- at `Ok` the row of a document with such a number of places was passed on, and it is counted if there are any
 abbrev pub PassesRow : Option (List ℕ) → Option (List ℕ) → PhraseRows → PhraseRows →
-    Result (Unit {0}) ShowErr → ℕ → Type 0
-PassesRow before now rows rows_now result number = OnOk result ((places : ℕ)
+    Result (Unit {0}) ShowErr → ℕ → (ℕ → Type 0) → Type 0
+PassesRow before now rows rows_now result number AreSuch = OnOk result ((places : ℕ) × AreSuch places
     × Passed before now rows.pending rows_now.pending (rows_of (found_at number places))
     × (rows_now.total ≡ rows.total + length (found_at number places)))
 
@@ -74,13 +81,14 @@ hit_of now total number doc = hit_by now doc total (at_score number None)
 abbrev pub RowRule : Type 1
 RowRule = (number before now : ℕ) → List ℕ → Type 0
 
--- a document of a Boolean answer is counted, and shown with some text
-abbrev pub BooleanRow : Settings → RowRule
-BooleanRow now number before total row = (total ≡ before + 1) × ((doc : List ℕ) × (row ≡ hit_of now before number doc))
+-- a document of a Boolean answer is counted, and shown with its text
+abbrev pub BooleanRow : (ℕ → List ℕ → Type 0) → Settings → RowRule
+BooleanRow IsDoc now number before total row = (total ≡ before + 1) × ((doc : List ℕ)
+    × IfShown now before (IsDoc number doc) × (row ≡ hit_of now before number doc))
 
 -- a document that has all terms of a phrase is counted and shown if the phrase has places in it
-abbrev pub PhraseRow : RowRule
-PhraseRow number before total row = (places : ℕ) × (total ≡ before + length (found_at number places))
+abbrev pub PhraseRow : (ℕ → ℕ → Type 0) → RowRule
+PhraseRow ArePlaces number before total row = (places : ℕ) × ArePlaces number places × (total ≡ before + length (found_at number places))
     × (row ≡ rows_of (found_at number places))
 
 -- each of the first so many documents is shown to satisfy the query or not to; for those that do, so many are counted and this is printed
@@ -115,11 +123,13 @@ pub record QueryPrinting (files files_now : Option Files) (start now : Matching)
   pub each : PrintsShown (query_of start.asks) files start.places start.lead IsRow now.decided total text
   pub passed : Passed before after [] waiting text
 
--- The ranking of terms was printed: behind some rows the number of those to whose sums the list of each term was added whole.
-pub record TermsPrinted (known : List TermInfo) (all : ℕ) (before now : Option (List ℕ)) : Type 0 where
+-- The ranking of terms was printed: behind rows with the texts of documents the number of those to whose sums the list of each term was added whole.
+pub record TermsPrinted (known : List TermInfo) (all : ℕ) (AreSuch : List Hit → List ℕ → Type 0)
+    (before now : Option (List ℕ)) : Type 0 where
   pub ranking : Ranking
   pub whole : CountsWhole all known ranking
   pub rows : List ℕ
+  pub rows_are : AreSuch ranking.rows rows
   pub put : now ≡ appended before (rows ++ count ranking.total)
 
 -- ---- what calls print at `Ok`
@@ -130,9 +140,9 @@ PrintsQuery before now result base files q infos all IsRow = OnOk result
     (QueryPrinted q base files infos all IsRow before now)
 
 abbrev pub PrintsTerms : Option (List ℕ) → Option (List ℕ) → Result (Unit {0}) ShowErr →
-    List (Option TermInfo) → ℕ → Type 0
-PrintsTerms before now result infos all = OnOk result
-    (TermsPrinted (known_infos infos) all before now)
+    List (Option TermInfo) → ℕ → (List Hit → List ℕ → Type 0) → Type 0
+PrintsTerms before now result infos all AreSuch = OnOk result
+    (TermsPrinted (known_infos infos) all AreSuch before now)
 
 -- of the documents that are gone over, whose lists are those of its places
 abbrev pub PrintsMatches : Option (List ℕ) → Option (List ℕ) → Result (Unit {0}) ShowErr → Option Files →
@@ -158,31 +168,33 @@ QueryToldPrinted q files opened IsRow before now = (infos : List (Option TermInf
     × TermsTold opened.lex files (query_terms q) infos
     × QueryPrinted q opened.base files infos opened.all IsRow before now
 
-abbrev pub TermsToldPrinted : List (List ℕ) → Option Files → Opened → Option (List ℕ) → Option (List ℕ) → Type 0
-TermsToldPrinted ts files opened before now = (infos : List (Option TermInfo))
-    × TermsTold opened.lex files ts infos × TermsPrinted (known_infos infos) opened.all before now
+abbrev pub TermsToldPrinted : List (List ℕ) → Option Files → Opened → (List Hit → List ℕ → Type 0) →
+    Option (List ℕ) → Option (List ℕ) → Type 0
+TermsToldPrinted ts files opened AreSuch before now = (infos : List (Option TermInfo))
+    × TermsTold opened.lex files ts infos × TermsPrinted (known_infos infos) opened.all AreSuch before now
 
 abbrev pub PrintsTold : Option (List ℕ) → Option (List ℕ) → Result (Unit {0}) ShowErr → Option Files →
     Opened → Query → RowRule → Type 0
 PrintsTold before now result files opened q IsRow = OnOk result (QueryToldPrinted q files opened IsRow before now)
 
 abbrev pub RanksTold : Option (List ℕ) → Option (List ℕ) → Result (Unit {0}) ShowErr → Option Files →
-    Opened → List (List ℕ) → Type 0
-RanksTold before now result files opened ts = OnOk result (TermsToldPrinted ts files opened before now)
+    Opened → List (List ℕ) → (List Hit → List ℕ → Type 0) → Type 0
+RanksTold before now result files opened ts AreSuch = OnOk result
+    (TermsToldPrinted ts files opened AreSuch before now)
 
 -- of a phrase of these words; nothing is sought for one without words
 abbrev pub PrintsWords : Option (List ℕ) → Option (List ℕ) → Result (Unit {0}) ShowErr → Option Files →
     Opened → List (List ℕ) → Type 0
 PrintsWords before now result files opened words = (t : List ℕ) (us : List (List ℕ)) → words ≡ t ∷ us →
-    PrintsTold before now result files opened (all_of t us) PhraseRow
+    PrintsTold before now result files opened (all_of t us) (PhraseRow (ArePlacesIn opened.texts files words))
 
 -- of a line, ranked or Boolean, that is not refused, into an output that is told
 abbrev pub PrintsLine : Option (List ℕ) → Option (List ℕ) → Result (Unit {0}) ShowErr → Option Files →
     Opened → Bool → Settings → List ℕ → Type 0
 PrintsLine before now result files opened true settings line = (ts : List (List ℕ)) → ranked line ≡ reads ts →
-    IsSome before → RanksTold before now result files opened ts
+    IsSome before → RanksTold before now result files opened ts (AreRowsOf (IsDocOf opened.texts files) settings.mode)
 PrintsLine before now result files opened false settings line = (q : Query) → boolean line ≡ reads q →
-    IsSome before → PrintsTold before now result files opened q (BooleanRow settings)
+    IsSome before → PrintsTold before now result files opened q (BooleanRow (IsDocOf opened.texts files) settings)
 
 -- and of one that is a phrase
 abbrev pub PrintsPhrase : Option (List ℕ) → Option (List ℕ) → Result (Unit {0}) ShowErr → Option Files →

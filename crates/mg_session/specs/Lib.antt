@@ -1,5 +1,6 @@
 pub mod Parts
 pub mod Texts
+pub mod DocStands
 pub mod PagesAllowed
 pub mod Searching
 pub mod Answering

@@ -1,5 +1,5 @@
 -- Phrases that are sought in documents by the symbols of their words.
-use Rattle.std.specs.Prelude.{◌≡◌, ℕ, ◌+◌, ◌≤◌, [], None, Some, IfErr, IfOk}
+use Rattle.std.specs.Prelude.{◌≡◌, ℕ, ◌+◌, ◌≤◌, List, [], None, Some, map, IfErr, IfOk, IsSome}
 use Rattle.std.specs.declared.option.Option.{Option}
 use Rattle.std.specs.declared.result.Result.{Result}
 use Rattle.mg_dev.specs.Bads.{IsNotBad}
@@ -8,13 +8,15 @@ use Rattle.mg_dev.specs.Moments.{StoreAt}
 use Rattle.mg_dev.specs.PartCauses.{HasPartCause}
 use Rattle.mg_dev.specs.declared.part.Part.TheVariants as part
 use Rattle.mg_dev.specs.declared.part_err.PartErr.{PartErr}
+use Rattle.mg_defs.specs.Parse.{Pair}
 use Rattle.mg_defs.specs.Phrases.{phrase_places}
 use Rattle.mg_defs.specs.Terms.{document}
 use Rattle.mg_defs.specs.declared.session.Mode.TheVariants as mode
 use Rattle.mg_bits.specs.Pages.{LookedAt}
 use Rattle.mg_phrase.specs.Marks.{Marking, MarksFit}
 use Rattle.mg_text.specs.Held.{WhereShort}
-use Rattle.mg_text.specs.Reading.{PagesOfDocument, SameText, TextFits, TextReading}
+use Rattle.mg_text.specs.Reading.{PagesOfDocument, SameText, TellsPairs, TextFits, TextReading}
+use Rattle.mg_session.specs.DocStands.{ArePlacesIn, places_in_words}
 use Rattle.mg_session.specs.Parts.{ShownIn}
 use Rattle.mg_session.specs.Sessions.{ForText}
 use Rattle.mg_session.specs.Showing.{shown_pages}
@@ -38,6 +40,10 @@ pub record SeeksPhrase (number most : ℕ) (result : Result ℕ PartErr) (old ne
     -- so many places are those of the document
     pub content : WhereShort old files_before number most (λ collection.
         IfOk result (λ places. places ≡ phrase_places marks.phrase (document collection number)))
+    -- whatever the parts hold, they are those among the words of pairs of which they tell
+    pub stood : IsSome files_before → IfOk result (λ places. (pairs : List Pair)
+        × TellsPairs old files_before number pairs
+        × (places ≡ places_in_words marks.phrase (map (λ (p : Pair). p.word) pairs)))
     -- no part is bad
     pub never_bad : WhereShort old files_before number most (λ _. IfErr result IsNotBad)
     -- no more pages of Text are read than the document's bits lie on
@@ -57,6 +63,8 @@ pub record FindsPlaces (number : ℕ) (result : Result ℕ PartErr) (texts texts
   -- where the text is that of a collection, so many places are those of its document
   pub content : ForText texts before.files (λ code collection.
       IfOk result (λ places. places ≡ phrase_places marks.phrase (document collection number)))
+  -- whatever the parts hold, they are those among the words of pairs that stand there
+  pub stood : IfOk result (ArePlacesIn texts before.files marks.phrase number)
   -- and no part is bad
   pub never_bad : ForText texts before.files (λ code collection. IfErr result IsNotBad)
   -- no more pages of Text are read than the document lies on

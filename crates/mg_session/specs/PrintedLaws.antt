@@ -1,10 +1,11 @@
 -- What a line prints by one state of a search it prints by an earlier one.
-use Rattle.std.proofs.Common.{◌≡◌, ◌<◌, ◌/◌, ◌%◌, ℕ, List, [], Bool, true, false, get_or, slice_index_or, Some, None, Ok, IsSome, sym, subst}
+use Rattle.std.proofs.Common.{◌≡◌, ◌<◌, ◌/◌, ◌%◌, ℕ, List, [], ◌∷◌, Bool, true, false, get_or, slice_index_or, Some, None, Ok, IsSome, sym, subst}
 use Rattle.std.specs.declared.option.Option.{Option}
 use Rattle.mg_dev.specs.Files.{Files}
 use Rattle.mg_defs.specs.Phrases.{all_of}
 use Rattle.mg_defs.specs.Sat.{Query}
 use Rattle.mg_defs.specs.Session.{Question}
+use Rattle.mg_defs.specs.Weights.{Hit}
 use Rattle.mg_defs.specs.declared.session.Settings.{Settings}
 use Rattle.mg_front.specs.Reading.{Fronted, SameParts}
 use Rattle.mg_front.proofs.CallerLemmas.{absent_as, stands_as}
@@ -12,6 +13,7 @@ use Rattle.mg_layout.specs.declared.term_info.TermInfo.{TermInfo}
 use Rattle.mg_lex.specs.Stood.{TermTold}
 use Rattle.mg_reply.specs.PrintedLines.{PrintRule}
 use Rattle.mg_session.specs.Answering.{known_infos}
+use Rattle.mg_session.specs.DocStands.{ArePlacesIn, AreRowsOf, IsDocOf}
 use Rattle.mg_session.specs.Decided.{BooleanRow, PhrasePrints, PhraseRow, PrintsLine, PrintsPhrase, PrintsTold, QueryPrinted, QuestionPrints, RanksTold, RowRule, TermsPrinted, TermsTold}
 use Rattle.mg_session.specs.PhraseSearching.{PhrasesAsked}
 use Rattle.mg_session.specs.SearchLaws.{lex_later}
@@ -58,22 +60,44 @@ module _ (s t : Searching) (files : t.files ≡ s.files) (same : SameOpened s.op
         (subst (λ f. QueryPrinted q t.opened.base f is.0 t.opened.all IsRow before now) files is.2)),
   )
 
-  ranked_back : (ts : List (List ℕ)) (before now : Option (List ℕ)) → RanksTold before now (Ok tt) t.files t.opened ts →
-      RanksTold before now (Ok tt) s.files s.opened ts
-  ranked_back ts before now is =
-      (is.0, terms_back is.1, subst (λ n. TermsPrinted (known_infos is.0) n before now) same.all is.2)
+  ranked_back : (ts : List (List ℕ)) (AreSuch : List Hit → List ℕ → Type 0) (before now : Option (List ℕ)) →
+      RanksTold before now (Ok tt) t.files t.opened ts AreSuch → RanksTold before now (Ok tt) s.files s.opened ts AreSuch
+  ranked_back ts AreSuch before now is =
+      (is.0, terms_back is.1, subst (λ n. TermsPrinted (known_infos is.0) n AreSuch before now) same.all is.2)
+
+  -- what the parts tell of documents, and of a phrase's places in them
+  docs_back : (P : (ℕ → List ℕ → Type 0) → Type 0) → P (IsDocOf t.opened.texts t.files) →
+      P (IsDocOf s.opened.texts s.files)
+  docs_back P is =
+      let texts = s.opened.texts in
+      subst (λ b. P (IsDocOf (record { base = b; head = texts.head; reader = None }) s.files)) same.texts.base
+      (subst (λ h. P (IsDocOf (record { base = t.opened.texts.base; head = h; reader = None }) s.files)) same.texts.head
+      (subst (λ f. P (IsDocOf t.opened.texts f)) files is))
+
+  places_back : (words : List (List ℕ)) (P : (ℕ → ℕ → Type 0) → Type 0) → P (ArePlacesIn t.opened.texts t.files words) →
+      P (ArePlacesIn s.opened.texts s.files words)
+  places_back words P is =
+      let texts = s.opened.texts in
+      subst (λ b. P (ArePlacesIn (record { base = b; head = texts.head; reader = None }) s.files words)) same.texts.base
+      (subst (λ h. P (ArePlacesIn (record { base = t.opened.texts.base; head = h; reader = None }) s.files words))
+      same.texts.head (subst (λ f. P (ArePlacesIn t.opened.texts f words)) files is))
 
   line_back : (is_ranked : Bool) (now : Settings) (line : List ℕ) (before after : Option (List ℕ)) →
       PrintsLine before after (Ok tt) t.files t.opened is_ranked now line →
       PrintsLine before after (Ok tt) s.files s.opened is_ranked now line
-  line_back true now line before after printed = λ ts is told. ranked_back ts before after (printed ts is told)
+  line_back true now line before after printed = λ ts is told.
+      docs_back (λ IsDoc. RanksTold before after (Ok tt) s.files s.opened ts (AreRowsOf IsDoc now.mode))
+      (ranked_back ts (AreRowsOf (IsDocOf t.opened.texts t.files) now.mode) before after (printed ts is told))
   line_back false now line before after printed = λ q is told.
-      query_back q (BooleanRow now) before after (printed q is told)
+      docs_back (λ IsDoc. PrintsTold before after (Ok tt) s.files s.opened q (BooleanRow IsDoc now))
+      (query_back q (BooleanRow (IsDocOf t.opened.texts t.files) now) before after (printed q is told))
 
   phrase_back : (line : List ℕ) (before after : Option (List ℕ)) → PrintsPhrase before after (Ok tt) t.files t.opened line →
       PrintsPhrase before after (Ok tt) s.files s.opened line
   phrase_back line before after printed = λ ts is told word words whole.
-      query_back (all_of word words) PhraseRow before after (printed ts is told word words whole)
+      places_back ts (λ ArePlaces. PrintsTold before after (Ok tt) s.files s.opened (all_of word words) (PhraseRow ArePlaces))
+      (query_back (all_of word words) (PhraseRow (ArePlacesIn t.opened.texts t.files ts)) before after
+      (printed ts is told word words whole))
 
 -- ---- one state after another
 

@@ -22,6 +22,7 @@ use Rattle.mg_query.specs.QueryOf.{query_of}
 use Rattle.mg_session.specs.Answering.{Answered, AnswersFor, Replied}
 use Rattle.mg_session.specs.Calls.{StepsOpened, StepsText}
 use Rattle.mg_session.specs.Decided.{BooleanRow, PhraseRow, PrintsLine, PrintsMatches, PrintsPhrase, PrintsQuery, PrintsTerms, PrintsTold, PrintsWords, RanksTold}
+use Rattle.mg_session.specs.DocStands.{ArePlacesIn, AreRowsOf, IsDocOf}
 use Rattle.mg_session.specs.PagesAllowed.{PartPages, query_allows, ranked_allows}
 use Rattle.mg_session.specs.Parts.{Stepped}
 use Rattle.mg_session.specs.PhraseAnswers.{DocumentSearched, PhraseAnswered, PhraseReplied}
@@ -82,7 +83,7 @@ abbrev pub ShowsQuery : {X Y : Type 0} → stores.Ghosts X → sinks.Ghosts Y �
 ShowsQuery of_store of_out store store_now out out_now result base texts texts_now all q infos now = AnsweredOver
     (AnswersQuery of_store of_out store store_now out out_now result base texts all q infos now)
     (PrintsQuery (of_out.written out) (of_out.written out_now) result base (of_store.files store) q infos all
-    (BooleanRow now))
+    (BooleanRow (IsDocOf texts (of_store.files store)) now))
     (StepsText of_store of_out store store_now out out_now result texts texts_now (Stepped now.mode))
 
 -- those of which none was asked for yet
@@ -90,7 +91,8 @@ abbrev pub ShowsMatches : {X Y : Type 0} → stores.Ghosts X → sinks.Ghosts Y 
     Result (Unit {0}) ShowErr → Texting → Texting → Matching → Settings → Type 0
 ShowsMatches of_store of_out store store_now out out_now result texts texts_now m now = AnsweredOver
     (AnswersMatches of_store of_out store store_now out out_now result texts m now)
-    (PrintsMatches (of_out.written out) (of_out.written out_now) result (of_store.files store) m (BooleanRow now))
+    (PrintsMatches (of_out.written out) (of_out.written out_now) result (of_store.files store) m
+    (BooleanRow (IsDocOf texts (of_store.files store)) now))
     (StepsText of_store of_out store store_now out out_now result texts texts_now (Stepped now.mode))
 
 -- the documents with one of the terms are shown, ranked
@@ -98,7 +100,8 @@ abbrev pub ShowsTerms : {X Y : Type 0} → stores.Ghosts X → sinks.Ghosts Y �
     Result (Unit {0}) ShowErr → List ℕ → Texting → Texting → ℕ → List (Option TermInfo) → Settings → Type 0
 ShowsTerms of_store of_out store store_now out out_now result base texts texts_now all infos now = AnsweredOver
     (AnswersTerms of_store of_out store store_now out out_now result base texts all infos now)
-    (PrintsTerms (of_out.written out) (of_out.written out_now) result infos all)
+    (PrintsTerms (of_out.written out) (of_out.written out_now) result infos all
+    (AreRowsOf (IsDocOf texts (of_store.files store)) now.mode))
     (StepsText of_store of_out store store_now out out_now result texts texts_now (Stepped now.mode))
 
 -- over the open parts: an answer is shown, and no more pages of Post, Skip and Weights are read than it allows
@@ -151,7 +154,8 @@ abbrev pub ShowsPhrase : {X Y : Type 0} → stores.Ghosts X → sinks.Ghosts Y �
     Type 0
 ShowsPhrase of_store of_out store store_now out out_now result base texts texts_now all q infos phrase = AnsweredOver
     (AnswersPhrase of_store of_out store store_now out out_now result base texts all q infos phrase)
-    (PrintsQuery (of_out.written out) (of_out.written out_now) result base (of_store.files store) q infos all PhraseRow)
+    (PrintsQuery (of_out.written out) (of_out.written out_now) result base (of_store.files store) q infos all
+    (PhraseRow (ArePlacesIn texts (of_store.files store) phrase)))
     (StepsText of_store of_out store store_now out out_now result texts texts_now (Stepped mode.Text))
 
 -- those of which none was asked for yet
@@ -159,7 +163,8 @@ abbrev pub ShowsCandidates : {X Y : Type 0} → stores.Ghosts X → sinks.Ghosts
     Result (Unit {0}) ShowErr → Texting → Texting → Matching → List (List ℕ) → Type 0
 ShowsCandidates of_store of_out store store_now out out_now result texts texts_now m phrase = AnsweredOver
     (AnswersCandidates of_store of_out store store_now out out_now result texts m phrase)
-    (PrintsMatches (of_out.written out) (of_out.written out_now) result (of_store.files store) m PhraseRow)
+    (PrintsMatches (of_out.written out) (of_out.written out_now) result (of_store.files store) m
+    (PhraseRow (ArePlacesIn texts (of_store.files store) phrase)))
     (StepsText of_store of_out store store_now out out_now result texts texts_now (Stepped mode.Text))
 
 -- over the open parts: a phrase of these words is answered
@@ -186,7 +191,8 @@ abbrev pub AsksQuery : {X Y : Type 0} → stores.Ghosts X → sinks.Ghosts Y →
 AsksQuery of_store of_out store store_now out out_now result opened opened_now now q = AnsweredOver
     (AnswersOpened of_store of_out store store_now out out_now result opened now (λ collection. satisfying collection q)
     (λ collection. query_allows collection q))
-    (PrintsTold (of_out.written out) (of_out.written out_now) result (of_store.files store) opened q (BooleanRow now))
+    (PrintsTold (of_out.written out) (of_out.written out_now) result (of_store.files store) opened q
+    (BooleanRow (IsDocOf opened.texts (of_store.files store)) now))
     (StepsOpened of_store of_out store store_now out out_now result opened opened_now now.mode)
 
 -- distinct terms, which are ranked
@@ -195,7 +201,8 @@ abbrev pub AsksTerms : {X Y : Type 0} → stores.Ghosts X → sinks.Ghosts Y →
 AsksTerms of_store of_out store store_now out out_now result opened opened_now now ts = AnsweredOver
     (AnswersOpened of_store of_out store store_now out out_now result opened now (λ collection. ranking collection ts)
     (λ collection. ranked_allows collection now ts))
-    (RanksTold (of_out.written out) (of_out.written out_now) result (of_store.files store) opened ts)
+    (RanksTold (of_out.written out) (of_out.written out_now) result (of_store.files store) opened ts
+    (AreRowsOf (IsDocOf opened.texts (of_store.files store)) now.mode))
     (StepsOpened of_store of_out store store_now out out_now result opened opened_now now.mode)
 
 -- a line, ranked or Boolean

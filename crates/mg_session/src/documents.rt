@@ -7,6 +7,8 @@ ghost use Rattle.mg_defs.specs.declared.session.Mode.TheVariants as mode;
 ghost use Rattle.mg_reply.specs.Printed.{Puts};
 ghost use Rattle.mg_text.specs.Decoding.{AddsOf};
 ghost use Rattle.mg_session.specs.Calls.{IsShowable, ShowsText};
+ghost use Rattle.mg_session.specs.Decided.{PutsDoc};
+ghost use Rattle.mg_session.specs.DocStands.{IsDocOf};
 ghost use Rattle.mg_session.specs.Showing.{shown_pages};
 ghost use Rattle.mg_session.specs.Texts.{Texting};
 
@@ -27,6 +29,9 @@ pub(crate) trait Documents<S: Store> {
             (texts self.old) (texts self.new) mode.Text
             (λ collection. Puts O.written out.old out.new result (document collection number))
             (shown_pages mode.Text number None) }
+        // Whatever the parts hold, these are the bytes that they tell of it.
+        ensures told { PutsDoc (O.written out.old) (O.written out.new) result
+            (IsDocOf (texts self.old) (S.files store.old) number) }
         ensures added { AddsOf O.written O.faults O.lacks out.old out.new
             (texts self.old).head.collection 0 };
 }

@@ -2,6 +2,7 @@
 ghost use Rattle.mg_defs.specs.declared.session.Mode.TheVariants as mode;
 ghost use Rattle.mg_session.specs.Calls.{IsShowable, ShowsText};
 ghost use Rattle.mg_session.specs.Decided.{PassesSome, hit_of, shown_of};
+ghost use Rattle.mg_session.specs.DocStands.{IfShown, IfText, IsDocOf};
 ghost use Rattle.mg_session.specs.Showing.{PassesHit, PassesShown, found_pages, shown_pages};
 
 use crate::documents::Documents;
@@ -27,7 +28,8 @@ fn show_text<S: Store, D: Documents<S>, O: Sink>(
         (PassesShown O.written out.old out.new pending.old pending.new result mode.Text number score)
         (shown_pages mode.Text number score) }
     ensures passed { PassesSome (O.written out.old) (O.written out.new) pending.old pending.new
-        result (shown_of mode.Text number score) }
+        result (IsDocOf (D.texts texts.old) (S.files store.old) number)
+        (shown_of mode.Text number score) }
 {
     match pending.header(out, number, score) {
         Ok(()) => {}
@@ -63,7 +65,8 @@ pub(crate) fn show_doc<S: Store, D: Documents<S>, O: Sink>(
         (PassesShown O.written out.old out.new pending.old pending.new result mode number score)
         (shown_pages mode number score) }
     ensures passed { PassesSome (O.written out.old) (O.written out.new) pending.old pending.new
-        result (shown_of mode number score) }
+        result (λ doc. IfText mode (IsDocOf (D.texts texts.old) (S.files store.old) number doc))
+        (shown_of mode number score) }
 {
     match mode {
         Mode::Docnums => match pending.row(out, number, score) {
@@ -92,7 +95,9 @@ pub(crate) fn show_hit<S: Store, D: Documents<S>, O: Sink>(
         (PassesHit O.written out.old out.new pending.old pending.new result now.now total number)
         (found_pages now.now total number) }
     ensures passed { PassesSome (O.written out.old) (O.written out.new) pending.old pending.new
-        result (hit_of now.now total number) }
+        result
+        (λ doc. IfShown now.now total (IsDocOf (D.texts texts.old) (S.files store.old) number doc))
+        (hit_of now.now total number) }
 {
     if !shows(now.most, total) {
         return Ok(());

@@ -2,7 +2,8 @@
 ghost use Rattle.std.specs.Prelude.{◌≡◌, ◌<◌, ℕ, List, length};
 ghost use Rattle.mg_defs.specs.Phrases.{phrase_places};
 ghost use Rattle.mg_phrase.specs.Marks.{MarksFit, mark_of};
-ghost use Rattle.mg_session.specs.PhraseMarks.{MarksWord};
+ghost use Rattle.mg_session.specs.DocStands.{places_in_words};
+ghost use Rattle.mg_session.specs.PhraseMarks.{AreWords, MarksWord};
 ghost use Rattle.mg_text.specs.Listing.{AreOfWords, AreWordsOf};
 
 use mg_model::{Stream, TextModel};
@@ -27,6 +28,9 @@ pub(crate) fn places_by(model: &TextModel, marks: &mut Marks<'_>, symbols: &[u32
     requires fit { MarksFit model.now.words.pieces marks.old }
     ensures fit { MarksFit model.now.words.pieces marks.new }
     ensures phrase { marks.new.phrase ≡ marks.old.phrase }
+    // Whatever the words are, it is what one pass over them counts.
+    ensures counted { (words : List (List ℕ)) → AreWords model.now symbols.now words →
+        result ≡ places_in_words marks.old.phrase words }
     ensures places { (doc : List ℕ) → AreWordsOf model.now symbols.now doc →
         result ≡ phrase_places marks.old.phrase doc }
 {

@@ -7,6 +7,7 @@ ghost use Rattle.mg_query.specs.QueryOf.{query_of};
 ghost use Rattle.mg_session.specs.Answering.{AreUnasked};
 ghost use Rattle.mg_session.specs.Calls.{AreShowable, IsShowable, StepsText};
 ghost use Rattle.mg_session.specs.Decided.{PassesRow};
+ghost use Rattle.mg_session.specs.DocStands.{ArePlacesIn};
 ghost use Rattle.mg_session.specs.Parts.{ShownIn};
 ghost use Rattle.mg_session.specs.PhraseTexts.{AreMarksOf};
 ghost use Rattle.mg_session.specs.Replying.{SearchesDocument, ShowsCandidates, ShowsPhrase};
@@ -39,7 +40,7 @@ fn search_document<S: Store, T: Searched<S>, O: Sink>(
     ensures marked { AreMarksOf (T.texts texts.new).reader marks.new }
     ensures phrase { marks.new.phrase ≡ marks.old.phrase }
     ensures passed { PassesRow (O.written out.old) (O.written out.new) rows.old rows.new result
-        number }
+        number (ArePlacesIn (T.texts texts.old) (S.files store.old) marks.old.phrase number) }
     ensures stepped { StepsText S.Store O.Sink store.old store.new out.old out.new result
         (T.texts texts.old) (T.texts texts.new) (ShownIn mode.Text) }
 {

@@ -5,6 +5,7 @@ ghost use Rattle.mg_rank.specs.Ranked.{IsNumbered};
 ghost use Rattle.mg_session.specs.PagesAllowed.{rows_asked};
 ghost use Rattle.mg_session.specs.Calls.{AreShowable, ShowsText};
 ghost use Rattle.mg_session.specs.Decided.{PassesSome, PutsSome};
+ghost use Rattle.mg_session.specs.DocStands.{AreRowsOf, IsDocOf};
 ghost use Rattle.mg_session.specs.Replying.{ShowsTerms};
 ghost use Rattle.mg_session.specs.Showing.{PassesRows, PutsRanking, ranked_pages};
 ghost use Rattle.mg_session.specs.Texts.{TextsFit};
@@ -36,7 +37,8 @@ fn show_rows<S: Store, D: Documents<S>, O: Sink>(
         (PassesRows O.written out.old out.new pending.old pending.new result mode rows.now)
         (ranked_pages mode rows.now) }
     ensures passed { PassesSome (O.written out.old) (O.written out.new) pending.old pending.new
-        result (λ rows. rows) }
+        result (AreRowsOf (IsDocOf (D.texts texts.old) (S.files store.old)) mode rows.now)
+        (λ rows. rows) }
 {
     for place in 0..rows.len() {
         let row = rows.row(place);
@@ -71,6 +73,7 @@ fn show_ranked<S: Store, D: Documents<S>, O: Sink>(
         (PutsRanking O.written out.old out.new result mode ranked.now)
         (ranked_pages mode ranked.now.rows) }
     ensures counted { PutsSome (O.written out.old) (O.written out.new) result
+        (AreRowsOf (IsDocOf (D.texts texts.old) (S.files store.old)) mode ranked.now.rows)
         (count_text ranked.now.total) }
 {
     let mut pending = Pending::new();

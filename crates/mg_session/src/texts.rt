@@ -9,6 +9,8 @@ ghost use Rattle.mg_defs.specs.declared.session.Mode.TheVariants as mode;
 ghost use Rattle.mg_reply.specs.Printed.{Puts};
 ghost use Rattle.mg_text.specs.Decoding.{AddsOf};
 ghost use Rattle.mg_session.specs.Calls.{IsShowable, ShowsText};
+ghost use Rattle.mg_session.specs.Decided.{PutsDoc};
+ghost use Rattle.mg_session.specs.DocStands.{IsDocOf};
 ghost use Rattle.mg_session.specs.Showing.{shown_pages};
 
 use crate::documents::Documents;
@@ -62,6 +64,8 @@ impl<'a, S: Store> Texts<'a, S> {
             self.old self.new mode.Text
             (λ collection. Puts O.written out.old out.new result (document collection number))
             (shown_pages mode.Text number None) }
+        ensures told { PutsDoc (O.written out.old) (O.written out.new) result
+            (IsDocOf self.old (S.files store.old) number) }
         ensures added { AddsOf O.written O.faults O.lacks out.old out.new self.old.head.collection 0 }
     {
         let mut reader = match TextReader::load(self.alloc, store, self.base, &self.head) {

@@ -4,6 +4,7 @@ use Rattle.mg_query.specs.QueryOf.{query_of}
 use Rattle.mg_query.specs.declared.query.Query.{Query}
 use Rattle.mg_session.specs.Answering.{Answered}
 use Rattle.mg_session.specs.Decided.{BooleanRow}
+use Rattle.mg_session.specs.DocStands.{IsDocOf}
 use Rattle.mg_session.specs.PagesAllowed.{query_allows}
 use Rattle.mg_session.proofs.CallLaws.{text_lacked}
 use Rattle.mg_session.proofs.DecidedLaws.{query_printed}
@@ -37,7 +38,7 @@ returns g c = record {
       (c.show_matches.ensures.answer c.args.lists.now.base.now code collection
       (record { weights = stands.weights; texts_are = stands.texts_are; all_is = c.in-Ok.ensures.all ∙ stands.all_is })
       (c.in-Ok.ensures.over collection told stands.all_is));
-  printed = query_printed (g.S.Store.files c.args.store.now) (BooleanRow c.args.now.now) _ _ c.in-Ok.matches c.show_matches.result c.in-Ok.ensures.asks
+  printed = query_printed (g.S.Store.files c.args.store.now) (BooleanRow (IsDocOf (g.D.Documents.texts c.args.texts.now) (g.S.Store.files c.args.store.now)) c.args.now.now) _ _ c.in-Ok.matches c.show_matches.result c.in-Ok.ensures.asks
       c.in-Ok.ensures.all c.in-Ok.ensures.lists c.in-Ok.ensures.needs c.show_matches.ensures.printed;
   stepped = c.show_matches.ensures.stepped;
 }

@@ -8,6 +8,7 @@ use Rattle.mg_session.specs.SearchLaws.{texts_later, weights_later}
 use Rattle.mg_session.specs.Texts.{TextsFit}
 use Rattle.mg_session.proofs.CallLaws.{shown_text, text_refused, text_shown, text_start, text_written}
 use Rattle.mg_session.proofs.DecidedLaws.{printing_end, printing_hit, printing_start}
+use Rattle.mg_session.proofs.DocStandsLaws.{doc_shown}
 use Rattle.mg_session.proofs.StepLaws.{lists_step, shown_keeps}
 use Rattle.mg_session.proofs.ReplyLaws.{list_sound}
 use Rattle.mg_session.proofs.WalkLaws.{fit_later, next_read, walked_cut, walked_end, walked_hit, walked_start, walked_stop}
@@ -77,7 +78,15 @@ matches-preserved g c =
       few = omega (arith, inv.few, range);
       within = omega (arith, range, kept.all);
       printing = printing_hit c.next.new.self inv.printing inv.kept inv.so_far.step.files _ c.in-Ok-Some.ensures.shows c.in-Ok-Some.number c.in-Ok-Some.field-0-is
-          c.in-Ok-Some.ensures.lists range.0 range.1 range.2 c.in-Ok.ensures.shown.looked.files (refl, (c.in-Ok.ensures.passed.0, refl)) c.in-Ok.ensures.passed.1;
+          c.in-Ok-Some.ensures.lists range.0 range.1 range.2 c.in-Ok.ensures.shown.looked.files (
+            refl,
+            (
+              c.in-Ok.ensures.passed.0,
+              doc_shown c.in-Ok-Some.number c.args.now.now c.matches.total c.in-Ok.ensures.passed.0 inv.so_far.same (c.in-Ok-Some.ensures.files ∙ inv.so_far.step.files)
+                  c.in-Ok.ensures.passed.1,
+              refl,
+            ),
+          ) c.in-Ok.ensures.passed.2;
       walked = λ base code collection stands over.
           let walked = inv.walked base code collection stands over in
           let lists = (weights_later base base _ _ collection refl inv.so_far.step.files stands.weights).lists in

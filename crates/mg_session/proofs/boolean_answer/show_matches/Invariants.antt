@@ -5,6 +5,7 @@ use Rattle.mg_query.specs.QueryOf.{query_of}
 use Rattle.mg_session.specs.Answering.{AnswersFor, Walked}
 use Rattle.mg_session.specs.Calls.{TextStep, at_sink, at_store}
 use Rattle.mg_session.specs.Decided.{BooleanRow, QueryPrinting}
+use Rattle.mg_session.specs.DocStands.{IsDocOf}
 use Rattle.mg_session.specs.Parts.{Stepped}
 use Rattle.mg_session.proofs.boolean_answer.show_matches.Given as goal
 
@@ -16,7 +17,8 @@ invariant-matches g l = record {
   kept : SameMatches l.fn.matches l.matches;
   few : l.total ≤ l.matches.decided;
   within : l.matches.decided ≤ l.matches.all;
-  printing : QueryPrinting (g.S.Store.files l.fn.store) (g.S.Store.files l.store) l.fn.matches l.matches (BooleanRow l.fn.now) (g.O.Sink.written l.fn.out)
+  printing : QueryPrinting (g.S.Store.files l.fn.store) (g.S.Store.files l.store) l.fn.matches l.matches
+      (BooleanRow (IsDocOf (g.D.Documents.texts l.fn.texts) (g.S.Store.files l.fn.store)) l.fn.now) (g.O.Sink.written l.fn.out)
       (g.O.Sink.written l.out) l.pending l.total;
   walked : (base : List ℕ) (code : TextCode) (collection : List ℕ) →
       AnswersFor base (g.S.Store.files l.fn.store) (g.D.Documents.texts l.fn.texts) l.fn.matches.all code collection →

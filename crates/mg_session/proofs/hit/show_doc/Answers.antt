@@ -20,7 +20,7 @@ returns-in-Count-clause-shown g c = rw c.in-Count.is (shown_unread c.requires.fi
 -- ---- what was passed on, whatever the text has
 
 pub returns-in-Ok-clause-passed : goal.returns-in-Ok-clause-passed
-returns-in-Ok-clause-passed g c = rw c.in-Docnums.is ([], c.in-Ok.ensures.content)
+returns-in-Ok-clause-passed g c = rw c.in-Docnums.is ([], tt, c.in-Ok.ensures.content)
 
 pub returns-in-Err-clause-passed : goal.returns-in-Err-clause-passed
 returns-in-Err-clause-passed g c = tt
@@ -29,4 +29,4 @@ pub returns-in-Text-clause-passed : goal.returns-in-Text-clause-passed
 returns-in-Text-clause-passed g c = rw c.in-Text.is c.show_text.ensures.passed
 
 pub returns-in-Count-clause-passed : goal.returns-in-Count-clause-passed
-returns-in-Count-clause-passed g c = rw c.in-Count.is ([], pass_nothing _ _)
+returns-in-Count-clause-passed g c = rw c.in-Count.is ([], tt, pass_nothing _ _)

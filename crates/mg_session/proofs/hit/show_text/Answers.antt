@@ -49,8 +49,8 @@ pub returns-in-Ok-close-clause-passed : goal.returns-in-Ok-close-clause-passed
 returns-in-Ok-close-clause-passed g c =
     let h = c.in-Ok.ensures in
     let f = c.in-Ok-flush.ensures in
-    let a = c.in-Ok-doc.ensures.added in
-    (a.bytes, doc_closed a.bytes (pass_flushed h.content f.content f.empty) f.empty a.told c.in-Ok-close.ensures.content)
+    let put = c.in-Ok-doc.ensures.told in
+    (put.0, put.1, doc_closed put.0 (pass_flushed h.content f.content f.empty) f.empty put.2 c.in-Ok-close.ensures.content)
 
 pub returns-in-Err-clause-passed : goal.returns-in-Err-clause-passed
 returns-in-Err-clause-passed g c = tt

@@ -3,6 +3,7 @@ use Rattle.mg_phrase.specs.Marks.{Marking}
 use Rattle.mg_query.specs.AllOf.{IsAllOf}
 use Rattle.mg_query.specs.declared.query.Query.{Query}
 use Rattle.mg_session.specs.Decided.{PhraseRow}
+use Rattle.mg_session.specs.DocStands.{ArePlacesIn}
 use Rattle.mg_session.proofs.CallLaws.{text_lacked}
 use Rattle.mg_session.proofs.DecidedLaws.{query_printed}
 use Rattle.mg_session.proofs.PhraseReplyLaws.{none_answered}
@@ -25,8 +26,8 @@ returns g c = record {
       (record { weights = stands.weights; texts_are = stands.texts_are; all_is = c.in-Ok.ensures.all ∙ stands.all_is })
       (c.in-Ok.ensures.over collection told stands.all_is));
   printed =
-      query_printed (g.S.Store.files c.args.store.now) PhraseRow _ _ c.in-Ok.matches c.search_matches.result c.in-Ok.ensures.asks c.in-Ok.ensures.all c.in-Ok.ensures.lists
-      c.in-Ok.ensures.needs c.search_matches.ensures.printed;
+      query_printed (g.S.Store.files c.args.store.now) (PhraseRow (ArePlacesIn (g.T.Searched.texts c.args.texts.now) (g.S.Store.files c.args.store.now) c.args.phrase.now)) _ _ c.in-Ok.matches
+      c.search_matches.result c.in-Ok.ensures.asks c.in-Ok.ensures.all c.in-Ok.ensures.lists c.in-Ok.ensures.needs (rw c.new-marks.ensures at c.search_matches.ensures.printed);
   stepped = c.search_matches.ensures.stepped;
 }
 

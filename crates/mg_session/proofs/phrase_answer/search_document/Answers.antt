@@ -24,7 +24,7 @@ pub returns-in-Err-clause-passed : goal.returns-in-Err-clause-passed
 returns-in-Err-clause-passed g c = tt
 
 pub returns-in-Ok-pass-clause-passed : goal.returns-in-Ok-pass-clause-passed
-returns-in-Ok-pass-clause-passed g c = (c.in-Ok.places, c.in-Ok-pass.ensures.content, c.in-Ok-pass.ensures.counted)
+returns-in-Ok-pass-clause-passed g c = (c.in-Ok.places, c.in-Ok.ensures.stood, c.in-Ok-pass.ensures.content, c.in-Ok-pass.ensures.counted)
 
 pub returns-in-Err-pass-clause-passed : goal.returns-in-Err-pass-clause-passed
 returns-in-Err-pass-clause-passed g c = tt

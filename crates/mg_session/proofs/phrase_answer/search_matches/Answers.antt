@@ -16,6 +16,7 @@ use Rattle.mg_session.proofs.PhraseTextsLaws.{none_marked}
 use Rattle.mg_session.proofs.PhraseWalkLaws.{joined, walked_cut, walked_end, walked_searched, walked_start, walked_stop}
 use Rattle.mg_session.proofs.ReplyLaws.{list_sound}
 use Rattle.mg_session.proofs.DecidedLaws.{printing_end, printing_hit, printing_start}
+use Rattle.mg_session.proofs.DocStandsLaws.{places_back}
 use Rattle.mg_session.proofs.StepLaws.{lists_step, lists_text, shown_post}
 use Rattle.mg_session.proofs.WalkLaws.{fit_later}
 use Rattle.mg_session.proofs.phrase_answer.search_matches.Goals as goal
@@ -89,8 +90,13 @@ matches-preserved g c =
       few = omega (arith, range, c.in-Ok.ensures.most);
       within = omega (arith, range, kept.all);
       printing = printing_hit c.next.new.self inv.printing inv.kept inv.so_far.step.files _ c.in-Ok-Some.ensures.shows c.in-Ok-Some.number c.in-Ok-Some.field-0-is
-          c.in-Ok-Some.ensures.lists range.0 range.1 range.2 c.in-Ok.ensures.stepped.step.files (c.in-Ok.ensures.passed.0, c.in-Ok.ensures.passed.2, refl)
-          c.in-Ok.ensures.passed.1;
+          c.in-Ok-Some.ensures.lists range.0 range.1 range.2 c.in-Ok.ensures.stepped.step.files (
+            c.in-Ok.ensures.passed.0,
+            places_back inv.so_far.same (c.in-Ok-Some.ensures.files ∙ inv.so_far.step.files) inv.phrase c.in-Ok.ensures.passed.1,
+            c.in-Ok.ensures.passed.3,
+            refl,
+          )
+          c.in-Ok.ensures.passed.2;
       walked = λ base code collection stands over.
           let walked = inv.walked base code collection stands over in
           let lists = (weights_later base base _ _ collection refl inv.so_far.step.files stands.weights).lists in

@@ -6,6 +6,7 @@ use Rattle.mg_query.specs.QueryOf.{query_of}
 use Rattle.mg_session.specs.Answering.{AnswersFor}
 use Rattle.mg_session.specs.Calls.{TextStep, at_sink, at_store}
 use Rattle.mg_session.specs.Decided.{PhraseRow, QueryPrinting}
+use Rattle.mg_session.specs.DocStands.{ArePlacesIn}
 use Rattle.mg_session.specs.Parts.{Stepped}
 use Rattle.mg_session.specs.PhraseAnswers.{PhraseWalked}
 use Rattle.mg_session.specs.PhraseTexts.{AreMarksOf}
@@ -21,7 +22,8 @@ invariant-matches g l = record {
   phrase : l.marks.phrase ≡ l.fn.marks.phrase;
   few : l.rows.total ≤ l.matches.decided;
   within : l.matches.decided ≤ l.matches.all;
-  printing : QueryPrinting (g.S.Store.files l.fn.store) (g.S.Store.files l.store) l.fn.matches l.matches PhraseRow (g.O.Sink.written l.fn.out)
+  printing : QueryPrinting (g.S.Store.files l.fn.store) (g.S.Store.files l.store) l.fn.matches l.matches
+      (PhraseRow (ArePlacesIn (g.T.Searched.texts l.fn.texts) (g.S.Store.files l.fn.store) l.fn.marks.phrase)) (g.O.Sink.written l.fn.out)
       (g.O.Sink.written l.out) l.rows.pending l.rows.total;
   walked : (base : List ℕ) (code : TextCode) (collection : List ℕ) →
       AnswersFor base (g.S.Store.files l.fn.store) (g.T.Searched.texts l.fn.texts) l.fn.matches.all code collection →

@@ -1,7 +1,12 @@
 use Rattle.std.proofs.Common.{arith, ◌≤◌, List, length, ap, sym, ◌∙◌, subst}
+use Rattle.std.specs.declared.option.Option.{Option}
+use Rattle.mg_dev.specs.Files.{Files}
+use Rattle.mg_defs.specs.Texts.{count}
 use Rattle.mg_layout.specs.declared.term_info.TermInfo.{TermInfo}
 use Rattle.mg_rank.specs.Ranked.{AreTold}
 use Rattle.mg_session.specs.Answering.{known_terms}
+use Rattle.mg_session.specs.Decided.{PutsSome}
+use Rattle.mg_session.specs.DocStands.{AreRowsOf, IsDocOf}
 use Rattle.mg_session.specs.SearchLaws.{same_texts, texts_later}
 use Rattle.mg_session.proofs.AllowedLaws.{ranked_read}
 use Rattle.mg_session.proofs.CallLaws.{shown_text, text_lacked, text_refused, text_shown, text_start}
@@ -55,7 +60,11 @@ returns g c = record {
       rows_end terms (g.S.Store.reads c.rank.new.store) are allowed (ranked_text _ _ e.reads)
       (c.show_ranked.ensures.shown.content code collection text) (shown_keeps c.show_ranked.ensures.shown.looked)
       (c.show_ranked.ensures.shown.pages code collection text) (c.show_ranked.ensures.shown.sound code collection text);
-  printed = terms_printed _ _ c.show_ranked.result (c.deref.ensures.value ∙ c.in-Ok.ensures.known) c.in-Ok-rank.ensures.whole c.show_ranked.ensures.counted;
+  printed =
+      let texts = g.D.Documents.texts c.args.texts.now in
+      terms_printed c.in-Ok-rank.ranked (AreRowsOf (IsDocOf texts (g.S.Store.files c.args.store.now)) c.args.now.now.mode) _ _ c.show_ranked.result (c.deref.ensures.value ∙ c.in-Ok.ensures.known)
+      c.in-Ok-rank.ensures.whole (subst (λ (f : Option Files). PutsSome (g.O.Sink.written c.args.out.now) (g.O.Sink.written c.show_ranked.new.out) c.show_ranked.result
+      (AreRowsOf (IsDocOf texts f) c.args.now.now.mode c.in-Ok-rank.ranked.rows) (count c.in-Ok-rank.ranked.total)) c.in-Ok-rank.ensures.files c.show_ranked.ensures.counted);
   stepped =
       let e = c.in-Ok-rank.ensures in
       text_shown (text_start c.requires.showable.fits) (ranked_step _ _ _ _ _ _ _ e.files e.cause.later e.reads) (shown_text c.show_ranked.ensures.shown);

@@ -1,5 +1,6 @@
 use Rattle.std.proofs.Common.{arith, refl}
 use Rattle.mg_defs.specs.Texts.{count}
+use Rattle.mg_session.specs.DocStands.{AreRowsOf, IsDocOf}
 use Rattle.mg_session.proofs.CallLaws.{shown_around, shown_behind}
 use Rattle.mg_session.proofs.DecidedLaws.{counted_behind}
 use Rattle.mg_session.proofs.RankedLaws.{ranking_cut, ranking_put}
@@ -21,7 +22,9 @@ returns-in-Err-clause-shown g c = shown_behind (rw c.rows.ensures at c.in-Err.en
 
 pub returns-in-Ok-clause-counted : goal.returns-in-Ok-clause-counted
 returns-in-Ok-clause-counted g c =
-    counted_behind _ (count c.args.ranked.now.total) c.put_total.result c.new-pending.ensures c.in-Ok.ensures.passed.1 (rw c.total.ensures at c.put_total.ensures.content)
+    counted_behind _ (count c.args.ranked.now.total) c.put_total.result
+    (AreRowsOf (IsDocOf (g.D.Documents.texts c.args.texts.now) (g.S.Store.files c.args.store.now)) c.args.mode c.args.ranked.now.rows)
+    c.new-pending.ensures (rw c.rows.ensures at c.in-Ok.ensures.passed.1) c.in-Ok.ensures.passed.2 (rw c.total.ensures at c.put_total.ensures.content)
 
 pub returns-in-Err-clause-counted : goal.returns-in-Err-clause-counted
 returns-in-Err-clause-counted g c = tt

@@ -1,9 +1,11 @@
-use Rattle.std.proofs.Common.{arith, ◌≡◌, [], ap, length, subst}
+use Rattle.std.proofs.Common.{arith, ◌≡◌, [], ap, length, refl, subst}
+use Rattle.mg_defs.specs.Parse.{text}
 use Rattle.mg_layout.specs.declared.head.Head.{Head}
 use Rattle.mg_reply.proofs.CallerLemmas.{pass_nothing}
 use Rattle.mg_session.specs.Answering.{RowsShown}
+use Rattle.mg_session.specs.DocStands.{IsDocOf}
 use Rattle.mg_session.specs.SearchLaws.{same_texts, texts_later, texts_then}
-use Rattle.mg_session.proofs.DecidedLaws.{some_then}
+use Rattle.mg_session.proofs.DocStandsLaws.{pairs_back, rows_then, rows_whole}
 use Rattle.mg_session.proofs.StepLaws.{cause_after, shown_none, shown_then}
 use Rattle.mg_session.proofs.TotalLaws.{lack_after}
 use Rattle.mg_session.proofs.RankedLaws.{numbered, pages_cut, rows_cut, rows_more, rows_passed, rows_read, rows_start}
@@ -16,7 +18,7 @@ loop-place-init g c = record {
   looked = shown_none _ _ _ _;
   output = omega arith;
   lacks = omega arith;
-  passed = ([], pass_nothing _ _);
+  passed = ([], refl, pass_nothing _ _);
   shown = λ code collection is. rows_start _ _ _ _ _ _ _;
 }
 
@@ -39,7 +41,9 @@ loop-place-preserved g c =
       looked = shown_then inv.looked c.in-Ok.ensures.shown.looked;
       output = omega (arith, inv.output, c.in-Ok.ensures.shown.cause.output);
       lacks = omega (arith, inv.lacks, c.in-Ok.ensures.shown.lack.later);
-      passed = some_then inv.passed.1 c.in-Ok.ensures.passed.1;
+      passed = rows_then (IsDocOf (g.D.Documents.texts c.args.texts.now) (g.S.Store.files c.args.store.now))
+          c.args.mode c.args.rows.now c.loop-place.place c.row-row.result.number c.row-row.result.score (omega arith) c.row-row.ensures.number c.row-row.ensures.score
+          (λ doc. pairs_back (λ pairs. text pairs ≡ doc) inv.same inv.looked.files) inv.passed c.in-Ok.ensures.passed;
       shown = λ code collection is.
           let text = texts_later _ _ _ _ code collection inv.same inv.looked.files is in
           rows_more code collection c.args.mode c.args.rows.now c.loop-place.place c.row-row.result.number c.row-row.result.score _ _ _ _ _ _ _
@@ -106,4 +110,6 @@ pub returns-in-Err-clause-passed : goal.returns-in-Err-clause-passed
 returns-in-Err-clause-passed g c = tt
 
 pub returns-clause-passed : goal.returns-clause-passed
-returns-clause-passed g c = c.loop-place.invariant.passed
+returns-clause-passed g c =
+    rows_whole (IsDocOf (g.D.Documents.texts c.args.texts.now) (g.S.Store.files c.args.store.now))
+    c.args.mode c.args.rows.now c.loop-place.place (omega arith) c.loop-place.invariant.passed

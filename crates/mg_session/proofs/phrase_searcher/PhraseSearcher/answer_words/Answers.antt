@@ -1,13 +1,16 @@
 use Rattle.std.proofs.Common.{arith, ℕ, List, length, sym, ◌∙◌, ap, subst}
+use Rattle.std.specs.Prelude.{OnOk}
 use Rattle.std.specs.declared.option.Option.{Option}
 use Rattle.mg_defs.specs.QueryTerms.{query_terms}
 use Rattle.mg_bool.specs.Places.{AreInfos}
 use Rattle.mg_layout.specs.declared.term_info.TermInfo.{TermInfo}
 use Rattle.mg_lex.specs.Reading.{LexStands}
 use Rattle.mg_query.specs.QueryOf.{query_of}
-use Rattle.mg_session.specs.Decided.{PhraseRow, PrintsTold, TermsTold}
+use Rattle.mg_session.specs.Decided.{PhraseRow, PrintsTold, QueryToldPrinted, TermsTold}
+use Rattle.mg_session.specs.DocStands.{ArePlacesIn}
 use Rattle.mg_session.specs.Searching.{Opened, OpenedOver}
 use Rattle.mg_session.proofs.DecidedLaws.{joined_words, told_printed}
+use Rattle.mg_session.proofs.DocStandsLaws.{places_moved}
 use Rattle.mg_session.proofs.CallLaws.{opened_answered, opened_refused, opened_showable}
 use Rattle.mg_session.proofs.PhraseReplyLaws.{answered_behind, nothing_answered}
 use Rattle.mg_session.proofs.PhraseWalkLaws.{terms_joined}
@@ -50,14 +53,18 @@ returns g c = record {
       (c.answer_phrase.ensures.answer code collection stands same)
       (lex_post _ _ _ _ _ _ c.in-Ok.ensures.looked) (lex_text _ _ _ _ _ _ c.in-Ok.ensures.looked);
   printed = λ t us words. subst (λ q. PrintsTold (g.O.Sink.written c.args.out.now) (g.O.Sink.written c.answer_phrase.new.out) c.answer_phrase.result
-      (g.S.Store.files c.args.store.now) c.args.self.now q PhraseRow)
+      (g.S.Store.files c.args.store.now) c.args.self.now q
+      (PhraseRow (ArePlacesIn c.args.self.now.texts (g.S.Store.files c.args.store.now) c.args.phrase.now)))
       (joined_words c.args.phrase.now t us c.args.query.now c.requires.joined words)
       (let terms = c.as_slice.ensures ∙ sym (terms_joined c.args.phrase.now c.args.query.now c.requires.joined) in
       let same : TermsTold c.self.inside.lex (g.S.Store.files c.args.store.now) (query_terms (query_of c.args.query.now)) c.deref.result.now =
       subst (λ (xs : List (Option TermInfo)). TermsTold c.self.inside.lex (g.S.Store.files c.args.store.now) (query_terms (query_of c.args.query.now)) xs)
       (sym c.deref.ensures.value)
       (subst (λ (ts : List (List ℕ)). TermsTold c.self.inside.lex (g.S.Store.files c.args.store.now) ts c.in-Ok.infos.items) terms c.in-Ok.ensures.told) in
-      told_printed (query_of c.args.query.now) PhraseRow _ _ c.answer_phrase.result c.self.view_is c.in-Ok.ensures.looked.files same c.answer_phrase.ensures.printed);
+      places_moved c.self.view_is c.in-Ok.ensures.looked.files c.args.phrase.now (λ ArePlaces. OnOk c.answer_phrase.result (QueryToldPrinted (query_of c.args.query.now)
+      (g.S.Store.files c.args.store.now) c.args.self.now (PhraseRow ArePlaces) (g.O.Sink.written c.args.out.now) (g.O.Sink.written c.answer_phrase.new.out)))
+      (told_printed (query_of c.args.query.now) (PhraseRow (ArePlacesIn c.self.inside.texts (g.S.Store.files c.find_terms.new.store) c.args.phrase.now)) _ _ c.answer_phrase.result
+      c.self.view_is c.in-Ok.ensures.looked.files same c.answer_phrase.ensures.printed));
   stepped = let e = c.in-Ok.ensures in
       opened_answered c.self.view_is c.requires.can.fits e.fits e.same e.looked c.answer_phrase.ensures.stepped;
 }

@@ -2,6 +2,7 @@ use Rattle.std.proofs.Common.{subst}
 use Rattle.mg_query.specs.QueryOf.{query_of}
 use Rattle.mg_query.specs.RefusalOf.{refusal_of}
 use Rattle.mg_session.specs.Decided.{BooleanRow, PrintsTold}
+use Rattle.mg_session.specs.DocStands.{IsDocOf}
 use Rattle.mg_session.proofs.DecidedLaws.{read_same, refused_printed}
 use Rattle.mg_session.proofs.CallLaws.{line_told, opened_unread}
 use Rattle.mg_session.proofs.ReplyLaws.{boolean_answered, boolean_refused}
@@ -22,6 +23,7 @@ returns-in-Ok g c = record {
       boolean_answered code collection (query_of c.in-Ok.query) c.in-Ok.ensures.reads (c.answer_parsed.ensures.answer code collection over);
   printed = λ q is told.
       subst (λ a. PrintsTold (g.O.Sink.written c.args.out.now) (g.O.Sink.written c.answer_parsed.new.out) c.answer_parsed.result
-      (g.S.Store.files c.args.store.now) c.args.self.now a (BooleanRow c.args.now.now)) (read_same c.in-Ok.ensures.reads is) c.answer_parsed.ensures.printed;
+      (g.S.Store.files c.args.store.now) c.args.self.now a
+      (BooleanRow (IsDocOf c.args.self.now.texts (g.S.Store.files c.args.store.now)) c.args.now.now)) (read_same c.in-Ok.ensures.reads is) c.answer_parsed.ensures.printed;
   stepped = c.answer_parsed.ensures.stepped;
 }

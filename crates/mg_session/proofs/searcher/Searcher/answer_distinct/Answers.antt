@@ -1,11 +1,14 @@
 use Rattle.std.proofs.Common.{arith, ℕ, List, length, sym, ap, subst}
+use Rattle.std.specs.Prelude.{OnOk}
 use Rattle.std.specs.declared.option.Option.{Option}
 use Rattle.mg_bool.specs.Places.{AreInfos}
 use Rattle.mg_layout.specs.declared.term_info.TermInfo.{TermInfo}
 use Rattle.mg_lex.specs.Reading.{LexStands}
-use Rattle.mg_session.specs.Decided.{TermsTold}
+use Rattle.mg_session.specs.Decided.{TermsTold, TermsToldPrinted}
+use Rattle.mg_session.specs.DocStands.{AreRowsOf, IsDocOf}
 use Rattle.mg_session.specs.Searching.{Opened, OpenedOver}
 use Rattle.mg_session.proofs.DecidedLaws.{told_ranked}
+use Rattle.mg_session.proofs.DocStandsLaws.{docs_moved}
 use Rattle.mg_session.proofs.CallLaws.{opened_answered, opened_refused, opened_showable}
 use Rattle.mg_session.proofs.ReplyLaws.{answered_behind, answers_for, nothing_answered, part_sound}
 use Rattle.mg_session.proofs.StepLaws.{lex_keeps, lex_text}
@@ -47,7 +50,10 @@ returns g c = record {
       subst (λ (xs : List (Option TermInfo)). TermsTold c.self.inside.lex (g.S.Store.files c.args.store.now) c.args.terms.now xs) (sym c.deref.ensures.value)
       (subst (λ (ts : List (List ℕ)). TermsTold c.self.inside.lex (g.S.Store.files c.args.store.now) ts c.in-Ok.infos.items) c.as_slice.ensures
       c.in-Ok.ensures.told) in
-      told_ranked _ _ c.answer_terms.result c.self.view_is same c.answer_terms.ensures.printed;
+      docs_moved c.self.view_is c.in-Ok.ensures.looked.files (λ IsDoc. OnOk c.answer_terms.result (TermsToldPrinted c.args.terms.now (g.S.Store.files c.args.store.now) c.args.self.now
+      (AreRowsOf IsDoc c.args.now.now.mode) (g.O.Sink.written c.args.out.now) (g.O.Sink.written c.answer_terms.new.out)))
+      (told_ranked (AreRowsOf (IsDocOf c.self.inside.texts (g.S.Store.files c.find_terms.new.store)) c.args.now.now.mode) _ _ c.answer_terms.result c.self.view_is same
+      c.answer_terms.ensures.printed);
   stepped = let e = c.in-Ok.ensures in
       opened_answered c.self.view_is c.requires.fits e.fits e.same e.looked c.answer_terms.ensures.stepped;
 }

@@ -1,13 +1,16 @@
 use Rattle.std.proofs.Common.{arith, ℕ, List, length, sym, ◌∙◌, ap, subst}
+use Rattle.std.specs.Prelude.{OnOk}
 use Rattle.std.specs.declared.option.Option.{Option}
 use Rattle.mg_defs.specs.QueryTerms.{query_terms}
 use Rattle.mg_query.specs.QueryOf.{query_of}
 use Rattle.mg_bool.specs.Places.{AreInfos}
 use Rattle.mg_layout.specs.declared.term_info.TermInfo.{TermInfo}
 use Rattle.mg_lex.specs.Reading.{LexStands}
-use Rattle.mg_session.specs.Decided.{BooleanRow, TermsTold}
+use Rattle.mg_session.specs.Decided.{BooleanRow, QueryToldPrinted, TermsTold}
+use Rattle.mg_session.specs.DocStands.{IsDocOf}
 use Rattle.mg_session.specs.Searching.{Opened, OpenedOver}
 use Rattle.mg_session.proofs.DecidedLaws.{told_printed}
+use Rattle.mg_session.proofs.DocStandsLaws.{docs_moved}
 use Rattle.mg_session.proofs.CallLaws.{opened_answered, opened_refused, opened_showable}
 use Rattle.mg_session.proofs.ReplyLaws.{answered_behind, answers_for, nothing_answered, part_sound}
 use Rattle.mg_session.proofs.StepLaws.{lex_keeps, lex_text}
@@ -50,7 +53,10 @@ returns g c = record {
       subst (λ (xs : List (Option TermInfo)). TermsTold c.self.inside.lex (g.S.Store.files c.args.store.now) (query_terms (query_of c.args.query.now)) xs)
       (sym c.deref.ensures.value) (subst (λ (ts : List (List ℕ)). TermsTold c.self.inside.lex (g.S.Store.files c.args.store.now) ts c.in-Ok.infos.items)
       (c.as_slice.ensures ∙ c.requires.terms) c.in-Ok.ensures.told) in
-      told_printed (query_of c.args.query.now) (BooleanRow c.args.now.now) _ _ c.answer_query.result c.self.view_is c.in-Ok.ensures.looked.files same c.answer_query.ensures.printed;
+      docs_moved c.self.view_is c.in-Ok.ensures.looked.files (λ IsDoc. OnOk c.answer_query.result (QueryToldPrinted (query_of c.args.query.now)
+      (g.S.Store.files c.args.store.now) c.args.self.now (BooleanRow IsDoc c.args.now.now) (g.O.Sink.written c.args.out.now) (g.O.Sink.written c.answer_query.new.out)))
+      (told_printed (query_of c.args.query.now) (BooleanRow (IsDocOf c.self.inside.texts (g.S.Store.files c.find_terms.new.store)) c.args.now.now) _ _ c.answer_query.result c.self.view_is
+      c.in-Ok.ensures.looked.files same c.answer_query.ensures.printed);
   stepped = let e = c.in-Ok.ensures in
       opened_answered c.self.view_is c.requires.fits e.fits e.same e.looked c.answer_query.ensures.stepped;
 }

@@ -1,6 +1,7 @@
 use Rattle.std.proofs.Common.{subst}
 use Rattle.mg_query.specs.RefusalOf.{refusal_of}
 use Rattle.mg_session.specs.Decided.{RanksTold}
+use Rattle.mg_session.specs.DocStands.{AreRowsOf, IsDocOf}
 use Rattle.mg_session.proofs.DecidedLaws.{read_same, refused_printed}
 use Rattle.mg_session.proofs.CallLaws.{line_told, opened_unread}
 use Rattle.mg_session.proofs.TermLaws.{line_terms}
@@ -28,6 +29,7 @@ returns-in-Ok g c = record {
       ranked_answered code collection c.in-Ok.terms c.in-Ok.ensures.reads (c.answer_distinct.ensures.answer code collection over);
   printed = λ ts is told.
       subst (λ xs. RanksTold (g.O.Sink.written c.args.out.now) (g.O.Sink.written c.answer_distinct.new.out) c.answer_distinct.result
-      (g.S.Store.files c.args.store.now) c.args.self.now xs) (read_same c.in-Ok.ensures.reads is) c.answer_distinct.ensures.printed;
+      (g.S.Store.files c.args.store.now) c.args.self.now xs
+      (AreRowsOf (IsDocOf c.args.self.now.texts (g.S.Store.files c.args.store.now)) c.args.now.now.mode)) (read_same c.in-Ok.ensures.reads is) c.answer_distinct.ensures.printed;
   stepped = c.answer_distinct.ensures.stepped;
 }

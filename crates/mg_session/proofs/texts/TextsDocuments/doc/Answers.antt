@@ -1,7 +1,10 @@
 use Rattle.std.proofs.Common.{arith, refl, sym, subst}
 use Rattle.mg_defs.specs.Terms.{document}
 use Rattle.mg_dev.specs.Streams.{AfterPut}
+use Rattle.mg_session.specs.Decided.{PutsDoc}
+use Rattle.mg_session.specs.DocStands.{IsDocOf}
 use Rattle.mg_session.specs.Texts.{Texting, TextsFit, TextsStand}
+use Rattle.mg_session.proofs.DocStandsLaws.{doc_put}
 use Rattle.mg_session.proofs.StepLaws.{shown_none}
 use Rattle.mg_session.proofs.TextsLaws.{read_shown, same_pages, short_document, texts_reader}
 use Rattle.mg_session.proofs.texts.TextsDocuments.doc.Goals as goal
@@ -25,3 +28,16 @@ returns-in-Some-clause-shown g c =
     (λ code collection is.
     let own = subst (λ (t : Texting). TextsStand t (g.S.Store.files c.args.store.now) code collection) (sym c.self.view_is) is in
     e.never_bad collection (short_document _ _ _ _ collection (loaded.stands code collection own.text) (omega (arith, own.size))))
+
+pub returns-in-Some-clause-told : goal.returns-in-Some-clause-told
+returns-in-Some-clause-told g c =
+    let e = c.doc_within.ensures in
+    let loaded = texts_reader (g.S.Store.files c.args.store.now) _ c.in-Some.reader
+    (subst (λ (t : Texting). TextsFit (g.S.Store.files c.args.store.now) t) (sym c.self.view_is) c.requires.fits) c.in-Some.is in
+    doc_put c.args.number c.in-Some.reader (g.O.Sink.written c.args.out.now) (g.O.Sink.written c.doc_within.new.out)
+    c.self.view_is e.added.bytes e.added.told (g.S.Store.files c.args.store.now) _ c.doc_within.result refl loaded e.stood
+
+pub returns-in-None-clause-told : goal.returns-in-None-clause-told
+returns-in-None-clause-told g c =
+    subst (λ (t : Texting). PutsDoc (g.O.Sink.written c.args.out.now) (g.O.Sink.written c.load_doc.new.out) c.load_doc.result
+    (IsDocOf t (g.S.Store.files c.args.store.now) c.args.number)) c.self.view_is c.load_doc.ensures.told

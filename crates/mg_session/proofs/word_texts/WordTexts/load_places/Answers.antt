@@ -14,6 +14,7 @@ returns-in-Err g c =
       fits = search rules;
       same = search rules;
       content = λ code collection is. tt;
+      stood = tt;
       never_bad = λ code collection is.
           e.never_bad code collection (subst (λ (t : Texting). TextsStand t (g.S.Store.files c.args.store.now) code collection) (sym c.self.view_is) is).text;
       pages = λ code collection is. omega (arith, e.looked.others part.Text refl refl);
@@ -27,5 +28,5 @@ pub returns : goal.returns
 returns g c =
     let load = c.in-Ok.ensures in
     places_read c.self.view_is c.requires.showable.fits (looked_shown part.Words part.Nonwords _ _ _ _ _ _ (omega arith) (omega arith) (omega arith) (omega arith) load.looked)
-    c.keep.ensures (loaded_now _ _ _ _ c.in-Ok.reader load.looked.files load.fits load.reader load.stands load.code) c.seek-found.ensures
+    c.keep.ensures (loaded_now _ _ _ _ c.in-Ok.reader load.looked.files load.fits load.reader load.stands load.code load.answer) c.seek-found.ensures load.looked.files
     (load.looked.others part.Text refl refl) load.stands load.code
