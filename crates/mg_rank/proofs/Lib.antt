@@ -14,3 +14,4 @@ mod RowWalk
 mod SizeLaws
 mod AscentLaws
 mod WeightLaws
+mod RowSums

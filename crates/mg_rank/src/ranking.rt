@@ -111,7 +111,7 @@ fn sum_lists<S: Store>(
     ensures { Between S.files S.reads S.faults store.old store.new
         (SumsTerms base.now terms.now all result) }
 {
-    let mut sums = Sums::new(alloc);
+    let mut sums = Sums::new(alloc, terms.len());
     for info in terms {
         match add_list(alloc, store, base, info, all, &mut sums) {
             Ok(()) => {}
