@@ -11,7 +11,7 @@ use crate::counts::Counts;
 use crate::doc_counts::DocCounts;
 use crate::pairs::pair;
 use mg_laws::{few_of_each, limits_of_marks, marks_have_all};
-use mg_model::{Stream, TermTable, TextModel, collections_have_models, terms_are_the_dictionary};
+use mg_model::{Stream, TermTable, TextModel, codes_are_models, terms_are_the_dictionary};
 use mg_runs::Pool;
 use std::alloc::{AllocError, Global};
 use std::marker::Model;
@@ -67,7 +67,7 @@ impl Plan {
         few_of_each();
         limits_of_marks();
         marks_have_all();
-        collections_have_models();
+        codes_are_models();
         terms_are_the_dictionary();
         let (words, others, pairs) = counts.into_parts();
         let model = TextModel::of(alloc, words, others)?;

@@ -22,7 +22,7 @@ pub fn symbol_and_piece()
 {}
 
 /// The code of a collection's stream is that of a model where it has at most 2^22 pieces.
-pub fn collections_have_models()
+pub fn codes_are_models()
     ensures { (kind : Stream) (collection : List ℕ) (it : StreamCode) →
         IsCodeOf kind collection it → length it.pieces ≤ 2 ^ 22 →
         IsStreamCode it }

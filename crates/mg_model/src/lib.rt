@@ -28,7 +28,7 @@ mod vocab_err;
 
 pub use block::short_piece;
 pub use laws::{
-    collections_have_models, symbol_and_piece, terms_are_the_dictionary, vocabularies_sort,
+    codes_are_models, symbol_and_piece, terms_are_the_dictionary, vocabularies_sort,
     words_have_terms,
 };
 pub use mg_defs::Stream;

@@ -10,7 +10,7 @@ returns-in-Ok-clause-plan c =
       pieces = c.marks_have_all.ensures.pieces;
       pairs = c.marks_have_all.ensures.pairs;
       few_pairs = c.few_of_each.ensures.pairs;
-      models = c.collections_have_models.ensures;
+      models = c.codes_are_models.ensures;
       terms = c.terms_are_the_dictionary.ensures.terms;
     } in
     let p : Plan = plan_by c.in_ok-model.model c.into_parts-words.result.2.items c.args.open_end in
@@ -28,7 +28,7 @@ returns-in-Ok-clause-of c = λ collection h.
       pieces = c.marks_have_all.ensures.pieces;
       pairs = c.marks_have_all.ensures.pairs;
       few_pairs = c.few_of_each.ensures.pairs;
-      models = c.collections_have_models.ensures;
+      models = c.codes_are_models.ensures;
       terms = c.terms_are_the_dictionary.ensures.terms;
     } in
     let p : Plan = plan_by c.in_ok-model.model c.into_parts-words.result.2.items c.args.open_end in
