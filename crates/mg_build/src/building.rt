@@ -1,6 +1,7 @@
 //! The build of a set.
-ghost use Rattle.std.specs.Prelude.{◌≡◌, ◌≤◌, ◌^◌, IfErr, None};
+ghost use Rattle.std.specs.Prelude.{◌≡◌, ◌≤◌, IfErr, None};
 ghost use Rattle.std.specs.Option.{IsSome};
+ghost use Rattle.mg_defs.specs.Limits.{greatest_budget, least_budget};
 ghost use Rattle.mg_bits.specs.Pages.{Fits};
 ghost use Rattle.mg_dev.specs.Files.{HasSize, bytes_at};
 ghost use Rattle.mg_dev.specs.Runs.{status_of};
@@ -30,8 +31,8 @@ pub fn build<S: Store>(
     base: &str,
     budget: u64,
 ) -> Result<Summary, Fault>
-    requires least { 4096 ≤ budget }
-    requires most { budget ≤ 2 ^ 30 }
+    requires least { least_budget ≤ budget }
+    requires most { budget ≤ greatest_budget }
     ensures made { BetweenMoments S.files S.reads S.faults store.old store.new
         (λ before now. Made collection.now base.now budget before now (status_of result)) }
     // At `Ok` the summary has the numbers of the collection.
@@ -59,8 +60,8 @@ fn build_opened<S: Store>(
     base: &str,
     budget: u64,
 ) -> Result<Summary, Fault>
-    requires least { 4096 ≤ budget }
-    requires most { budget ≤ 2 ^ 30 }
+    requires least { least_budget ≤ budget }
+    requires most { budget ≤ greatest_budget }
     requires fits { Fits source.old.feed (S.files store.old) }
     requires size { HasSize (S.files store.old) source.old.feed.name source.old.size }
     requires unread { source.old.feed.held ≡ None }

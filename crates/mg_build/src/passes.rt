@@ -1,6 +1,7 @@
 //! The two passes over a collection.
 ghost use Rattle.std.specs.Prelude.{◌<◌, ◌≤◌, ◌^◌, ℕ, List, [], IfErr, IfOk, OnOk};
 ghost use Rattle.std.specs.Option.{IsSome};
+ghost use Rattle.mg_defs.specs.Limits.{greatest_budget, least_budget};
 ghost use Rattle.mg_bits.specs.Pages.{Fits};
 ghost use Rattle.mg_make.specs.Counting.{HasCounted};
 ghost use Rattle.mg_make.specs.Outcomes.{BetweenMoments, Fails};
@@ -52,8 +53,8 @@ pub(crate) fn count_all<S: Store>(
     source: &mut Source<'_, S>,
     budget: u64,
 ) -> Result<(Plan, Room), Fault>
-    requires least { 4096 ≤ budget }
-    requires most { budget ≤ 2 ^ 30 }
+    requires least { least_budget ≤ budget }
+    requires most { budget ≤ greatest_budget }
     requires fits { Fits source.old.feed (S.files store.old) }
     ensures plan { IfOk result (λ made. IsPlan made.0) }
     ensures room { IfOk result (λ made. IsRoomFor made.1 made.0 budget) }

@@ -1,10 +1,11 @@
 -- What of the index of a set is compared with its text.
-use Rattle.std.specs.Prelude.{◌≡◌, ◌≤◌, ◌<◌, ◌+◌, ◌^◌, ℕ, List, IfErr, IfOk, OnOk, length, map}
+use Rattle.std.specs.Prelude.{◌≡◌, ◌≤◌, ◌<◌, ◌+◌, ℕ, List, IfErr, IfOk, OnOk, length, map}
 use Rattle.std.specs.declared.option.Option.{Option}
 use Rattle.std.specs.declared.result.Result.{Result}
 use Rattle.mg_dev.specs.Files.{Files, Reads}
 use Rattle.mg_mem.specs.declared.sure_store.SureStore.{SureStore}
 use Rattle.mg_dev.specs.declared.part_err.PartErr.{PartErr}
+use Rattle.mg_defs.specs.Limits.{version_2}
 use Rattle.mg_defs.specs.declared.Posting.{Posting}
 use Rattle.mg_defs.specs.Split.{documents}
 use Rattle.mg_defs.specs.Terms.{dictionary, docs}
@@ -23,7 +24,7 @@ pub record IsIndexOf (r : TextReading) (files : Option Files) (terms : List (Lis
   pub stands : TextStands r files collection
   pub terms_are : terms ≡ dictionary collection
   pub docs_are : docs_of ≡ map (docs collection) (dictionary collection)
-  pub few : length (documents collection) ≤ 2 ^ 24
+  pub few : length (documents collection) ≤ version_2.documents
 
 -- for each of them whose lists have their room
 abbrev pub ForRooms : TextReading → Option Files → Ranged → (List ℕ → Type 0) → Type 0
@@ -62,7 +63,7 @@ pub record CanIndex (r : TextReading) (files : Option Files) (of : Indexed) : Ty
   -- each term has some of so many documents
   pub sizes : AreSizes of.docs.now (length of.table.now.terms) of.documents
   -- no collection has more
-  pub most : of.documents ≤ 2 ^ 24
+  pub most : of.documents ≤ version_2.documents
 
 -- ---- ranges that are compared
 

@@ -2,6 +2,7 @@
 ghost use Rattle.std.specs.Prelude.{◌≡◌, ◌<◌, ◌≤◌, ◌^◌, max, IfErr, IsSome};
 ghost use Rattle.mg_dev.specs.Moments.{Between};
 ghost use Rattle.mg_defs.specs.Heads.{IsWithin};
+ghost use Rattle.mg_defs.specs.Limits.{least_cap};
 ghost use Rattle.mg_layout.specs.HeadAnswers.{fields_of};
 ghost use Rattle.mg_layout.specs.Stands.{parts_at};
 ghost use Rattle.mg_text.specs.Reading.{TextReading};
@@ -80,9 +81,9 @@ fn expect_sizes<S: Store>(store: &mut S, base: &str, head: &Head) -> Result<(), 
 // The runs are the same, and their pool is no larger than the set, or than the least of a build.
 fn run_size(head: &Head) -> u32
     requires within { IsWithin (fields_of head.now) }
-    ensures least { 341 ≤ result }
+    ensures least { least_cap ≤ result }
     ensures most { result ≤ head.now.cap }
-    ensures few { result ≤ max 341 head.now.occurrences }
+    ensures few { result ≤ max least_cap head.now.occurrences }
     ensures enough { result < head.now.cap → head.now.occurrences ≤ result }
 {
     if head.occurrences >= u64::from(head.cap) {

@@ -10,6 +10,7 @@ ghost use Rattle.mg_check_parts.specs.Refusals.{WhereBad};
 ghost use Rattle.mg_check_index.specs.Counting.{AreOwn};
 ghost use Rattle.mg_check.specs.CountedText.{DocumentsTallied, IsCountOf, IsTallyOf, TalliedText};
 ghost use Rattle.mg_check.specs.Rest.{RefutesTerms};
+ghost use Rattle.mg_defs.specs.Limits.{least_cap, greatest_cap};
 
 use mg_check_index::Tally;
 use mg_check_text::TermReader;
@@ -118,8 +119,8 @@ pub(crate) fn check_terms<S: Store>(
     documents: u32,
 ) -> Result<Counts, PartErr>
     requires text { HasTerms reader.old (S.files store.old) table.now documents }
-    requires least { 341 ≤ cap }
-    requires most { cap ≤ 89478485 }
+    requires least { least_cap ≤ cap }
+    requires most { cap ≤ greatest_cap }
     ensures counted { WhereTextStands reader.old (S.files store.old)
         (λ text. IfOk result (IsCountOf base.entry.now (S.files store.old) cap text)) }
     ensures other { WhereTextStands reader.old (S.files store.old)

@@ -9,6 +9,7 @@ use Rattle.mg_dev.specs.Names.{full_name}
 use Rattle.mg_dev.specs.declared.part.Part.TheVariants as part
 use Rattle.mg_dev.specs.declared.part_err.PartErr.{PartErr}
 use Rattle.mg_mem.specs.declared.sure_store.SureStore.{SureStore}
+use Rattle.mg_defs.specs.Limits.{version_2}
 use Rattle.mg_defs.specs.declared.Posting.{Posting}
 use Rattle.mg_defs.specs.Lists.{lists_bits, lists_entries}
 use Rattle.mg_layout.specs.declared.term_info.TermInfo.{TermInfo}
@@ -128,7 +129,7 @@ pub record AreBetween (told : SureStore → Option Files) (lists : NewLists) (al
   pub took : Took lists.writer (told lists.store) done []
   pub all_are : lists.writer.all ≡ all
   -- no collection has more
-  pub few : all ≤ 2 ^ 24
+  pub few : all ≤ version_2.documents
 
 -- lists are written in memory, told of the moments before and after
 pub record WritesOn {T : Type 0} (old new : NewLists) (result : Result T PartErr) : Type 0 where

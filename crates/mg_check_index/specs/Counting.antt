@@ -10,6 +10,7 @@ use Rattle.mg_dev.specs.declared.part.Part.TheVariants as part
 use Rattle.mg_dev.specs.declared.part_err.PartErr.{PartErr}
 use Rattle.mg_defs.specs.CodedText.{TextCode}
 use Rattle.mg_defs.specs.Bits.{as_bytes}
+use Rattle.mg_defs.specs.Limits.{least_budget, greatest_budget}
 use Rattle.mg_defs.specs.Means.{IsCodable}
 use Rattle.mg_defs.specs.Numbers.{four}
 use Rattle.mg_defs.specs.Occurrences.{occurrences}
@@ -155,8 +156,8 @@ run_part_of r fed = as_bytes (run_part_bits (cap_of r.pool) fed)
 
 -- These occurrences were taken: the part begins with the finished runs, and the pool has the rest.
 pub record HasTaken (r : RunReading) (files : Option Files) (fed : List (ℕ × ℕ)) : Type 0 where
-  pub least : 4096 ≤ r.pool.limit
-  pub most : r.pool.limit ≤ 2 ^ 30
+  pub least : least_budget ≤ r.pool.limit
+  pub most : r.pool.limit ≤ greatest_budget
   pub slots : r.pool.slots ≡ []
   pub entries : r.pool.entries ≡ map once (drop (finished (cap_of r.pool) (length fed) * cap_of r.pool) fed)
   pub begun : HasBegun r.part files (as_bytes

@@ -11,6 +11,7 @@ use Rattle.mg_dev.specs.Names.{full_name}
 use Rattle.mg_dev.specs.declared.part.Part.TheVariants.{Lex, LexAt, Post, Skip}
 use Rattle.mg_mem.specs.declared.sure_store.SureStore.{SureStore}
 use Rattle.mg_dev.specs.declared.part_err.PartErr.{PartErr}
+use Rattle.mg_defs.specs.Limits.{version_2}
 use Rattle.mg_defs.specs.declared.Posting.{Posting}
 use Rattle.mg_defs.specs.Bits.{as_bytes}
 use Rattle.mg_defs.specs.Lexicon.{lex_at_part, lex_part}
@@ -282,9 +283,9 @@ pub record IsRange (w : Ranged) (of : Indexed) : Type 0 where
   -- each list is within its room, which is for some of so many documents
   pub laid : IsLaidOut w
   pub rooms : AreRooms w of.documents
-  pub most : of.documents ≤ 2 ^ 24
+  pub most : of.documents ≤ version_2.documents
   -- the table's terms rise, and are few
-  pub few : length of.table.now.terms ≤ 2 ^ 22
+  pub few : length of.table.now.terms ≤ version_2.pieces
   pub rising : IsStrictlySortedBy (slice_cmp nat_cmp) of.table.now.terms
 
 -- postings of a document may be added to the lists of a range of a table's terms

@@ -1,5 +1,5 @@
 //! The lexicon against one that is written anew.
-ghost use Rattle.std.specs.Prelude.{◌≡◌, ◌<◌, ◌≤◌, ◌+◌, ◌^◌, ℕ, List, [], IfOk, OnOk, codes, length};
+ghost use Rattle.std.specs.Prelude.{◌≡◌, ◌<◌, ◌≤◌, ◌+◌, ℕ, List, [], IfOk, OnOk, codes, length};
 ghost use Rattle.std.specs.Cmp.Lexicographic.{slice_cmp};
 ghost use Rattle.std.specs.List.Sorted.{IsStrictlySortedBy};
 ghost use Rattle.std.specs.Ordering.{nat_cmp};
@@ -8,6 +8,7 @@ ghost use Rattle.mg_lex.specs.Writing.{TookTerms};
 ghost use Rattle.mg_check_index.specs.Anew.{FindsLexicon, RefusesLexicon, TakesTerm};
 ghost use Rattle.mg_check_index.specs.Listing.{CanPush};
 ghost use Rattle.mg_check_parts.specs.Looks.{LooksAtSet};
+ghost use Rattle.mg_defs.specs.Limits.{version_2};
 
 use mg_check_parts::{expect_whole, wanted};
 use mg_dev::{FileRef, Part, PartErr, Store};
@@ -45,7 +46,7 @@ impl<'a> Lexicon<'a> {
         requires can { CanPush table.now.terms info.now.number self.old.writer
             (⟦<SureStore as Store>⟧.files self.old.store) }
         requires number { info.now.number < length table.now.terms }
-        requires few { length table.now.terms ≤ 2 ^ 22 }
+        requires few { length table.now.terms ≤ version_2.pieces }
         requires rising { IsStrictlySortedBy (slice_cmp nat_cmp) table.now.terms }
         ensures can { OnOk result (CanPush table.now.terms (info.now.number + 1) self.new.writer
             (⟦<SureStore as Store>⟧.files self.new.store)) }

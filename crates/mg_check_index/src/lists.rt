@@ -7,6 +7,7 @@ ghost use Rattle.mg_dev.specs.Bads.{IsNotBad};
 ghost use Rattle.mg_dev.specs.Names.{full_name};
 ghost use Rattle.mg_dev.specs.Moments.{Between};
 ghost use Rattle.mg_dev.specs.declared.part.Part.TheVariants as part;
+ghost use Rattle.mg_defs.specs.Limits.{version_2};
 ghost use Rattle.mg_defs.specs.declared.Posting.{Posting};
 ghost use Rattle.mg_defs.specs.Lists.{Rises};
 ghost use Rattle.mg_post.specs.Writing.{Pushed, PushedMore, Took};
@@ -79,7 +80,7 @@ fn info_behind(number: u32, docs: u32, before: Places, at: (u64, u32)) -> Option
 impl<'a> NewLists<'a> {
     /// No list among so many documents.
     pub(crate) fn start(alloc: Global, all: u32) -> Result<Self, AllocError>
-        requires all { all ≤ 2 ^ 24 }
+        requires all { all ≤ version_2.documents }
         ensures new { IfOk result (IsNewLists ⟦<SureStore as Store>⟧.files all) }
     {
         let mut store = SureStore::new(alloc);
@@ -94,7 +95,7 @@ impl<'a> NewLists<'a> {
         requires took { (done : List (List Posting)) × (ps : List Posting)
             × Took self.old.writer (⟦<SureStore as Store>⟧.files self.old.store) done ps }
         requires last { self.old.writer.last ≡ last }
-        requires few { last ≤ 2 ^ 24 }
+        requires few { last ≤ version_2.documents }
         requires all { self.old.writer.all ≡ all }
         requires more { self.old.writer.pushed < self.old.writer.docs }
         requires total { self.old.writer.total < 2 ^ 32 }

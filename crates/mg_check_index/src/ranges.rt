@@ -1,6 +1,7 @@
 //! Ranges of terms whose postings are held in memory at once.
 ghost use Rattle.std.specs.Prelude.{◌<◌, ◌≤◌, ◌+◌, ◌-◌, ◌^◌, ◌↔◌, ℕ, IsTrue, length, take, drop, sum, slice_index};
 ghost use Rattle.mg_check_index.specs.Listing.{AreSizes};
+ghost use Rattle.mg_defs.specs.Limits.{version_2};
 
 /// So many postings end a range.
 const RANGE_POSTINGS: u32 = 1 << 26;
@@ -24,8 +25,8 @@ pub fn are_sizes(docs: &[u32], terms: u32, all: u32) -> bool
 /// last term. So what is held is fewer than these and one list.
 pub fn range_end(docs: &[u32], first: u32) -> u32
     requires some { first < length docs.now }
-    requires few { length docs.now ≤ 2 ^ 22 }
-    requires each { (k : ℕ) → k < length docs.now → slice_index docs.now k ≤ 2 ^ 24 }
+    requires few { length docs.now ≤ version_2.pieces }
+    requires each { (k : ℕ) → k < length docs.now → slice_index docs.now k ≤ version_2.documents }
     ensures after { first < result }
     ensures within { result ≤ length docs.now }
     ensures most { sum (take (result - first) (drop first docs.now)) < 2 ^ 26 + 2 ^ 24 }

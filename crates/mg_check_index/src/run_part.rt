@@ -9,6 +9,7 @@ ghost use Rattle.mg_dev.specs.Moments.{Between};
 ghost use Rattle.mg_dev.specs.declared.part.Part.TheVariants as part;
 ghost use Rattle.mg_runs.specs.Fed.{cap_of};
 ghost use Rattle.mg_check_index.specs.Counting.{CanBeRun, ComparesPart, SameRun, HasTaken, IsRunOf, WritesRun, run_bytes, run_of_pool, HasBegunMore, GoesOnOtherwise, HasTakenOne, HasTakenAll, RunsOtherwise, RunsOtherwiseOn, HasBegunRuns, AreItsRuns, AreOtherRuns};
+ghost use Rattle.mg_defs.specs.Limits.{least_cap, greatest_cap};
 
 use crate::comparison::Comparison;
 use mg_bits::BitWriter;
@@ -92,8 +93,8 @@ fn run_in(store: &SureStore) -> &[u8]
 impl<'a> RunPart<'a> {
     /// No occurrence, to be taken in runs of so many; the pool takes no more.
     pub(crate) fn new(alloc: Global, base: &'a str, cap: u32) -> Result<Self, AllocError>
-        requires least { 341 ≤ cap }
-        requires most { cap ≤ 89478485 }
+        requires least { least_cap ≤ cap }
+        requires most { cap ≤ greatest_cap }
         ensures taken { IfOk result (λ runs. (files : Option Files) → HasTaken runs files []) }
         ensures name { IfOk result (λ runs. runs.part.name ≡ full_name base.entry.now part.Run) }
         ensures cap { IfOk result (λ runs. cap_of runs.pool ≡ cap) }

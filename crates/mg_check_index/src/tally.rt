@@ -7,6 +7,7 @@ ghost use Rattle.mg_dev.specs.declared.part.Part.TheVariants as part;
 ghost use Rattle.mg_runs.specs.Fed.{cap_of};
 ghost use Rattle.mg_check_index.specs.Counting.{CanAdd, ComparesPart, HasTallied, NoneGoesOn, NotTallied, SameParts, one_more_each, TalliedNext, AreTallied};
 ghost use Rattle.mg_check_parts.specs.TermsRead.{IsCounted};
+ghost use Rattle.mg_defs.specs.Limits.{least_cap, greatest_cap};
 
 use crate::run_part::RunPart;
 use crate::weights::Weights;
@@ -63,8 +64,8 @@ fn too_many(found: u64) -> Bad
 impl<'a> Tally<'a> {
     /// No document. There are so many terms, and runs of so many occurrences.
     pub fn new(alloc: Global, base: &'a str, terms: u32, cap: u32) -> Result<Self, AllocError>
-        requires least { 341 ≤ cap }
-        requires most { cap ≤ 89478485 }
+        requires least { least_cap ≤ cap }
+        requires most { cap ≤ greatest_cap }
         ensures tallied { IfOk result (λ t. (files : Option Files) (words : List (List ℕ)) →
             length words ≡ terms → HasTallied t files words []) }
         ensures weights { IfOk result (λ t. t.weights.part.name

@@ -1,5 +1,6 @@
 //! The first pass over the bytes of a collection.
 ghost use Rattle.std.specs.Prelude.{◌<◌, ◌≤◌, ◌+◌, ◌-◌, ◌^◌, ◌++◌, ◌∷◌, ℕ, List, [], length, take, IfErr, IfOk, OnOk};
+ghost use Rattle.mg_defs.specs.Limits.{greatest_budget, least_budget};
 ghost use Rattle.mg_defs.specs.Marks.{Mark, marks};
 ghost use Rattle.mg_count.specs.Counting.{AreFew, CountStops, EndStops, HasCounted, IsCountOf, CountStopsAmong};
 ghost use Rattle.mg_count.specs.Plans.{IsPlan, IsPlanOf, IsRoomFor};
@@ -122,8 +123,8 @@ impl Count {
     /// `budget` bytes, from 4,096 to 2^30. The last piece may be one too many; else only `Memory` is
     /// refused.
     pub fn finish(self, alloc: Global, budget: u64) -> Result<(Plan, Room), Fault>
-        requires least { 4096 ≤ budget }
-        requires most { budget ≤ 2 ^ 30 }
+        requires least { least_budget ≤ budget }
+        requires most { budget ≤ greatest_budget }
         requires given { (fed : List ℕ) × HasCounted self fed × (length fed < 2 ^ 32) }
         ensures plan { IfOk result (λ r. IsPlan r.0) }
         ensures of { (fed : List ℕ) → HasCounted self fed → length fed < 2 ^ 32 →

@@ -2,7 +2,8 @@
 //!
 //! Both are made before anything is written. So a build that lacks memory for them has left all files
 //! as they were.
-ghost use Rattle.std.specs.Prelude.{◌≡◌, ◌≤◌, ◌^◌, ℕ, List, replicate, IfOk};
+ghost use Rattle.std.specs.Prelude.{◌≡◌, ◌≤◌, ℕ, List, replicate, IfOk};
+ghost use Rattle.mg_defs.specs.Limits.{greatest_budget, least_budget};
 ghost use Rattle.mg_count.specs.Counting.{IsCountOf};
 ghost use Rattle.mg_count.specs.Entries.{AreEntries};
 ghost use Rattle.mg_count.specs.Plans.{IsPlan, IsPlanOf, IsRoomFor, plan_by};
@@ -124,8 +125,8 @@ fn no_sums(alloc: Global, count: usize) -> Result<Vec<u64>, AllocError>
 impl Room {
     /// Room for what a plan's second pass counts, with a pool of so many bytes.
     pub(crate) fn new(alloc: Global, plan: &Plan, budget: u64) -> Result<Self, AllocError>
-        requires least { 4096 ≤ budget }
-        requires most { budget ≤ 2 ^ 30 }
+        requires least { least_budget ≤ budget }
+        requires most { budget ≤ greatest_budget }
         ensures { IfOk result (λ room. IsRoomFor room plan.now budget) }
     {
         let sums = no_sums(alloc, plan.pairs.len())?;
@@ -142,8 +143,8 @@ pub(crate) fn plan_of(
     open_end: bool,
     budget: u64,
 ) -> Result<(Plan, Room), AllocError>
-    requires least { 4096 ≤ budget }
-    requires most { budget ≤ 2 ^ 30 }
+    requires least { least_budget ≤ budget }
+    requires most { budget ≤ greatest_budget }
     requires counted { (collection : List ℕ) × IsCountOf counts open_end collection }
     ensures plan { IfOk result (λ r. IsPlan r.0) }
     ensures of { (collection : List ℕ) → IsCountOf counts open_end collection →

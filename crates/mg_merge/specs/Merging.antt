@@ -7,7 +7,7 @@ use Rattle.mg_dev.specs.declared.fault.Fault.{Fault}
 use Rattle.mg_dev.specs.declared.fault.Fault.TheVariants.{Damaged, Memory, NotBuilt, SameName, StoreFault, TooLarge, TooManyDocuments, TooManyPieces}
 use Rattle.mg_defs.specs.Heads as heads
 use Rattle.mg_defs.specs.Join.{join}
-use Rattle.mg_defs.specs.Limits.{version_2}
+use Rattle.mg_defs.specs.Limits.{least_budget, occurrence_bytes, version_2}
 use Rattle.mg_defs.specs.Marks.{PassesFirst, piece, start}
 use Rattle.mg_layout.specs.Stands.{HasNoHead, Stands, StandsIn}
 use Rattle.mg_merge.specs.Stops.{AreHeads, TellBeyond}
@@ -17,7 +17,7 @@ use Rattle.mg_make.specs.Outcomes.{most_bytes}
 
 -- the pool of a merge, by the cap of the first set: runs have as many occurrences again
 abbrev pub budget_of : ℕ → ℕ
-budget_of cap = max 4096 (12 * cap)
+budget_of cap = max least_budget (occurrence_bytes * cap)
 
 -- the bytes of both collections by their heads, with the one that closes the first
 abbrev pub joined_size : heads.Head → heads.Head → ℕ

@@ -1,5 +1,6 @@
 //! The first pass over two texts.
-ghost use Rattle.std.specs.Prelude.{◌≤◌, ◌^◌, ℕ, List, [], IfErr, IfOk, OnOk};
+ghost use Rattle.std.specs.Prelude.{◌≤◌, ℕ, List, [], IfErr, IfOk, OnOk};
+ghost use Rattle.mg_defs.specs.Limits.{greatest_budget, least_budget};
 ghost use Rattle.mg_dev.specs.Moments.{Between};
 ghost use Rattle.mg_dev.specs.Causes.{Rose};
 ghost use Rattle.mg_make.specs.Counting.{HasCounted};
@@ -61,8 +62,8 @@ pub(crate) fn count_all<'a, S: Store, D: Documents<'a, S>>(
     texts: &mut D,
     budget: u64,
 ) -> Result<(Plan, Room), Fault>
-    requires least { 4096 ≤ budget }
-    requires most { budget ≤ 2 ^ 30 }
+    requires least { least_budget ≤ budget }
+    requires most { budget ≤ greatest_budget }
     requires fits { TextsFit (D.texts texts.old) (S.files store.old) }
     ensures plan { IfOk result (λ made. IsPlan made.0) }
     ensures room { IfOk result (λ made. IsRoomFor made.1 made.0 budget) }

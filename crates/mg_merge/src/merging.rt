@@ -1,5 +1,6 @@
 //! The merge of two sets.
-ghost use Rattle.std.specs.Prelude.{◌≢◌, ◌≤◌, ◌^◌};
+ghost use Rattle.std.specs.Prelude.{◌≢◌, ◌≤◌};
+ghost use Rattle.mg_defs.specs.Limits.{greatest_budget, least_budget};
 ghost use Rattle.mg_dev.specs.Runs.{status_of};
 ghost use Rattle.mg_merge.specs.Joined.{Joined};
 ghost use Rattle.mg_make.specs.Outcomes.{BetweenMoments, HasSummaryOf};
@@ -105,8 +106,8 @@ fn merge_texts<'a, S: Store, D: Documents<'a, S>>(
     new: &str,
     budget: u64,
 ) -> Result<Summary, Fault>
-    requires least { 4096 ≤ budget }
-    requires most { budget ≤ 2 ^ 30 }
+    requires least { least_budget ≤ budget }
+    requires most { budget ≤ greatest_budget }
     requires fits { TextsFit (D.texts texts.old) (S.files store.old) }
     requires apart { AreApart new.now (D.texts texts.old) }
     ensures merged { BetweenMoments S.files S.reads S.faults store.old store.new

@@ -1,5 +1,6 @@
 //! The tool `build`.
-ghost use Rattle.std.specs.Prelude.{◌≤◌, ◌^◌};
+ghost use Rattle.std.specs.Prelude.{◌≤◌};
+ghost use Rattle.mg_defs.specs.Limits.{greatest_budget, least_budget};
 ghost use Rattle.mg_top.specs.Running.{RunsByStore};
 ghost use Rattle.mg_top.specs.Built.{Built};
 ghost use Rattle.mg_top.specs.Ends.{ToldWhy};
@@ -21,8 +22,8 @@ pub(crate) fn run_build<S: Store, O: Sink, E: Sink>(
     out: &mut O,
     err: &mut E,
 ) -> Status
-    requires least { 4096 ≤ budget }
-    requires most { budget ≤ 2 ^ 30 }
+    requires least { least_budget ≤ budget }
+    requires most { budget ≤ greatest_budget }
     // Whatever the input is, which is not read.
     ensures does { RunsByStore S.Store O.Sink E.Sink store.old store.new out.old out.new err.old
         err.new result (Built collection.now name.now budget) }

@@ -1,5 +1,6 @@
 //! The tool `trial`.
 ghost use Rattle.std.specs.Prelude.{◌≤◌};
+ghost use Rattle.mg_defs.specs.Limits.{trial_documents};
 ghost use Rattle.mg_top.specs.Running.{RunsAlone};
 ghost use Rattle.mg_top.specs.Tried.{Tried};
 ghost use Rattle.mg_top.specs.Ends.{ToldWhy};
@@ -19,7 +20,7 @@ pub(crate) fn run_trial<O: Sink, E: Sink>(
     err: &mut E,
 ) -> Status
     requires some { 1 ≤ docs }
-    requires most { docs ≤ 20000 }
+    requires most { docs ≤ trial_documents }
     // Whatever the store and the input are, which are not touched.
     ensures does { RunsAlone O.Sink E.Sink out.old out.new err.old err.new result
         (Tried seed docs) }

@@ -6,7 +6,7 @@ ghost use Rattle.mg_dev.specs.Streams.{AfterPut};
 ghost use Rattle.mg_dev.specs.declared.fault.Fault.TheVariants as fault;
 ghost use Rattle.mg_defs.specs.declared.Stream.{Stream as Kind};
 ghost use Rattle.mg_defs.specs.Generator.{made_collection, made_session};
-ghost use Rattle.mg_defs.specs.Limits.{held_bytes};
+ghost use Rattle.mg_defs.specs.Limits.{held_bytes, trial_documents};
 ghost use Rattle.mg_defs.specs.Marks.{start as start_mark, piece as piece_mark};
 ghost use Rattle.mg_defs.specs.Summaries.{trial_text};
 ghost use Rattle.mg_dev.specs.Runs.{IsDone, RefusedFor};
@@ -17,7 +17,7 @@ use crate::comparing::{ask_both, is_decoded};
 use crate::lines::put_trial_summary;
 use crate::trial_summary::TrialSummary;
 use mg_build::build;
-use mg_defs::HELD_BYTES;
+use mg_defs::{DEFAULT_BUDGET, HELD_BYTES};
 use mg_dev::{Fault, FileRef, Part, Sink, Store};
 use mg_gen::make_collection;
 use mg_mem::SureSink;
@@ -28,9 +28,6 @@ pub(crate) const TEXT: &str = "text";
 
 /// The base of the set.
 pub(crate) const SET: &str = "set";
-
-/// The bytes of the pool that the set is built in.
-const BUDGET: u64 = 16_777_216;
 
 /// The collection of a trial.
 fn made_text(alloc: Global, seed: u64, docs: u32) -> Result<SureSink, Fault>
@@ -89,7 +86,7 @@ fn try_all<S: Store>(
         Ok(()) => {}
         Err(fault) => return Err(fault),
     }
-    let summary = match build(alloc, store, TEXT, SET, BUDGET) {
+    let summary = match build(alloc, store, TEXT, SET, DEFAULT_BUDGET) {
         Ok(summary) => summary,
         Err(fault) => return Err(fault),
     };
@@ -127,7 +124,7 @@ pub fn trial<S: Store, O: Sink>(
     out: &mut O,
 ) -> Result<(), Fault>
     requires some { 1 ≤ docs }
-    requires most { docs ≤ 20000 }
+    requires most { docs ≤ trial_documents }
     requires none { S.files store.old ≡ Some no_files }
     // The seven lines are printed, or after a refusal a prefix; after most refusals nothing.
     ensures text { AfterPut (O.written out.old) (O.written out.new) (trial_text seed docs) result }
