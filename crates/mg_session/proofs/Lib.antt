@@ -20,6 +20,7 @@ pub mod OpenLaws
 pub mod ServedLaws
 pub mod PhraseWalkLaws
 pub mod PhraseReplyLaws
+mod PhraseLineLaws
 pub mod WildReplyLaws
 pub mod WildSetLaws
 pub mod WildStopLaws

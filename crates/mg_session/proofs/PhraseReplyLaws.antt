@@ -36,10 +36,13 @@ use Rattle.mg_query.specs.RefusalOf.{refusal_of}
 use Rattle.mg_query.specs.declared.query_err.QueryErr.{QueryErr}
 use Rattle.mg_reply.specs.Refusals.{AnswerStops}
 use Rattle.mg_text.specs.Reading.{ShowIsNotBad}
-use Rattle.mg_session.specs.PhraseAnswers.{PhraseAnswered, PhraseReplied, ReadsPhrases, candidate_pages, joined_bound, line_lists, line_pages}
+use Rattle.mg_session.specs.PhraseAnswers.{PhraseAnswered, PhraseReplied, ReadsPhrases, candidate_pages, line_pages}
+use Rattle.mg_session.specs.PagesAllowed.{PartPages, ReadsAllowed, sum_allows}
 use Rattle.mg_session.specs.Parts.{Stepped}
 use Rattle.mg_session.specs.PhraseSearching.{PhrasesAsked, PhrasesBy}
+use Rattle.mg_session.specs.PhrasesAllowed.{phrase_allows, phrase_line_allows, phrases_allow}
 use Rattle.mg_session.specs.Searching.{Over, SameOpened, Searching}
+use Rattle.mg_session.proofs.AllowedLaws.{KeepsParts, allowed_behind, allowed_kept, allowed_none}
 use Rattle.mg_session.proofs.ReplyLaws.{refused_sound}
 
 -- ---- a phrase has at most 64 words
@@ -87,43 +90,33 @@ pub line_refused : (e : QueryErr) (code : TextCode) (collection line : List ℕ)
 line_refused e code collection line w0 w1 r result P Q said put stops = record {
   put = put (phrase_reply collection line) (IfSome_then (refusal_of e) said (says_refused collection line));
   sound = refused_sound P Q result stops;
-  post = omega arith;
+  allowed = allowed_none _ r;
   text = omega arith;
 }
 
 -- ---- a phrase
 
--- it stopped before anything was printed, and neither lists nor text were read
-pub nothing_replied : (code : TextCode) (collection line : List ℕ) (w : Option (List ℕ)) (r0 r1 : Reads) (error : ShowErr) → ShowIsNotBad (Err error) →
-    r1 part.Post ≡ r0 part.Post → r1 part.Text ≡ r0 part.Text → PhraseReplied code collection line w w r0 r1 (Err error)
-nothing_replied code collection line w r0 r1 error sound post text = record {
-  put = grew_nothing w (phrase_reply collection line);
-  sound = sound;
-  post = omega (arith, post);
-  text = omega (arith, text);
-}
-
 pub none_answered : (code : TextCode) (collection : List ℕ) (phrase : List (List ℕ)) (w : Option (List ℕ)) (r : Reads) → PhraseAnswered code collection phrase w w r r (Err (show.Part Memory))
-none_answered code collection phrase w r = record { put = grew_nothing w (found_text (with_places phrase 1 (documents collection))); sound = tt; post = omega arith; text = omega arith }
+none_answered code collection phrase w r = record { put = grew_nothing w (found_text (with_places phrase 1 (documents collection))); sound = tt; allowed = allowed_none _ r; text = omega arith }
 
--- the same of its words
+-- it stopped before anything was printed, and neither lists nor text were read
 pub nothing_answered : (code : TextCode) (collection : List ℕ) (phrase : List (List ℕ)) (w : Option (List ℕ)) (r0 r1 : Reads) (error : ShowErr)
-    → ShowIsNotBad (Err error) → r1 part.Post ≡ r0 part.Post → r1 part.Text ≡ r0 part.Text → PhraseAnswered code collection phrase w w r0 r1 (Err error)
-nothing_answered code collection phrase w r0 r1 error sound post text = record {
+    → ShowIsNotBad (Err error) → KeepsParts r0 r1 → r1 part.Text ≡ r0 part.Text → PhraseAnswered code collection phrase w w r0 r1 (Err error)
+nothing_answered code collection phrase w r0 r1 error sound kept text = record {
   put = grew_nothing w (found_text (with_places phrase 1 (documents collection)));
   sound = sound;
-  post = omega (arith, post);
+  allowed = allowed_kept _ kept;
   text = omega (arith, text);
 }
 
 -- what was answered behind a look at other parts
 pub answered_behind : (code : TextCode) (collection : List ℕ) (phrase : List (List ℕ)) (w0 w1 : Option (List ℕ)) (r0 r1 r2 : Reads) (result : Result (Unit {0}) ShowErr)
-    → PhraseAnswered code collection phrase w0 w1 r1 r2 result → r1 part.Post ≡ r0 part.Post → r1 part.Text ≡ r0 part.Text
+    → PhraseAnswered code collection phrase w0 w1 r1 r2 result → KeepsParts r0 r1 → r1 part.Text ≡ r0 part.Text
     → PhraseAnswered code collection phrase w0 w1 r0 r2 result
-answered_behind code collection phrase w0 w1 r0 r1 r2 result a post text = record {
+answered_behind code collection phrase w0 w1 r0 r1 r2 result a kept text = record {
   put = a.put;
   sound = a.sound;
-  post = omega (arith, a.post, post);
+  allowed = allowed_behind kept a.allowed;
   text = omega (arith, a.text, text);
 }
 
@@ -146,7 +139,7 @@ pub none_counted : (code : TextCode) (collection : List ℕ) (phrase : List (Lis
 none_counted code collection phrase w0 w1 r result none put sound = record {
   put = subst (λ t. AfterPut w0 w1 t result) (sym (ap (λ (p : List (List ℕ)). found_text (with_places p 1 (documents collection))) (no_words phrase none) ∙ no_text (documents collection))) put;
   sound = sound;
-  post = omega arith;
+  allowed = allowed_none _ r;
   text = omega arith;
 }
 
@@ -154,17 +147,18 @@ says_found : (collection line : List ℕ) (phrase : List (List ℕ)) → phrase_
 unfolding phrase_reply
 says_found collection line phrase e = rw e refl
 
-pub line_answered : (code : TextCode) (collection line : List ℕ) (phrase : List (List ℕ)) (w0 w1 : Option (List ℕ)) (r0 r1 r2 : Reads)
-    (result : Result (Unit {0}) ShowErr) → phrase_of line ≡ reads phrase → PhraseAnswered code collection phrase w0 w1 r1 r2 result →
-    r1 part.Post ≡ r0 part.Post → r1 part.Text ≡ r0 part.Text → PhraseReplied code collection line w0 w1 r0 r2 result
-line_answered code collection line phrase w0 w1 r0 r1 r2 result is a post text =
-    let same_bound : line_lists collection line ≡ joined_bound collection phrase = rw is refl in
+pub line_answered : (code : TextCode) (collection line : List ℕ) (phrase : List (List ℕ)) {w0 w1 : Option (List ℕ)} {r0 r1 : Reads}
+    {result : Result (Unit {0}) ShowErr} → phrase_of line ≡ reads phrase → PhraseAnswered code collection phrase w0 w1 r0 r1 result →
+    PhraseReplied code collection line w0 w1 r0 r1 result
+unfolding phrase_line_allows
+line_answered code collection line phrase {w0} {w1} {r0} {r1} {result} is a =
+    let same_most : phrase_line_allows collection line ≡ phrase_allows collection phrase = rw is refl in
     let same_pages : line_pages code collection line ≡ candidate_pages code collection phrase = rw is refl in
     record {
       put = subst (λ t. AfterPut w0 w1 t result) (sym (says_found collection line phrase is)) a.put;
       sound = a.sound;
-      post = omega (arith, a.post, post, same_bound);
-      text = omega (arith, a.text, text, same_pages);
+      allowed = subst (λ most. ReadsAllowed most r0 r1) (sym same_most) a.allowed;
+      text = omega (arith, a.text, same_pages);
     }
 
 -- ---- a document that could not be decoded
@@ -186,7 +180,9 @@ pub phrases_asked : (s t : Searching) (now : Settings) (line : List ℕ) (w0 w1 
 phrases_asked s t now line w0 w1 result step same replied = record {
   step = step;
   same = same;
-  post = λ code collection over. omega (arith, (replied code collection over).post);
+  allowed = λ code collection over.
+      let a = (replied code collection over).allowed in
+      record { post = omega (arith, a.post); skip = omega (arith, a.skip); weights = omega (arith, a.weights) };
   text = λ code collection over. omega (arith, (replied code collection over).text);
 }
 
@@ -195,17 +191,27 @@ sum_by-map f [] = refl
 sum_by-map f (q ∷ qs) =
     sum_by-cons f q.line (map (λ (p : Question). p.line) qs) ∙ ap (λ n. f q.line + n) (sum_by-map f qs) ∙ sym (sum_by-cons (λ (p : Question). f p.line) q qs)
 
--- the first of the lines of an input
 -- a number for each line of an input is that of the first of them and of the rest
 pub asked_lines : (f : List ℕ → ℕ) (given : List ℕ) (answered more : List Question) → heard_questions Questions given ≡ answered ++ more →
     sum_by f (plain_questions (lines given)) ≡ sum_by (λ (q : Question). f q.line) answered + sum_by (λ (q : Question). f q.line) more
 asked_lines f given answered more is =
     ap (sum_by f) (questions_heard given) ∙ sum_by-map f (heard_questions Questions given) ∙ ap (sum_by (λ (q : Question). f q.line)) is ∙ sum_by-append (λ (q : Question). f q.line) answered more
 
+-- the first of the lines of an input
+lines_allowed : (allows : List ℕ → PartPages) (given : List ℕ) (answered : List Question) {r s : Reads} →
+    (more : List Question) × (heard_questions Questions given ≡ answered ++ more) → ReadsAllowed (sum_allows (λ (q : Question). allows q.line) answered) r s →
+    ReadsAllowed (sum_allows allows (plain_questions (lines given))) r s
+lines_allowed allows given answered first a = record {
+  post = omega (arith, a.post, asked_lines (λ line. (allows line).post) given answered first.0 first.1);
+  skip = omega (arith, a.skip, asked_lines (λ line. (allows line).skip) given answered first.0 first.1);
+  weights = omega (arith, a.weights, asked_lines (λ line. (allows line).weights) given answered first.0 first.1);
+}
+
 pub phrases_within : (s t : Searching) (answered : List Question) (code : TextCode) (collection given : List ℕ) → PhrasesAsked s t answered →
     (more : List Question) × (heard_questions Questions given ≡ answered ++ more) → Over s code collection →
     ReadsPhrases code collection given s.reads t.reads
+unfolding phrases_allow
 phrases_within s t answered code collection given a first over = record {
-  post = omega (arith, a.post code collection over, asked_lines (line_lists collection) given answered first.0 first.1);
+  allowed = lines_allowed (phrase_line_allows collection) given answered first (a.allowed code collection over);
   text = omega (arith, a.text code collection over, asked_lines (line_pages code collection) given answered first.0 first.1);
 }

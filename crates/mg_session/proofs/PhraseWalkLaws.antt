@@ -16,7 +16,6 @@ use Rattle.mg_dev.specs.StreamLaws.{grew_first, grew_nothing}
 use Rattle.mg_dev.specs.declared.part.Part.TheVariants as part
 use Rattle.mg_dev.specs.declared.show_err.ShowErr.{ShowErr}
 use Rattle.mg_defs.specs.CodedText.{TextCode}
-use Rattle.mg_defs.specs.PageBounds.{boolean_bound}
 use Rattle.mg_defs.specs.Phrases.{all_of, phrase_places}
 use Rattle.mg_defs.specs.PhraseSession.{PhraseHit, found_text, with_places}
 use Rattle.mg_defs.specs.QueryTerms.{query_terms}
@@ -28,22 +27,26 @@ use Rattle.mg_defs.specs.TextBounds.{doc_pages}
 use Rattle.mg_defs.specs.Texts.{count, row}
 use Rattle.mg_defs.proofs.ReplyLaws.{document_at}
 use Rattle.mg_laws.proofs.PhraseLaws.{candidates_are_enough}
+use Rattle.mg_bool.specs.Calls.{SkipsWithin}
 use Rattle.mg_bool.specs.Matches.{GoesOn, Matching, MatchesOver, left_of}
-use Rattle.mg_bool.specs.Places.{pages_read}
-use Rattle.mg_post.specs.TermLists.{PagesWithin}
 use Rattle.mg_query.specs.AllOf.{IsAllOf}
 use Rattle.mg_query.specs.QueryOf.{query_of}
 use Rattle.mg_query.specs.declared.query.Query as declared
 use Rattle.mg_reply.specs.Pending.{AfterPass, Passed}
 use Rattle.mg_reply.proofs.CallerLemmas.{pass_nothing, pass_both, pass_cut}
 use Rattle.mg_text.specs.Reading.{ShowIsNotBad}
-use Rattle.mg_session.specs.PhraseAnswers.{DocumentSearched, PhraseAnswered, PhraseWalked, candidate_pages, found_among, found_at, found_if, found_in, joined_bound, rows_of}
+use Rattle.mg_session.specs.PhraseAnswers.{DocumentSearched, PhraseAnswered, PhraseWalked, candidate_pages, found_among, found_at, found_if, found_in, rows_of}
+use Rattle.mg_session.specs.PagesAllowed.{ReadsAllowed, query_allows}
+use Rattle.mg_session.specs.PhrasesAllowed.{phrase_allows}
 use Rattle.mg_session.specs.declared.phrase_rows.PhraseRows.{PhraseRows}
+use Rattle.mg_session.proofs.AllowedLaws.{KeepsParts, allowed_then}
+use Rattle.mg_session.proofs.StepLaws.{lists_text}
 use Rattle.mg_session.proofs.TotalLaws.{put_rest}
+use Rattle.mg_session.proofs.WalkLaws.{NextRead, SkipsTold, lists_allowed, lists_next}
 
 -- ---- the query of all terms
 
-joined-terms : (t : List ℕ) (us : List (List ℕ)) → query_terms (all_of t us) ≡ t ∷ us
+pub joined-terms : (t : List ℕ) (us : List (List ℕ)) → query_terms (all_of t us) ≡ t ∷ us
 joined-terms t [] = refl
 joined-terms t (u ∷ us) = ap (λ (ts : List (List ℕ)). t ∷ ts) (joined-terms u us)
 
@@ -107,16 +110,21 @@ found_from collection t us front (d ∷ ds) n e at =
 pub record Joined (code : TextCode) (collection : List ℕ) (phrase : List (List ℕ)) (q : Query) : Type 0 where
   pub found_is : with_places phrase 1 (documents collection) ≡ found_among collection phrase (satisfying collection q)
   pub pages_are : candidate_pages code collection phrase ≡ sum_by (doc_pages code collection) (satisfying collection q)
-  pub bound_is : joined_bound collection phrase ≡ boolean_bound collection q
+  pub allows_are : phrase_allows collection phrase ≡ query_allows collection q
 
 pub joined : (code : TextCode) (collection : List ℕ) (phrase : List (List ℕ)) (q : declared.Query) → IsAllOf phrase (Some q) → Joined code collection phrase (query_of q)
-unfolding candidate_pages joined_bound
+unfolding candidate_pages
 joined code collection [] q is = absurd is
 joined code collection (t ∷ us) q is = record {
   found_is = found_from collection t us [] (documents collection) 1 refl refl ∙ ap (λ a. found_among collection (t ∷ us) (satisfying collection a)) (sym is);
   pages_are = ap (λ a. sum_by (doc_pages code collection) (satisfying collection a)) (sym is);
-  bound_is = ap (boolean_bound collection) (sym is);
+  allows_are = ap (query_allows collection) (sym is);
 }
+
+-- what the query allows, the phrase does
+allowed_as_joined : {code : TextCode} {collection : List ℕ} {phrase : List (List ℕ)} {q : Query} {r s : Reads} → Joined code collection phrase q →
+    ReadsAllowed (query_allows collection q) r s → ReadsAllowed (phrase_allows collection phrase) r s
+allowed_as_joined {r = r} {s = s} j allowed = subst (λ most. ReadsAllowed most r s) (sym j.allows_are) allowed
 
 -- ---- the documents that are found have no score
 
@@ -192,26 +200,24 @@ nothing_found w waiting number places none = subst (Passed w w waiting waiting) 
 -- ---- one document after another
 
 pub walked_start : {base : List ℕ} {code : TextCode} {collection : List ℕ} (phrase : List (List ℕ)) {w : Option (List ℕ)} {waiting : List ℕ} {total : ℕ}
-    {m : Matching} {r : Reads} → waiting ≡ [] → total ≡ 0 → m.decided ≡ 0 → MatchesOver base collection m →
+    {m : Matching} {r : Reads} → waiting ≡ [] → total ≡ 0 → m.decided ≡ 0 → SkipsWithin m.places → MatchesOver base collection m →
     PhraseWalked base code collection phrase (query_of m.asks) w w waiting total m r r
-walked_start {base} {code} {collection} phrase {w} {waiting} {total} {m} none zero_is before over = record {
+walked_start {base} {code} {collection} phrase {w} {waiting} {total} {m} none zero_is before within over = record {
   so_far = [];
   split = ap (λ n. found (query_of m.asks) (n + 1) (drop n (documents collection))) (sym before);
   total_is = ap length (among-none collection phrase) ∙ sym zero_is;
   passed = subst (Passed w w [] waiting) (sym (ap rows_of (among-none collection phrase) ∙ rows-none)) (subst (λ p. Passed w w [] p []) (sym none) (pass_nothing w []));
-  over = over;
-  post = omega arith;
+  lists = record { over = over; post = omega arith; skip = omega arith; skips_within = within; weights = refl };
   text = omega arith;
 }
 
 -- a document that was searched
 pub walked_searched : {base : List ℕ} {code : TextCode} {collection : List ℕ} {phrase : List (List ℕ)} {q : Query} {w0 w1 w2 : Option (List ℕ)}
-    {rows rows_now : PhraseRows} {number bound : ℕ} {done : Unit {0}} (m n : Matching) {r0 : Reads} (r1 r2 : Reads) {r3 : Reads} →
+    {rows rows_now : PhraseRows} {number : ℕ} {done : Unit {0}} (m n : Matching) {r0 : Reads} (r1 r2 : Reads) {r3 : Reads} →
     PhraseWalked base code collection phrase q w0 w1 rows.pending rows.total m r0 r1 → GoesOn (left_of collection m) (left_of collection n) (Some number) →
-    MatchesOver base collection n → PagesWithin bound (pages_read m.places) (pages_read n.places) r1 r2 → r2 part.Text ≡ r1 part.Text →
-    r3 part.Post ≡ r2 part.Post → DocumentSearched code collection phrase number w1 w2 rows rows_now r2 r3 (Ok done) →
+    MatchesOver base collection n → NextRead collection q m n r1 r2 → KeepsParts r2 r3 → DocumentSearched code collection phrase number w1 w2 rows rows_now r2 r3 (Ok done) →
     PhraseWalked base code collection phrase q w0 w2 rows_now.pending rows_now.total n r0 r3
-walked_searched {base} {code} {collection} {phrase} {q} {w0} {w1} {w2} {rows} {rows_now} {number} m n r1 r2 w goes over pages text post one =
+walked_searched {base} {code} {collection} {phrase} {q} {w0} {w1} {w2} {rows} {rows_now} {number} m n r1 r2 w goes over next kept one =
     let pushed = among-push collection phrase w.so_far number in
     let before = found_among collection phrase w.so_far in
     let here = found_in collection phrase number in
@@ -222,9 +228,8 @@ walked_searched {base} {code} {collection} {phrase} {q} {w0} {w1} {w2} {rows} {r
       total_is = omega (arith, ap length pushed, length-append before here, w.total_is, one.counted);
       passed = subst (Passed w0 w2 [] rows_now.pending) (sym (ap rows_of pushed ∙ rows-append before here))
           (pass_both w0 w1 w2 [] rows.pending rows_now.pending (rows_of before) (rows_of here) w.passed one.passed);
-      over = over;
-      post = omega (arith, w.post, pages.post, post);
-      text = omega (arith, w.text, text, one.text, sum_by-append (doc_pages code collection) w.so_far (plain number ∷ []));
+      lists = lists_next w.lists over next kept;
+      text = omega (arith, w.text, lists_text r1 r2 next.reads, one.text, sum_by-append (doc_pages code collection) w.so_far (plain number ∷ []));
     }
 
 -- ---- the end, and stops before it
@@ -273,26 +278,25 @@ pages_too base code collection phrase q w0 w1 waiting total number m n r0 r1 r2 
 
 -- the lists could not be read
 pub walked_stop : {base : List ℕ} {code : TextCode} {collection : List ℕ} {phrase : List (List ℕ)} {q : Query} {w0 w1 : Option (List ℕ)} {waiting : List ℕ}
-    {total : ℕ} (m n : Matching) {r0 : Reads} (r1 r2 : Reads) {error : ShowErr} →
+    {total : ℕ} (m n : Matching) {r0 : Reads} (r1 : Reads) {r2 : Reads} {error : ShowErr} → SkipsTold →
     Joined code collection phrase q → PhraseWalked base code collection phrase q w0 w1 waiting total m r0 r1 →
-    PagesWithin (boolean_bound collection q) (pages_read m.places) (pages_read n.places) r1 r2 → r2 part.Text ≡ r1 part.Text → ShowIsNotBad (Err error) →
+    NextRead collection q m n r1 r2 → ShowIsNotBad (Err error) →
     PhraseAnswered code collection phrase w0 w1 r0 r2 (Err error)
-walked_stop {base} {code} {collection} {phrase} {q} {w0} {w1} {waiting} {total} m n {r0} r1 r2 j w pages text sound = record {
+walked_stop {base} {code} {collection} {phrase} {q} {w0} {w1} {waiting} {total} m n {r0} r1 {r2} law j w next sound = record {
   put = so_far_prefix base code collection phrase q w0 w1 waiting total m r0 r1 j w;
   sound = sound;
-  post = omega (arith, w.post, pages.post, pages.within, j.bound_is);
-  text = omega (arith, pages_so_far base code collection phrase q w0 w1 waiting total m r0 r1 j w, text);
+  allowed = allowed_as_joined j (lists_allowed law w.lists next);
+  text = omega (arith, pages_so_far base code collection phrase q w0 w1 waiting total m r0 r1 j w, lists_text r1 r2 next.reads);
 }
 
 -- a document could not be searched, or its row not be passed on
 pub walked_cut : {base : List ℕ} {code : TextCode} {collection : List ℕ} {phrase : List (List ℕ)} {q : Query} {w0 w1 w2 : Option (List ℕ)}
-    {rows rows_now : PhraseRows} {number : ℕ} (m n : Matching) {r0 : Reads} (r1 r2 : Reads) {r3 : Reads} {error : ShowErr} →
+    {rows rows_now : PhraseRows} {number : ℕ} (m n : Matching) {r0 : Reads} (r1 r2 : Reads) {r3 : Reads} {error : ShowErr} → SkipsTold →
     Joined code collection phrase q → PhraseWalked base code collection phrase q w0 w1 rows.pending rows.total m r0 r1 →
     GoesOn (left_of collection m) (left_of collection n) (Some number) →
-    PagesWithin (boolean_bound collection q) (pages_read m.places) (pages_read n.places) r1 r2 → r2 part.Text ≡ r1 part.Text →
-    r3 part.Post ≡ r2 part.Post → DocumentSearched code collection phrase number w1 w2 rows rows_now r2 r3 (Err error) →
+    NextRead collection q m n r1 r2 → KeepsParts r2 r3 → DocumentSearched code collection phrase number w1 w2 rows rows_now r2 r3 (Err error) →
     PhraseAnswered code collection phrase w0 w2 r0 r3 (Err error)
-walked_cut {base} {code} {collection} {phrase} {q} {w0} {w1} {w2} {rows} {rows_now} {number} m n {r0} r1 r2 {r3} j w goes pages text post one =
+walked_cut {base} {code} {collection} {phrase} {q} {w0} {w1} {w2} {rows} {rows_now} {number} m n {r0} r1 r2 {r3} law j w goes next kept one =
     let split : satisfying collection q ≡ (w.so_far ++ plain number ∷ []) ++ left_of collection n =
     w.split ∙ ap (λ l. w.so_far ++ l) (goes_some (left_of collection m) (left_of collection n) number (left_plain collection m) goes)
     ∙ sym (append_assoc w.so_far (plain number ∷ []) (left_of collection n)) in
@@ -304,8 +308,8 @@ walked_cut {base} {code} {collection} {phrase} {q} {w0} {w1} {w2} {rows} {rows_n
     record {
       put = front_grew code collection phrase q w0 w2 (w.so_far ++ plain number ∷ []) (left_of collection n) j split (subst (GrewByPrefix w0 w2) (sym pushed) part);
       sound = one.sound;
-      post = omega (arith, w.post, pages.post, pages.within, j.bound_is, post);
-      text = pages_too base code collection phrase q w0 w1 rows.pending rows.total number m n r0 r1 r3 j w goes (omega (arith, one.text, text));
+      allowed = allowed_then (allowed_as_joined j (lists_allowed law w.lists next)) kept;
+      text = pages_too base code collection phrase q w0 w1 rows.pending rows.total number m n r0 r1 r3 j w goes (omega (arith, one.text, lists_text r1 r2 next.reads));
     }
 
 -- all were searched
@@ -320,19 +324,18 @@ ended base code collection phrase q w0 w1 waiting total m n r0 r1 j w goes =
 
 -- the count was put behind all that waited, or refused
 pub walked_end : {base : List ℕ} {code : TextCode} {collection : List ℕ} {phrase : List (List ℕ)} {q : Query} {w0 w1 w2 : Option (List ℕ)} {waiting : List ℕ}
-    {total : ℕ} (m n : Matching) {r0 : Reads} (r1 r2 : Reads) {result : Result (Unit {0}) ShowErr} →
+    {total : ℕ} (m n : Matching) {r0 : Reads} (r1 : Reads) {r2 : Reads} {result : Result (Unit {0}) ShowErr} → SkipsTold →
     Joined code collection phrase q → PhraseWalked base code collection phrase q w0 w1 waiting total m r0 r1 →
-    GoesOn (left_of collection m) (left_of collection n) None → PagesWithin (boolean_bound collection q) (pages_read m.places) (pages_read n.places) r1 r2 →
-    r2 part.Text ≡ r1 part.Text →
+    GoesOn (left_of collection m) (left_of collection n) None → NextRead collection q m n r1 r2 →
     AfterPut w1 w2 (waiting ++ count total) result → ShowIsNotBad result →
     PhraseAnswered code collection phrase w0 w2 r0 r2 result
-walked_end {base} {code} {collection} {phrase} {q} {w0} {w1} {w2} {waiting} {total} m n {r0} r1 r2 {result} j w goes pages text put sound =
+walked_end {base} {code} {collection} {phrase} {q} {w0} {w1} {w2} {waiting} {total} m n {r0} r1 {r2} {result} law j w goes next put sound =
     let rows = rows_of (found_among collection phrase w.so_far) in
     record {
       put = subst (λ x. AfterPut w0 w2 x result) (sym (ended base code collection phrase q w0 w1 waiting total m n r0 r1 j w goes)) (put_rest w0 w1 w2 waiting rows (count total) result w.passed put);
       sound = sound;
-      post = omega (arith, w.post, pages.post, pages.within, j.bound_is);
-      text = omega (arith, pages_so_far base code collection phrase q w0 w1 waiting total m r0 r1 j w, text);
+      allowed = allowed_as_joined j (lists_allowed law w.lists next);
+      text = omega (arith, pages_so_far base code collection phrase q w0 w1 waiting total m r0 r1 j w, lists_text r1 r2 next.reads);
     }
 
 -- ---- a document that is searched

@@ -26,9 +26,10 @@ use Rattle.mg_session.specs.PrintedLaws.{PhraseRule}
 use Rattle.mg_session.specs.Searching.{MayStop, OpenedOver, Over, Searching}
 use Rattle.mg_session.specs.Served.{LinesServed}
 use Rattle.mg_session.specs.Serves.{CountsNone}
+use Rattle.mg_session.proofs.AllowedLaws.{allowed_behind, allowed_kept}
 use Rattle.mg_session.proofs.PhraseReplyLaws.{phrases_over, phrases_within}
 use Rattle.mg_session.proofs.PrintedOverLaws.{broken_over, printed_over}
-use Rattle.mg_session.proofs.ServedLaws.{Kind, NoPages, ServedAs, done_or, head_stopped, lines_served, run_of, set_stopped}
+use Rattle.mg_session.proofs.ServedLaws.{Kind, NoPages, ServedAs, done_or, head_stopped, lines_served, parts_kept, run_of, set_stopped}
 use Rattle.mg_session.proofs.StepLaws.{never_early}
 
 -- ---- the kind
@@ -38,10 +39,10 @@ unfolding phrase_session
 text_is collection given = plain_heard (phrase_reply collection) given
 
 pub within_none : (code : TextCode) (collection given : List ℕ) (r0 r1 : Reads) → NoPages r0 r1 → ReadsPhrases code collection given r0 r1
-within_none code collection given r0 r1 none = record { post = omega (arith, none.0); text = omega (arith, none.2) }
+within_none code collection given r0 r1 none = record { allowed = allowed_kept _ (parts_kept none); text = omega (arith, none.2) }
 
 pub within_from : (code : TextCode) (collection given : List ℕ) (r0 r1 r2 : Reads) → NoPages r0 r1 → ReadsPhrases code collection given r1 r2 → ReadsPhrases code collection given r0 r2
-within_from code collection given r0 r1 r2 none w = record { post = omega (arith, w.post, none.0); text = omega (arith, w.text, none.2) }
+within_from code collection given r0 r1 r2 none w = record { allowed = allowed_behind (parts_kept none) w.allowed; text = omega (arith, w.text, none.2) }
 
 abbrev pub phrases : Kind
 phrases = record {

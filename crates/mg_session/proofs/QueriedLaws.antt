@@ -24,9 +24,9 @@ use Rattle.mg_session.specs.PrintedLaws.{Prints}
 use Rattle.mg_session.specs.Searching.{AnswersBy, AskForNoText, Asked, MayStop, OpenedOver, Over, Searching}
 use Rattle.mg_session.specs.Served.{LinesServed}
 use Rattle.mg_session.specs.Serves.{CountsNone, ReadsWithin}
-use Rattle.mg_session.proofs.AllowedLaws.{KeepsParts, allowed_behind, allowed_kept}
+use Rattle.mg_session.proofs.AllowedLaws.{allowed_behind, allowed_kept}
 use Rattle.mg_session.proofs.PrintedOverLaws.{broken_over, printed_over}
-use Rattle.mg_session.proofs.ServedLaws.{Kind, NoPages, ServedAs, done_or, head_stopped, lines_served, run_of, set_stopped}
+use Rattle.mg_session.proofs.ServedLaws.{Kind, NoPages, ServedAs, done_or, head_stopped, lines_served, parts_kept, run_of, set_stopped}
 use Rattle.mg_session.proofs.SessionLaws.{answers_over, first_ask_none, pages_within}
 use Rattle.mg_session.proofs.StepLaws.{never_early, text_behind}
 
@@ -36,14 +36,11 @@ pub text_is : (collection given : List ℕ) → session collection given ≡ hea
 unfolding session
 text_is collection given = refl
 
-keeps : {r s : Reads} → NoPages r s → KeepsParts r s
-keeps none = record { post = none.0; skip = none.1; weights = none.3 }
-
 pub within_none : (code : TextCode) (collection given : List ℕ) (r0 r1 : Reads) → NoPages r0 r1 → ReadsWithin code collection given r0 r1
-within_none code collection given r0 r1 none = record { allowed = allowed_kept _ (keeps none); text = omega (arith, none.2) }
+within_none code collection given r0 r1 none = record { allowed = allowed_kept _ (parts_kept none); text = omega (arith, none.2) }
 
 pub within_from : (code : TextCode) (collection given : List ℕ) (r0 r1 r2 : Reads) → NoPages r0 r1 → ReadsWithin code collection given r1 r2 → ReadsWithin code collection given r0 r2
-within_from code collection given r0 r1 r2 none w = record { allowed = allowed_behind (keeps none) w.allowed; text = omega (arith, w.text, none.2) }
+within_from code collection given r0 r1 r2 none w = record { allowed = allowed_behind (parts_kept none) w.allowed; text = omega (arith, w.text, none.2) }
 
 abbrev pub queries : Kind
 queries = record {

@@ -35,6 +35,7 @@ use Rattle.mg_session.specs.Served.{LineStops, LinesServed, Served}
 use Rattle.mg_session.specs.Serves.{IsFirst, ServeStops, StandsByNone}
 use Rattle.mg_session.proofs.SetLaws.{loaded_too}
 use Rattle.mg_session.proofs.StopLaws.{line_later, line_stops, only_memory, open_stops}
+use Rattle.mg_session.proofs.AllowedLaws.{KeepsParts}
 
 -- the run of a call
 abbrev pub run_of : StoreAt → StoreAt → SourceAt → SourceAt → SinkAt → SinkAt → SinkAt → SinkAt → Result (Unit {0}) Fault → Run
@@ -54,6 +55,9 @@ run_of store store_now input input_now out out_now err err_now result = record {
 abbrev pub NoPages : Reads → Reads → Type 0
 NoPages before now = (now part.Post ≡ before part.Post) × (now part.Skip ≡ before part.Skip) × (now part.Text ≡ before part.Text)
     × (now part.Weights ≡ before part.Weights)
+
+pub parts_kept : {r s : Reads} → NoPages r s → KeepsParts r s
+parts_kept none = record { post = none.0; skip = none.1; weights = none.3 }
 
 -- A kind of session: what it prints of a collection and an input, and what it reads; what its answerer's states are; and why these fit together.
 pub record Kind : Type 1 where

@@ -38,7 +38,7 @@ use Rattle.mg_reply.specs.Pending.{Passed}
 use Rattle.mg_reply.proofs.CallerLemmas.{pass_nothing, pass_both, pass_cut}
 use Rattle.mg_text.specs.Reading.{ShowIsNotBad}
 use Rattle.mg_reply.specs.Printed.{at_score}
-use Rattle.mg_session.specs.Answering.{Answered, Walked, answer_pages, hit_pages, mode_pages}
+use Rattle.mg_session.specs.Answering.{Answered, ListsWalked, Walked, answer_pages, hit_pages, mode_pages}
 use Rattle.mg_session.specs.PagesAllowed.{ReadsAllowed, query_allows}
 use Rattle.mg_session.proofs.AllowedLaws.{KeepsParts, allowed_then}
 use Rattle.mg_session.proofs.StepLaws.{lists_text, lists_weights}
@@ -134,10 +134,9 @@ SkipsTold = (base collection : List ℕ) (m now : Matching) → MatchesOver base
     skips_read now.places ≤ sum_by (term_entries collection) (query_terms (query_of m.asks))
 
 -- so no more is read than the query allows
-next_allowed : {base : List ℕ} {code : TextCode} {collection : List ℕ} {q : Query} {now : Settings} {w0 w1 : Option (List ℕ)} {waiting : List ℕ} {total : ℕ}
-    {m n : Matching} {r0 r1 r2 : Reads} → SkipsTold → Walked base code collection q now w0 w1 waiting total m r0 r1 → NextRead collection q m n r1 r2 →
-    ReadsAllowed (query_allows collection q) r0 r2
-next_allowed {base} {code} {collection} {q} {m = m} {n = n} {r1 = r1} {r2 = r2} law w next = record {
+pub lists_allowed : {base collection : List ℕ} {q : Query} {m n : Matching} {r0 r1 r2 : Reads} → SkipsTold → ListsWalked base collection m r0 r1 →
+    NextRead collection q m n r1 r2 → ReadsAllowed (query_allows collection q) r0 r2
+lists_allowed {base} {collection} {q} {m} {n} {r0} {r1} {r2} law w next = record {
   post = omega (arith, w.post, next.post, next.least);
   skip = omega (
     arith,
@@ -148,6 +147,26 @@ next_allowed {base} {code} {collection} {q} {m = m} {n = n} {r1 = r1} {r2 = r2} 
   );
   weights = omega (arith, w.weights, lists_weights r1 r2 next.reads);
 }
+
+-- and so it goes on, over what reads other parts
+pub lists_next : {base collection : List ℕ} {q : Query} {m n : Matching} {r0 r1 r2 r3 : Reads} → ListsWalked base collection m r0 r1 → MatchesOver base collection n →
+    NextRead collection q m n r1 r2 → KeepsParts r2 r3 → ListsWalked base collection n r0 r3
+lists_next {r1 = r1} {r2 = r2} w over next kept = record {
+  over = over;
+  post = omega (arith, w.post, next.post, kept.post);
+  skip = omega (arith, w.skip, next.skips.skip, kept.skip);
+  skips_within = next.skips.within w.skips_within;
+  weights = kept.weights ∙ lists_weights r1 r2 next.reads ∙ w.weights;
+}
+
+lists_walked : {base : List ℕ} {code : TextCode} {collection : List ℕ} {q : Query} {now : Settings} {w0 w1 : Option (List ℕ)} {waiting : List ℕ} {total : ℕ}
+    {m : Matching} {r0 r1 : Reads} → Walked base code collection q now w0 w1 waiting total m r0 r1 → ListsWalked base collection m r0 r1
+lists_walked w = record { over = w.over; post = w.post; skip = w.skip; skips_within = w.skips_within; weights = w.weights }
+
+next_allowed : {base : List ℕ} {code : TextCode} {collection : List ℕ} {q : Query} {now : Settings} {w0 w1 : Option (List ℕ)} {waiting : List ℕ} {total : ℕ}
+    {m n : Matching} {r0 r1 r2 : Reads} → SkipsTold → Walked base code collection q now w0 w1 waiting total m r0 r1 → NextRead collection q m n r1 r2 →
+    ReadsAllowed (query_allows collection q) r0 r2
+next_allowed law w next = lists_allowed law (lists_walked w) next
 
 -- ---- one document after another
 
@@ -179,6 +198,7 @@ walked_hit {base} {code} {collection} {q} {now} {w0} {w1} {w2} {waiting} {waitin
     let whole : Passed w0 w2 [] waiting2 (flat_map (shown collection now.mode) (limited_to now.most w.so_far) ++ hit_text (document collection number) now.mode now.most total hit) =
     pass_both w0 w1 w2 [] waiting waiting2 (flat_map (shown collection now.mode) (limited_to now.most w.so_far)) (hit_text (document collection number)
     now.mode now.most total hit) w.passed passed in
+    let lists = lists_next (lists_walked w) over next kept in
     record {
       so_far = w.so_far ++ hit ∷ [];
       split = w.split ∙ ap (λ l. w.so_far ++ l) (goes_some (left_of collection m) (left_of collection n) number (left_plain collection m) goes)
@@ -186,10 +206,10 @@ walked_hit {base} {code} {collection} {q} {now} {w0} {w1} {w2} {waiting} {waitin
       total_is = omega (arith, length-append w.so_far (hit ∷ []), w.total_is);
       passed = subst (Passed w0 w2 [] waiting2) (sym (hit_adds collection now (document collection number) w.so_far hit total refl w.total_is)) whole;
       over = over;
-      post = omega (arith, w.post, next.post, kept.post);
-      skip = omega (arith, w.skip, next.skips.skip, kept.skip);
-      skips_within = next.skips.within w.skips_within;
-      weights = kept.weights ∙ lists_weights r1 r2 next.reads ∙ w.weights;
+      post = lists.post;
+      skip = lists.skip;
+      skips_within = lists.skips_within;
+      weights = lists.weights;
       text = omega (arith, w.text, lists_text r1 r2 next.reads, shown_text, pages_adds code collection now.mode now.most w.so_far hit total w.total_is);
     }
 

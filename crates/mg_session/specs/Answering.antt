@@ -102,6 +102,16 @@ pub record Replied (code : TextCode) (collection : List ℕ) (ranked : Bool) (no
     pub text : reads_now part.Text ≤ reads_before part.Text + answer_pages code collection now
         (answer_by ranked collection line)
 
+-- ---- while the lists of a query are asked for its documents
+
+-- The places of the terms have read no more pages of Post and Skip than their cursors count, and none of Weights was read.
+pub record ListsWalked (base collection : List ℕ) (m : Matching) (reads_before reads_now : Reads) : Type 0 where
+  pub over : MatchesOver base collection m
+  pub post : reads_now part.Post ≤ reads_before part.Post + pages_read m.places
+  pub skip : reads_now part.Skip ≤ reads_before part.Skip + skips_read m.places
+  pub skips_within : SkipsWithin m.places
+  pub weights : reads_now part.Weights ≡ reads_before part.Weights
+
 -- ---- while the documents of a Boolean answer are shown
 
 -- None of the documents that satisfy a query was asked for yet.

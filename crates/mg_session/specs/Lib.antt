@@ -2,6 +2,7 @@ pub mod Parts
 pub mod Texts
 pub mod DocStands
 pub mod PagesAllowed
+pub mod PhrasesAllowed
 pub mod Searching
 pub mod Answering
 pub mod Sessions

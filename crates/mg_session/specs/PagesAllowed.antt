@@ -28,6 +28,18 @@ pub record ReadsAllowed (most : PartPages) (before now : Reads) : Type 0 where
   pub skip : now part.Skip ≤ before part.Skip + most.skip
   pub weights : now part.Weights ≤ before part.Weights + most.weights
 
+-- no page
+abbrev pub none_allowed : PartPages
+none_allowed = record { post = 0; skip = 0; weights = 0 }
+
+-- the sums over some lines
+abbrev pub sum_allows : {A : Type 0} → (A → PartPages) → List A → PartPages
+sum_allows {A} allows xs = record {
+  post = sum_by (λ (x : A). (allows x).post) xs;
+  skip = sum_by (λ (x : A). (allows x).skip) xs;
+  weights = sum_by (λ (x : A). (allows x).weights) xs;
+}
+
 -- ---- a Boolean query
 
 -- at each place of a term, of Post the lesser of two numbers: the pages of the blocks whose range holds a document that is
@@ -71,7 +83,7 @@ ranked_allows collection now ts = record {
 -- a line that is refused reads none
 abbrev pub allowed_as : {A : Type 0} → (A → PartPages) → Reading A → PartPages
 allowed_as allows (reads query) = allows query
-allowed_as allows (refused why) = record { post = 0; skip = 0; weights = 0 }
+allowed_as allows (refused why) = none_allowed
 
 abbrev pub allowed_by : Bool → List ℕ → Settings → List ℕ → PartPages
 allowed_by false collection now line = allowed_as (query_allows collection) (boolean line)
@@ -82,11 +94,7 @@ line_allows collection question = allowed_by question.now.ranked collection ques
 
 -- the sums over query lines
 abbrev pub lines_allow : List ℕ → List Question → PartPages
-lines_allow collection questions = record {
-  post = sum_by (λ (q : Question). (line_allows collection q).post) questions;
-  skip = sum_by (λ (q : Question). (line_allows collection q).skip) questions;
-  weights = sum_by (λ (q : Question). (line_allows collection q).weights) questions;
-}
+lines_allow collection questions = sum_allows (line_allows collection) questions
 
 -- those up to `.quit` or the end
 unfoldable pub session_allows : List ℕ → List ℕ → PartPages

@@ -17,10 +17,12 @@ use Rattle.mg_defs.specs.Split.{documents}
 use Rattle.mg_defs.specs.Terms.{document}
 use Rattle.mg_defs.specs.TextBounds.{doc_pages}
 use Rattle.mg_defs.specs.Texts.{row}
-use Rattle.mg_bool.specs.Matches.{Matching, MatchesOver, left_of}
-use Rattle.mg_bool.specs.Places.{pages_read}
+use Rattle.mg_bool.specs.Matches.{Matching, left_of}
 use Rattle.mg_reply.specs.Pending.{AfterPass, Passed}
 use Rattle.mg_text.specs.Reading.{ShowIsNotBad}
+use Rattle.mg_session.specs.Answering.{ListsWalked}
+use Rattle.mg_session.specs.PagesAllowed.{ReadsAllowed}
+use Rattle.mg_session.specs.PhrasesAllowed.{phrase_allows, phrase_line_allows, phrases_allow}
 use Rattle.mg_session.specs.declared.phrase_rows.PhraseRows.{PhraseRows}
 
 -- ---- rows
@@ -53,7 +55,7 @@ unfoldable pub candidate_pages : TextCode → List ℕ → List (List ℕ) → �
 candidate_pages code collection [] = 0
 candidate_pages code collection (t ∷ us) = sum_by (doc_pages code collection) (satisfying collection (all_of t us))
 
--- the pages of Post that its terms, joined by and, may read
+-- the pages of the blocks of its terms' lists, joined by and, whose range holds a document that is asked
 unfoldable pub joined_bound : List ℕ → List (List ℕ) → ℕ
 joined_bound collection [] = 0
 joined_bound collection (t ∷ us) = boolean_bound collection (all_of t us)
@@ -65,20 +67,20 @@ line_pages code collection line = bound_as (candidate_pages code collection) (ph
 abbrev pub line_lists : List ℕ → List ℕ → ℕ
 line_lists collection line = bound_as (joined_bound collection) (phrase_of line)
 
--- no more pages are read than the bounds of the lines add up to
+-- no more pages are read than the lines allow, added up
 pub record ReadsPhrases (code : TextCode) (collection given : List ℕ) (before now : Reads) : Type 0 where
-  pub post : now part.Post ≤ before part.Post + sum_by (line_lists collection) (plain_questions (lines given))
+  pub allowed : ReadsAllowed (phrases_allow collection given) before now
   pub text : now part.Text ≤ before part.Text + sum_by (line_pages code collection) (plain_questions (lines given))
 
 -- ---- an answer
 
--- The documents with places of a phrase were printed, or a part of that text; no part is bad, and no pages were read but so many of Post, and those of the documents that have all its terms.
+-- The documents with places of a phrase were printed, or a part of that text; no part is bad, and no pages were read but those that the phrase allows, and those of the documents that have all its terms.
 pub record PhraseAnswered (code : TextCode) (collection : List ℕ) (phrase : List (List ℕ))
     (before after : Option (List ℕ)) (reads_before reads_now : Reads) (result : Result (Unit {0}) ShowErr) : Type 0
   where
     pub put : AfterPut before after (found_text (with_places phrase 1 (documents collection))) result
     pub sound : ShowIsNotBad result
-    pub post : reads_now part.Post ≤ reads_before part.Post + joined_bound collection phrase
+    pub allowed : ReadsAllowed (phrase_allows collection phrase) reads_before reads_now
     pub text : reads_now part.Text ≤ reads_before part.Text + candidate_pages code collection phrase
 
 -- The same of a line.
@@ -86,7 +88,7 @@ pub record PhraseReplied (code : TextCode) (collection line : List ℕ) (before 
     (reads_before reads_now : Reads) (result : Result (Unit {0}) ShowErr) : Type 0 where
   pub put : AfterPut before after (phrase_reply collection line) result
   pub sound : ShowIsNotBad result
-  pub post : reads_now part.Post ≤ reads_before part.Post + line_lists collection line
+  pub allowed : ReadsAllowed (phrase_line_allows collection line) reads_before reads_now
   pub text : reads_now part.Text ≤ reads_before part.Text + line_pages code collection line
 
 -- A document was searched for a phrase, and its row was passed on where it has places, or a part of that text.
@@ -110,6 +112,5 @@ pub record PhraseWalked (base : List ℕ) (code : TextCode) (collection : List �
   pub split : satisfying collection q ≡ so_far ++ left_of collection m
   pub total_is : length (found_among collection phrase so_far) ≡ total
   pub passed : Passed before after [] waiting (rows_of (found_among collection phrase so_far))
-  pub over : MatchesOver base collection m
-  pub post : reads_now part.Post ≤ reads_before part.Post + pages_read m.places
+  pub lists : ListsWalked base collection m reads_before reads_now
   pub text : reads_now part.Text ≤ reads_before part.Text + sum_by (doc_pages code collection) so_far

@@ -6,9 +6,10 @@ use Rattle.mg_dev.specs.declared.part_err.PartErr.TheVariants.{Device, Memory, B
 use Rattle.mg_defs.specs.CodedText.{TextCode}
 use Rattle.mg_defs.specs.Session.{Question}
 use Rattle.mg_defs.specs.declared.session.Settings.{Settings}
-use Rattle.mg_session.specs.PhraseAnswers.{line_lists, line_pages}
+use Rattle.mg_session.specs.PhraseAnswers.{line_pages}
+use Rattle.mg_session.specs.PhrasesAllowed.{phrase_line_allows}
 use Rattle.mg_session.specs.PhraseSearching.{PhrasesAsked, PhrasesBy}
-use Rattle.mg_session.specs.SearchLaws.{opened_then, over_same, same_opened}
+use Rattle.mg_session.specs.SearchLaws.{allowed_more, opened_then, over_same, same_opened}
 use Rattle.mg_session.specs.Searching.{MayStop, Over, Searching}
 
 phrases_over : (s t : Searching) (xs : List Question) (code : TextCode) (collection : List ℕ) → PhrasesAsked s t xs →
@@ -21,7 +22,7 @@ pub phrases_none : (s : Searching) → PhrasesAsked s s []
 phrases_none s = record {
   step = record { files = refl; faults = omega arith; unread = λ p never. refl };
   same = same_opened s.opened;
-  post = λ code collection over. omega arith;
+  allowed = λ code collection over. record { post = omega arith; skip = omega arith; weights = omega arith };
   text = λ code collection over. omega arith;
 }
 
@@ -34,12 +35,8 @@ phrases_more s t u xs ys a b = record {
     unread = λ p never. b.step.unread p never ∙ a.step.unread p never;
   };
   same = opened_then s.opened t.opened u.opened a.same b.same;
-  post = λ code collection over. omega (
-    arith,
-    a.post code collection over,
-    b.post code collection (phrases_over s t xs code collection a over),
-    sum_by-append (λ (q : Question). line_lists collection q.line) xs ys,
-  );
+  allowed = λ code collection over. allowed_more (λ (q : Question). phrase_line_allows collection q.line) xs ys
+      (a.allowed code collection over) (b.allowed code collection (phrases_over s t xs code collection a over));
   text = λ code collection over. omega (
     arith,
     a.text code collection over,

@@ -9,7 +9,9 @@ use Rattle.mg_defs.specs.Session.{Question}
 use Rattle.mg_defs.specs.declared.session.Mode.TheVariants as mode
 use Rattle.mg_defs.specs.declared.session.Settings.{Settings}
 use Rattle.mg_session.specs.Parts.{Stepped}
-use Rattle.mg_session.specs.PhraseAnswers.{line_lists, line_pages}
+use Rattle.mg_session.specs.PagesAllowed.{ReadsAllowed, sum_allows}
+use Rattle.mg_session.specs.PhraseAnswers.{line_pages}
+use Rattle.mg_session.specs.PhrasesAllowed.{phrase_line_allows}
 use Rattle.mg_session.specs.Searching.{Opened, Over, SameOpened, SearchFits, Searching}
 
 -- it answers as a session of phrases over a collection does, whatever the settings are
@@ -32,9 +34,9 @@ pub record PhrasesAsked (s t : Searching) (questions : List Question) : Type 0 w
   pub step : Stepped mode.Text s.files t.files s.reads t.reads s.faults t.faults
   -- the same parts are open
   pub same : SameOpened s.opened t.opened
-  -- no more pages of Post were read than the lines allow
-  pub post : (code : TextCode) (collection : List ℕ) → Over s code collection → t.reads part.Post
-      ≤ s.reads part.Post + sum_by (λ (q : Question). line_lists collection q.line) questions
+  -- no more pages of the lists were read than the lines allow
+  pub allowed : (code : TextCode) (collection : List ℕ) → Over s code collection →
+      ReadsAllowed (sum_allows (λ (q : Question). phrase_line_allows collection q.line) questions) s.reads t.reads
   -- nor of Text
   pub text : (code : TextCode) (collection : List ℕ) → Over s code collection → t.reads part.Text
       ≤ s.reads part.Text + sum_by (λ (q : Question). line_pages code collection q.line) questions

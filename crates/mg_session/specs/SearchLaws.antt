@@ -18,7 +18,7 @@ use Rattle.mg_lex.specs.Reading.{LexStands}
 use Rattle.mg_post.specs.TermLists.{ListsStand}
 use Rattle.mg_rank.specs.Ranked.{WeightsStand}
 use Rattle.mg_text.specs.Reading.{IsText}
-use Rattle.mg_session.specs.PagesAllowed.{ReadsAllowed, line_allows, lines_allow}
+use Rattle.mg_session.specs.PagesAllowed.{PartPages, ReadsAllowed, line_allows, sum_allows}
 use Rattle.mg_session.specs.Searching.{AnswersBy, AskForNoText, Asked, MayStop, Opened, Over, SameOpened, Searching}
 use Rattle.mg_session.specs.Texts.{SameTexts, Texting, TextsStand}
 
@@ -120,13 +120,13 @@ ask_behind : (xs ys : List Question) → AskForNoText (xs ++ ys) → AskForNoTex
 ask_behind [] ys none = none
 ask_behind (x ∷ xs) ys none = ask_behind xs ys (All-tail (λ (q : Question). q.now.mode ≢ mode.Text) x (xs ++ ys) none)
 
-allowed_more : (collection : List ℕ) (xs ys : List Question) {r s t : Reads} →
-    ReadsAllowed (lines_allow collection xs) r s → ReadsAllowed (lines_allow collection ys) s t →
-    ReadsAllowed (lines_allow collection (xs ++ ys)) r t
-allowed_more collection xs ys a b =
-    let post = λ (q : Question). (line_allows collection q).post in
-    let skip = λ (q : Question). (line_allows collection q).skip in
-    let weights = λ (q : Question). (line_allows collection q).weights in
+pub allowed_more : (allows : Question → PartPages) (xs ys : List Question) {r s t : Reads} →
+    ReadsAllowed (sum_allows allows xs) r s → ReadsAllowed (sum_allows allows ys) s t →
+    ReadsAllowed (sum_allows allows (xs ++ ys)) r t
+allowed_more allows xs ys a b =
+    let post = λ (q : Question). (allows q).post in
+    let skip = λ (q : Question). (allows q).skip in
+    let weights = λ (q : Question). (allows q).weights in
     record {
       post = omega (arith, a.post, b.post, sum_by-append post xs ys);
       skip = omega (arith, a.skip, b.skip, sum_by-append skip xs ys);
@@ -152,7 +152,7 @@ asked_more s t u xs ys a b = record {
   unread = λ p never. b.unread p never ∙ a.unread p never;
   texts_unread = λ none p of_text. b.texts_unread (ask_behind xs ys none) p of_text
       ∙ a.texts_unread (ask_before xs ys none) p of_text;
-  allowed = λ code collection over. allowed_more collection xs ys (a.allowed code collection over)
+  allowed = λ code collection over. allowed_more (line_allows collection) xs ys (a.allowed code collection over)
       (b.allowed code collection (over_later s t xs code collection a over));
   shown = λ code collection over. omega (
     arith,

@@ -17,7 +17,7 @@ use crate::lookup::Sought;
 use crate::phrase_rows::PhraseRows;
 use crate::searched::Searched;
 use crate::total::put_total;
-use mg_bool::Matches;
+use mg_bool::{Matches, skips_are_within};
 use mg_dev::{PartErr, ShowErr, Sink, Store};
 use mg_phrase::Marks;
 use mg_query::Terms;
@@ -70,6 +70,7 @@ fn search_matches<S: Store, T: Searched<S>, O: Sink>(
     ensures { ShowsCandidates S.Store O.Sink store.old store.new out.old out.new result
         (T.texts texts.old) (T.texts texts.new) matches.old marks.old.phrase }
 {
+    skips_are_within();
     let mut rows = PhraseRows::new();
     'matches: loop {
         let number = match matches.next(store) {

@@ -22,6 +22,7 @@ use Rattle.mg_defs.specs.declared.session.Settings.{Settings}
 use Rattle.mg_reply.proofs.CallerLemmas.{none_in_turn}
 use Rattle.mg_merge.specs.Merging.{budget_of}
 use Rattle.mg_session.specs.Serves as serves
+use Rattle.mg_session.specs.PagesAllowed.{PartPages, ReadsAllowed}
 use Rattle.mg_session.specs.Parts.{NeverRead}
 use Rattle.mg_session.specs.PhraseAnswers.{ReadsPhrases}
 use Rattle.mg_session.specs.Served.{Served}
@@ -122,12 +123,17 @@ module _ (run : Run) (stops : Stops run Memory) (store : run.store_now ≡ run.s
     unread = λ p never. same_reads p;
   }
 
+  nothing_allowed : (most : PartPages) → ReadsAllowed most run.store.reads run.store_now.reads
+  nothing_allowed most = record {
+    post = rw (same_reads part.Post) (omega arith);
+    skip = rw (same_reads part.Skip) (omega arith);
+    weights = rw (same_reads part.Weights) (omega arith);
+  }
+
   queried : (n : List ℕ) → Queried n run
   queried n = record {
-    served = served session Commands reply ReadsWithin NeverRead serves.CountsNone n (λ code c given. record {
-      allowed = record { post = rw (same_reads part.Post) (omega arith); skip = rw (same_reads part.Skip) (omega arith); weights = rw (same_reads part.Weights) (omega arith) };
-      text = rw (same_reads part.Text) (omega arith);
-    });
+    served = served session Commands reply ReadsWithin NeverRead serves.CountsNone n (λ code c given.
+        record { allowed = nothing_allowed _; text = rw (same_reads part.Text) (omega arith) });
     printed = λ given told some is. absurd (not_done is);
     answered_broken = λ given told some is. absurd (not_read is);
     complete = λ c given stands some short no_store no_input no_output. inr stops;
@@ -137,7 +143,7 @@ module _ (run : Run) (stops : Stops run Memory) (store : run.store_now ≡ run.s
   phrased : (n : List ℕ) → Phrased n run
   phrased n = record {
     served = served phrase_session Questions (λ c now. phrase_reply c) ReadsPhrases NeverRead serves.CountsNone n (λ code c given.
-        record { post = rw (same_reads part.Post) (omega arith); text = rw (same_reads part.Text) (omega arith) });
+        record { allowed = nothing_allowed _; text = rw (same_reads part.Text) (omega arith) });
     printed = λ given told some is. absurd (not_done is);
     answered_broken = λ given told some is. absurd (not_read is);
     complete = λ c given stands some short no_store no_input no_output. inr stops;

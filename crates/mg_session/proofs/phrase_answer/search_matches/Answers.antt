@@ -1,14 +1,9 @@
 use Rattle.std.specs.Prelude.{IfSome}
 use Rattle.std.proofs.Common.{arith, ◌≡◌, ◌<◌, ◌≤◌, ℕ, refl, sym, ◌∙◌, ap, subst}
 use Rattle.std.specs.declared.option.Option.{Option}
-use Rattle.mg_defs.specs.PageBounds.{boolean_bound}
 use Rattle.mg_dev.specs.Files.{Files}
 use Rattle.mg_bool.specs.Matches.{GoesOn, left_of}
-use Rattle.mg_bool.specs.Places.{pages_read}
 use Rattle.mg_layout.specs.declared.head.Head.{Head}
-use Rattle.mg_post.specs.TermLists.{PagesWithin}
-use Rattle.mg_query.specs.QueryOf.{query_of}
-use Rattle.mg_query.specs.declared.query.Query.{Query}
 use Rattle.mg_session.specs.SearchLaws.{texts_later, weights_later}
 use Rattle.mg_session.specs.Texts.{TextsFit}
 use Rattle.mg_session.proofs.CallLaws.{text_refused, text_shown, text_start, text_written}
@@ -17,8 +12,8 @@ use Rattle.mg_session.proofs.PhraseWalkLaws.{joined, walked_cut, walked_end, wal
 use Rattle.mg_session.proofs.ReplyLaws.{list_sound}
 use Rattle.mg_session.proofs.DecidedLaws.{printing_end, printing_hit, printing_start}
 use Rattle.mg_session.proofs.DocStandsLaws.{places_back}
-use Rattle.mg_session.proofs.StepLaws.{lists_step, lists_text, shown_post}
-use Rattle.mg_session.proofs.WalkLaws.{fit_later}
+use Rattle.mg_session.proofs.StepLaws.{lists_step, shown_keeps}
+use Rattle.mg_session.proofs.WalkLaws.{fit_later, next_read}
 use Rattle.mg_session.proofs.phrase_answer.search_matches.Goals as goal
 
 pub matches-init : goal.matches-init
@@ -31,7 +26,7 @@ matches-init g c = record {
   few = omega (arith, c.new-rows.ensures.total);
   within = omega (arith, c.requires.unasked.first);
   printing = printing_start c.requires.unasked.stands c.requires.unasked.first c.new-rows.ensures.waiting c.new-rows.ensures.total;
-  walked = λ base code collection stands over. walked_start c.args.marks.now.phrase c.new-rows.ensures.waiting c.new-rows.ensures.total c.requires.unasked.first over;
+  walked = λ base code collection stands over. walked_start c.args.marks.now.phrase c.new-rows.ensures.waiting c.new-rows.ensures.total c.requires.unasked.first c.requires.unasked.within over;
 }
 
 pub returns-in-Err : goal.returns-in-Err
@@ -40,12 +35,11 @@ returns-in-Err g c = record {
       let inv = c.matches.invariant in
       let walked = inv.walked base code collection stands over in
       let lists = (weights_later base base _ _ collection refl inv.so_far.step.files stands.weights).lists in
-      let pages = subst (λ (a : Query). PagesWithin (boolean_bound collection (query_of a)) (pages_read c.matches.matches.places)
-      (pages_read c.next.new.self.places) (g.S.Store.reads c.matches.store) (g.S.Store.reads c.next.new.store)) inv.kept.asks
-      (c.in-Err.ensures.pages base collection lists walked.over) in
-      walked_stop c.matches.matches c.next.new.self (g.S.Store.reads c.matches.store) (g.S.Store.reads c.next.new.store)
-      (joined code collection c.args.marks.now.phrase c.args.matches.now.asks c.requires.joined) walked pages (lists_text _ _ c.in-Err.ensures.reads)
-      (list_sound c.in-Err.refusal _ _ c.from.ensures (c.in-Err.ensures.answer base collection lists walked.over));
+      let read = next_read c.args.matches.now inv.kept.asks (c.in-Err.ensures.least base collection lists walked.lists.over) (c.in-Err.ensures.pages base collection lists walked.lists.over)
+      c.in-Err.ensures.lists c.in-Err.ensures.skips c.in-Err.ensures.reads in
+      walked_stop c.matches.matches c.next.new.self (g.S.Store.reads c.matches.store) c.skips_are_within.ensures.terms
+      (joined code collection c.args.marks.now.phrase c.args.matches.now.asks c.requires.joined) walked read
+      (list_sound c.in-Err.refusal _ _ c.from.ensures (c.in-Err.ensures.answer base collection lists walked.lists.over));
   printed = tt;
   stepped =
       let e = c.in-Err.ensures in
@@ -59,15 +53,13 @@ returns-in-Err-search_document g c = record {
       let walked = inv.walked base code collection stands over in
       let lists = (weights_later base base _ _ collection refl inv.so_far.step.files stands.weights).lists in
       let text = texts_later _ _ _ _ code collection inv.so_far.same (c.in-Ok-Some.ensures.files ∙ inv.so_far.step.files) stands.texts_are in
-      let pages = subst (λ (a : Query). PagesWithin (boolean_bound collection (query_of a)) (pages_read c.matches.matches.places)
-      (pages_read c.next.new.self.places) (g.S.Store.reads c.matches.store) (g.S.Store.reads c.next.new.store)) inv.kept.asks
-      (c.in-Ok-Some.ensures.pages base collection lists walked.over) in
-      let answer = c.in-Ok-Some.ensures.answer base collection lists walked.over in
-      walked_cut c.matches.matches c.next.new.self (g.S.Store.reads c.matches.store) (g.S.Store.reads c.next.new.store)
+      let read = next_read c.args.matches.now inv.kept.asks (c.in-Ok-Some.ensures.least base collection lists walked.lists.over) (c.in-Ok-Some.ensures.pages base collection lists walked.lists.over)
+      c.in-Ok-Some.ensures.lists c.in-Ok-Some.ensures.skips c.in-Ok-Some.ensures.reads in
+      let answer = c.in-Ok-Some.ensures.answer base collection lists walked.lists.over in
+      walked_cut c.matches.matches c.next.new.self (g.S.Store.reads c.matches.store) (g.S.Store.reads c.next.new.store) c.skips_are_within.ensures.terms
       (joined code collection c.args.marks.now.phrase c.args.matches.now.asks c.requires.joined) walked
-      (subst (GoesOn (left_of collection c.matches.matches) (left_of collection c.next.new.self)) c.in-Ok-Some.field-0-is answer.0) pages
-      (lists_text _ _ c.in-Ok-Some.ensures.reads)
-      (shown_post _ _ _ _ _ _ _ c.in-Err-search_document.ensures.stepped.step)
+      (subst (GoesOn (left_of collection c.matches.matches) (left_of collection c.next.new.self)) c.in-Ok-Some.field-0-is answer.0) read
+      (shown_keeps c.in-Err-search_document.ensures.stepped.step)
       (rw inv.phrase at (c.in-Err-search_document.ensures.searched code collection text));
   printed = tt;
   stepped =
@@ -101,12 +93,12 @@ matches-preserved g c =
           let walked = inv.walked base code collection stands over in
           let lists = (weights_later base base _ _ collection refl inv.so_far.step.files stands.weights).lists in
           let text = texts_later _ _ _ _ code collection inv.so_far.same (c.in-Ok-Some.ensures.files ∙ inv.so_far.step.files) stands.texts_are in
-          let answer = c.in-Ok-Some.ensures.answer base collection lists walked.over in
+          let read = next_read c.args.matches.now inv.kept.asks (c.in-Ok-Some.ensures.least base collection lists walked.lists.over)
+          (c.in-Ok-Some.ensures.pages base collection lists walked.lists.over) c.in-Ok-Some.ensures.lists c.in-Ok-Some.ensures.skips c.in-Ok-Some.ensures.reads in
+          let answer = c.in-Ok-Some.ensures.answer base collection lists walked.lists.over in
           walked_searched c.matches.matches c.next.new.self (g.S.Store.reads c.matches.store) (g.S.Store.reads c.next.new.store) walked
-          (subst (GoesOn (left_of collection c.matches.matches) (left_of collection c.next.new.self)) c.in-Ok-Some.field-0-is answer.0) answer.1
-          (c.in-Ok-Some.ensures.pages base collection lists walked.over)
-          (lists_text _ _ c.in-Ok-Some.ensures.reads)
-          (shown_post _ _ _ _ _ _ _ c.in-Ok.ensures.stepped.step)
+          (subst (GoesOn (left_of collection c.matches.matches) (left_of collection c.next.new.self)) c.in-Ok-Some.field-0-is answer.0) answer.1 read
+          (shown_keeps c.in-Ok.ensures.stepped.step)
           (rw inv.phrase at (c.in-Ok.ensures.searched code collection text));
     }
 
@@ -116,14 +108,12 @@ returns-in-Ok-None g c = record {
       let inv = c.matches.invariant in
       let walked = inv.walked base code collection stands over in
       let lists = (weights_later base base _ _ collection refl inv.so_far.step.files stands.weights).lists in
-      let pages = subst (λ (a : Query). PagesWithin (boolean_bound collection (query_of a)) (pages_read c.matches.matches.places)
-      (pages_read c.next.new.self.places) (g.S.Store.reads c.matches.store) (g.S.Store.reads c.next.new.store)) inv.kept.asks
-      (c.in-Ok-None.ensures.pages base collection lists walked.over) in
-      let answer = c.in-Ok-None.ensures.answer base collection lists walked.over in
-      walked_end c.matches.matches c.next.new.self (g.S.Store.reads c.matches.store) (g.S.Store.reads c.next.new.store)
+      let read = next_read c.args.matches.now inv.kept.asks (c.in-Ok-None.ensures.least base collection lists walked.lists.over) (c.in-Ok-None.ensures.pages base collection lists walked.lists.over)
+      c.in-Ok-None.ensures.lists c.in-Ok-None.ensures.skips c.in-Ok-None.ensures.reads in
+      let answer = c.in-Ok-None.ensures.answer base collection lists walked.lists.over in
+      walked_end c.matches.matches c.next.new.self (g.S.Store.reads c.matches.store) c.skips_are_within.ensures.terms
       (joined code collection c.args.marks.now.phrase c.args.matches.now.asks c.requires.joined) walked
-      (subst (GoesOn (left_of collection c.matches.matches) (left_of collection c.next.new.self)) c.in-Ok-None.field-0-is answer.0) pages
-      (lists_text _ _ c.in-Ok-None.ensures.reads)
+      (subst (GoesOn (left_of collection c.matches.matches) (left_of collection c.next.new.self)) c.in-Ok-None.field-0-is answer.0) read
       c.put_total.ensures.content
       c.put_total.ensures.alone.sound;
   printed =

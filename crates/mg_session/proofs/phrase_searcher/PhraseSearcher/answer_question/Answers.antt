@@ -1,4 +1,4 @@
-use Rattle.std.proofs.Common.{refl, subst}
+use Rattle.std.proofs.Common.{subst}
 use Rattle.mg_query.specs.RefusalOf.{refusal_of}
 use Rattle.mg_session.specs.Decided.{PrintsWords}
 use Rattle.mg_session.proofs.DecidedLaws.{read_same, refused_printed}
@@ -21,7 +21,7 @@ answer_parsed-requires g c = record { few = line_words c.args.line.now c.in-Ok.p
 pub returns-in-Ok : goal.returns-in-Ok
 returns-in-Ok g c = record {
   answer = λ code collection over.
-      line_answered code collection _ c.in-Ok.phrase _ _ _ _ _ _ c.in-Ok.ensures.reads (c.answer_parsed.ensures.answer code collection over) refl refl;
+      line_answered code collection _ c.in-Ok.phrase c.in-Ok.ensures.reads (c.answer_parsed.ensures.answer code collection over);
   printed = λ ts is told.
       subst (λ xs. PrintsWords (g.O.Sink.written c.args.out.now) (g.O.Sink.written c.answer_parsed.new.out) c.answer_parsed.result
       (g.S.Store.files c.args.store.now) c.args.self.now xs) (read_same c.in-Ok.ensures.reads is) c.answer_parsed.ensures.printed;

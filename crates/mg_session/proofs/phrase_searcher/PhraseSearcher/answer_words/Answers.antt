@@ -15,7 +15,7 @@ use Rattle.mg_session.proofs.CallLaws.{opened_answered, opened_refused, opened_s
 use Rattle.mg_session.proofs.PhraseReplyLaws.{answered_behind, nothing_answered}
 use Rattle.mg_session.proofs.PhraseWalkLaws.{terms_joined}
 use Rattle.mg_session.proofs.ReplyLaws.{answers_for, part_sound}
-use Rattle.mg_session.proofs.StepLaws.{lex_post, lex_text}
+use Rattle.mg_session.proofs.StepLaws.{lex_keeps, lex_text}
 use Rattle.mg_session.proofs.phrase_searcher.PhraseSearcher.answer_words.Goals as goal
 
 pub returns-in-Err : goal.returns-in-Err
@@ -24,7 +24,7 @@ returns-in-Err g c = record {
       nothing_answered code collection _ _ _ _ _
       (part_sound c.in-Err.refusal _ _ c.from.ensures (c.in-Err.ensures.answer over.version collection over.limits
       (subst (λ (o : Opened). LexStands o.lex (g.S.Store.files c.args.store.now) collection) (sym c.self.view_is) over.lex)))
-      (lex_post _ _ _ _ _ _ c.in-Err.ensures.looked) (lex_text _ _ _ _ _ _ c.in-Err.ensures.looked);
+      (lex_keeps c.in-Err.ensures.looked) (lex_text _ _ _ _ _ _ c.in-Err.ensures.looked);
   printed = λ t us words. tt;
   stepped = let e = c.in-Err.ensures in
       opened_refused c.self.view_is c.requires.can.fits e.fits e.same e.looked c.in-Err.refusal c.from.ensures e.cause;
@@ -51,7 +51,7 @@ returns g c = record {
       let stands = answers_for _ _ own code collection c.in-Ok.ensures.looked.files own_over in
       answered_behind code collection c.args.phrase.now _ _ _ (g.S.Store.reads c.find_terms.new.store) _ _
       (c.answer_phrase.ensures.answer code collection stands same)
-      (lex_post _ _ _ _ _ _ c.in-Ok.ensures.looked) (lex_text _ _ _ _ _ _ c.in-Ok.ensures.looked);
+      (lex_keeps c.in-Ok.ensures.looked) (lex_text _ _ _ _ _ _ c.in-Ok.ensures.looked);
   printed = λ t us words. subst (λ q. PrintsTold (g.O.Sink.written c.args.out.now) (g.O.Sink.written c.answer_phrase.new.out) c.answer_phrase.result
       (g.S.Store.files c.args.store.now) c.args.self.now q
       (PhraseRow (ArePlacesIn c.args.self.now.texts (g.S.Store.files c.args.store.now) c.args.phrase.now)))
