@@ -1,5 +1,5 @@
 -- What a call does to its parts and devices, put together from what the calls in it do.
-use Rattle.std.proofs.Common.{arith, ◌≡◌, ◌≤◌, ℕ, List, Ok, Err, refl, sym, ◌∙◌, ap, subst}
+use Rattle.std.proofs.Common.{arith, ◌≡◌, ◌*◌, ◌≤◌, ℕ, List, Ok, Err, refl, sym, ◌∙◌, ap, subst}
 use Rattle.std.specs.Prelude.{IfErr}
 use Rattle.std.specs.declared.option.Option.{Option}
 use Rattle.std.specs.declared.result.Result.{Result}
@@ -17,17 +17,18 @@ use Rattle.mg_dev.specs.declared.show_err.ShowErr.{ShowErr}
 use Rattle.mg_dev.specs.declared.show_err.ShowErr.TheVariants as show
 use Rattle.mg_defs.specs.CodedText.{TextCode}
 use Rattle.mg_defs.specs.declared.session.Mode.{Mode}
+use Rattle.mg_front.specs.Looks.{looks}
 use Rattle.mg_front.specs.Reading.{Fronted, FrontFits, LookedAt, SameParts}
 use Rattle.mg_layout.specs.declared.head.Head.{Head}
 use Rattle.mg_reply.specs.Refusals.{AnswerStops}
 use Rattle.mg_session.specs.Answering.{HasShowCause, HasShowLack}
 use Rattle.mg_session.specs.Calls.{AreShowable, OpenedStep, OutputStep, PutStep, TextShown, TextStep}
-use Rattle.mg_session.specs.Parts.{ShownIn, Stepped}
+use Rattle.mg_session.specs.Parts.{ShownIn, Stepped, LineStepped, ReadsLexicon}
 use Rattle.mg_session.specs.SearchLaws.{same_opened, same_texts, texts_then}
 use Rattle.mg_session.specs.Searching.{Opened, SearchFits}
 use Rattle.mg_session.specs.Texts.{Texting, TextsFit, TextsStand}
 use Rattle.mg_session.proofs.ReplyLaws.{refused_cause, refused_lack, refused_sound}
-use Rattle.mg_session.proofs.StepLaws.{cause_after, lex_step, shown_none, shown_step, stepped_none, stepped_then}
+use Rattle.mg_session.proofs.StepLaws.{cause_after, line_looked, line_none, line_then, shown_none, shown_step, stepped_none, stepped_then}
 use Rattle.mg_session.proofs.TotalLaws.{lack_after}
 
 -- ---- the output alone
@@ -221,30 +222,36 @@ module _ {texts between : Texting} {at next now : StoreAt} {out passed : SinkAt}
 -- ---- a line is answered
 
 -- nothing was read
-pub opened_unread : {opened : Opened} {at : StoreAt} {out now : SinkAt} {result : Result (Unit {0}) ShowErr} {m : Mode} → SearchFits at.files opened →
-    OutputStep out now result → OpenedStep opened opened at at out now result m
+pub opened_unread : {opened : Opened} {at : StoreAt} {out now : SinkAt} {result : Result (Unit {0}) ShowErr} {m : Mode} {terms : ℕ} → SearchFits at.files opened →
+    OutputStep out now result → OpenedStep opened opened at at out now result m terms
 opened_unread {opened} {at} {m = m} fits output = record {
   fits = fits;
   same = same_opened opened;
-  step = stepped_none m at.files at.reads at.faults;
+  step = line_none m _ at.files at.reads at.faults;
   cause = output.cause at.faults;
   lack = output.lack;
 }
 
 -- nor was anything written: memory is wanting
-pub opened_lacked : {opened : Opened} {at : StoreAt} {out : SinkAt} {m : Mode} → SearchFits at.files opened →
-    OpenedStep opened opened at at out out (Err (show.Part Memory)) m
+pub opened_lacked : {opened : Opened} {at : StoreAt} {out : SinkAt} {m : Mode} {terms : ℕ} → SearchFits at.files opened →
+    OpenedStep opened opened at at out out (Err (show.Part Memory)) m terms
 opened_lacked fits = opened_unread fits output_lacked
 
--- the lexicon was asked
-module _ {base : List ℕ} {lex lex_now : Fronted} {texts : Texting} {all : ℕ} {opened : Opened} {at next : StoreAt}
+-- of as many terms
+pub opened_terms : {opened opened_now : Opened} {at now : StoreAt} {out out_now : SinkAt} {result : Result (Unit {0}) ShowErr} {m : Mode} {k n : ℕ} → k ≡ n →
+    OpenedStep opened opened_now at now out out_now result m k → OpenedStep opened opened_now at now out out_now result m n
+opened_terms {opened} {opened_now} {at} {now} {out} {out_now} {result} {m} same step = subst (OpenedStep opened opened_now at now out out_now result m) same step
+
+-- the lexicon was asked for these terms
+module _ {base : List ℕ} {lex lex_now : Fronted} {texts : Texting} {all : ℕ} {opened : Opened} {at next : StoreAt} (terms : ℕ)
     (own : record { base = base; lex = lex; texts = texts; all = all } ≡ opened) (fits : SearchFits at.files opened)
-    (fits_now : FrontFits lex_now next.files) (same : SameParts lex lex_now) (looked : LookedAt part.Lex part.LexAt at.files next.files at.reads next.reads at.faults next.faults) where
+    (fits_now : FrontFits lex_now next.files) (same : SameParts lex lex_now) (looked : LookedAt part.Lex part.LexAt at.files next.files at.reads next.reads at.faults next.faults)
+    (reads : ReadsLexicon at.reads next.reads (terms * looks lex.count)) where
   own_fits : SearchFits at.files (record { base = base; lex = lex; texts = texts; all = all })
   own_fits = subst (λ (o : Opened). SearchFits at.files o) (sym own) fits
 
-  asked_step : (m : Mode) → Stepped m at.files next.files at.reads next.reads at.faults next.faults
-  asked_step m = lex_step m _ _ _ _ _ _ looked
+  asked_step : (m : Mode) → LineStepped m (terms * looks lex.count) at.files next.files at.reads next.reads at.faults next.faults
+  asked_step m = line_looked m looked reads
 
   -- documents can be shown then
   pub opened_showable : AreShowable next.files texts all
@@ -253,9 +260,9 @@ module _ {base : List ℕ} {lex lex_now : Fronted} {texts : Texting} {all : ℕ}
   -- it is refused
   pub opened_refused : {T : Type 0} {m : Mode} {out : SinkAt} (refusal : PartErr) {error : ShowErr} → error ≡ show.Part refusal →
       HasPartCause {T = T} at.faults next.faults (Err refusal) →
-      OpenedStep opened (record { base = base; lex = lex_now; texts = texts; all = all }) at next out out (Err error) m
+      OpenedStep opened (record { base = base; lex = lex_now; texts = texts; all = all }) at next out out (Err error) m terms
   opened_refused {T} {m} {out} refusal {error} is cause =
-      subst (λ (o : Opened). OpenedStep o (record { base = base; lex = lex_now; texts = texts; all = all }) at next out out (Err error) m) own (record {
+      subst (λ (o : Opened). OpenedStep o (record { base = base; lex = lex_now; texts = texts; all = all }) at next out out (Err error) m terms) own (record {
         fits = record { lex = fits_now; texts = opened_showable.fits; all = own_fits.all };
         same = record { base = refl; lex = same; texts = same_texts texts; all = refl };
         step = asked_step m;
@@ -266,16 +273,16 @@ module _ {base : List ℕ} {lex lex_now : Fronted} {texts : Texting} {all : ℕ}
   -- then the text was read
   pub opened_answered : {m : Mode} {texts_now : Texting} {end : StoreAt} {out now : SinkAt} {result : Result (Unit {0}) ShowErr} →
       TextStep texts texts_now next end out now result (Stepped m) →
-      OpenedStep opened (record { base = base; lex = lex_now; texts = texts_now; all = all }) at end out now result m
+      OpenedStep opened (record { base = base; lex = lex_now; texts = texts_now; all = all }) at end out now result m terms
   opened_answered {m} {texts_now} {end} {out} {now} {result} step =
-      subst (λ (o : Opened). OpenedStep o (record { base = base; lex = lex_now; texts = texts_now; all = all }) at end out now result m) own (record {
+      subst (λ (o : Opened). OpenedStep o (record { base = base; lex = lex_now; texts = texts_now; all = all }) at end out now result m terms) own (record {
         fits = record {
           lex = subst (λ (f : Option Files). FrontFits lex_now f) (sym step.step.files) fits_now;
           texts = step.fits;
           all = ap (λ (h : Head). h.documents) step.same.head ∙ own_fits.all;
         };
         same = record { base = refl; lex = same; texts = step.same; all = refl };
-        step = stepped_then (asked_step m) step.step;
+        step = line_then (asked_step m) step.step;
         cause = cause_after _ _ _ _ _ _ _ looked.faults (omega arith) step.cause;
         lack = step.lack;
       })

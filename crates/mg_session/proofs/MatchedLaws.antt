@@ -33,6 +33,7 @@ use Rattle.mg_session.proofs.ServedLaws.{Kind, ServedAs, done_or, head_stopped, 
 use Rattle.mg_session.proofs.WildPageLaws.{patterns_within}
 use Rattle.mg_session.proofs.WildReplyLaws.{patterns_over}
 use Rattle.mg_session.proofs.WildSetLaws.{counted_of, set_has}
+use Rattle.mg_session.proofs.WildTextLaws.{unread_post}
 
 -- ---- the kind
 
@@ -90,13 +91,14 @@ patterns = record {
   reply = λ collection now. wild_reply collection;
   behind_head = behind_head;
   never_opened = kept;
-  lists_kept = (tt, tt, tt, tt);
-  within_none = λ code collection given r0 r1 none. record { post = omega (arith, none.0) };
-  within_from = λ code collection given r0 r1 r2 none w. record { post = omega (arith, w.post, none.0) };
+  head_kept = tt;
+  within_none = λ code collection given r0 r1 none. record { post = omega (arith, none part.Post tt (omega arith)) };
+  within_from = λ code collection given r0 r1 r2 none w. record { post = omega (arith, w.post, none part.Post tt (omega arith)) };
   answers = λ s code collection over. patterns_over s collection over;
   text_is = text_is;
   files = λ s t qs a. a.step.files;
-  unread = λ s t qs a p never. a.step.unread p never;
+  unread = λ s t qs a p never. a.step.unread p (unread_post p never);
+  head_unread = λ s t qs a. a.step.unread part.Head (λ e. absurd cc);
   within = λ s t qs code collection given a first over. patterns_within s t qs code collection given a first over;
   device = λ s t rose. rose;
   bad = λ s t b may code collection over. may collection over;

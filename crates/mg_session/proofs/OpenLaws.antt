@@ -1,10 +1,10 @@
 -- What opening a set does, by what loading its head and its parts answers.
-use Rattle.std.proofs.Common.{arith, ◌≡◌, ◌≤◌, ◌⊎◌, ℕ, false, List, Ok, Err, None, Some, IsSome, Option, refl, sym, subst, inl, inr}
+use Rattle.std.proofs.Common.{arith, ◌≡◌, ◌+◌, ◌≤◌, ◌⊎◌, ℕ, false, List, Ok, Err, None, Some, IsSome, Option, refl, sym, subst, inl, inr}
 use Rattle.std.specs.Prelude.{Result}
 use Rattle.mg_bits.specs.Pages.{Looked}
 use Rattle.mg_dev.specs.Causes.{Rose}
 use Rattle.mg_dev.specs.Faults.{fault_of_part}
-use Rattle.mg_dev.specs.Files.{Files, OneRead, Reads, SameReads, bytes_at}
+use Rattle.mg_dev.specs.Files.{Files, OneRead, Reads, SameReads, bytes_at, with_read}
 use Rattle.mg_dev.specs.Moments.{StoreAt}
 use Rattle.mg_dev.specs.Names.{full_name, same_part}
 use Rattle.mg_dev.specs.PartCauses.{HasPartCause}
@@ -43,12 +43,18 @@ pub record Loaded (base : List ℕ) (s0 s1 : StoreAt) (r : Result (Option Head) 
   pub reads : SameReads s0.reads s1.reads ⊎ OneRead s0.reads s1.reads part.Head
   pub cause : HasPartCause s0.faults s1.faults r
 
+head_once : {r s : Reads} → SameReads r s ⊎ OneRead r s part.Head → s part.Head ≤ r part.Head + 1
+unfolding with_read
+head_once (inl same) = omega (arith, same part.Head)
+head_once (inr one) = omega (arith, one part.Head)
+
 module _ (base : List ℕ) (s0 s1 : StoreAt) where
   head_some : (head : Head) → Loaded base s0 s1 (Ok (Some head)) → HeadOpened base s0 s1 (Ok head)
   head_some head l = record {
     files = l.files;
     faults = l.cause.later;
     unread = λ p high. head_read s0.reads s1.reads l.reads p high;
+    once = head_once l.reads;
     head = l.answer;
     cause = tt;
     not_built = λ told none. absurd (no_empty_head _ _ (l.answer told) none);
@@ -63,6 +69,7 @@ module _ (base : List ℕ) (s0 s1 : StoreAt) where
     files = l.files;
     faults = l.cause.later;
     unread = λ p high. head_read s0.reads s1.reads l.reads p high;
+    once = head_once l.reads;
     head = tt;
     cause = l.answer;
     not_built = λ told none. inl refl;
@@ -77,6 +84,7 @@ module _ (base : List ℕ) (s0 s1 : StoreAt) where
     files = l.files;
     faults = l.cause.later;
     unread = λ p high. head_read s0.reads s1.reads l.reads p high;
+    once = head_once l.reads;
     head = tt;
     cause = l.cause.device;
     not_built = λ told none. inr (inl refl);
@@ -86,6 +94,7 @@ module _ (base : List ℕ) (s0 s1 : StoreAt) where
     files = l.files;
     faults = l.cause.later;
     unread = λ p high. head_read s0.reads s1.reads l.reads p high;
+    once = head_once l.reads;
     head = tt;
     cause = tt;
     not_built = λ told none. inr (inr refl);
@@ -95,6 +104,7 @@ module _ (base : List ℕ) (s0 s1 : StoreAt) where
     files = l.files;
     faults = l.cause.later;
     unread = λ p high. head_read s0.reads s1.reads l.reads p high;
+    once = head_once l.reads;
     head = tt;
     cause = λ collection stands. l.back stands.told _ (own_head s0.files base collection stands);
     not_built = λ told none. absurd ((l.answer told).0 none);

@@ -1,6 +1,6 @@
 -- The reply to a phrase.
-use Rattle.std.proofs.Common.{arith, ◌≡◌, ℕ, ◌+◌, ◌≤◌, List, [], ◌∷◌, ◌++◌, length, None, Err, refl, sym, ◌∙◌, ap, subst, sum_by, length-append}
-use Rattle.std.specs.Prelude.{IfSome, IfErr, map, nat_le, nat_lt}
+use Rattle.std.proofs.Common.{arith, ◌≡◌, ℕ, ◌+◌, ◌*◌, ◌≤◌, List, [], ◌∷◌, ◌++◌, length, None, Err, refl, sym, ◌∙◌, ap, subst, sum_by, length-append}
+use Rattle.std.specs.Prelude.{IfSome, IfErr, flat_map, map, nat_le, nat_lt}
 use Rattle.std.specs.declared.option.Option.{Option}
 use Rattle.std.specs.declared.result.Result.{Result}
 use Rattle.std.proofs.lemmas.Bool.{cond_both, leb-false}
@@ -24,7 +24,7 @@ use Rattle.mg_defs.specs.Refusals.{Reading, Refusal, reads, refused}
 use Rattle.mg_defs.specs.Replies.{refusal}
 use Rattle.mg_defs.specs.Session.{Question, heard_questions}
 use Rattle.mg_defs.specs.Split.{documents}
-use Rattle.mg_defs.specs.Terms.{folded}
+use Rattle.mg_defs.specs.Terms.{dictionary, folded}
 use Rattle.mg_defs.specs.Texts.{count}
 use Rattle.mg_defs.specs.Tokens.{PlacedToken, Token, amp, bang, bar, closing, opening, tokens, word}
 use Rattle.mg_defs.specs.declared.session.Hearing.TheVariants.{Questions}
@@ -35,12 +35,14 @@ use Rattle.mg_query.specs.AllOf.{IsAllOf}
 use Rattle.mg_query.specs.RefusalOf.{refusal_of}
 use Rattle.mg_query.specs.declared.query_err.QueryErr.{QueryErr}
 use Rattle.mg_reply.specs.Refusals.{AnswerStops}
+use Rattle.mg_front.specs.Looks.{looks}
 use Rattle.mg_text.specs.Reading.{ShowIsNotBad}
 use Rattle.mg_session.specs.PhraseAnswers.{PhraseAnswered, PhraseReplied, ReadsPhrases, candidate_pages, line_pages}
+use Rattle.mg_session.specs.LookLaws.{looks_first, terms_one}
 use Rattle.mg_session.specs.PagesAllowed.{PartPages, ReadsAllowed, sum_allows}
-use Rattle.mg_session.specs.Parts.{Stepped}
+use Rattle.mg_session.specs.Parts.{LineStepped, ReadsLexicon}
 use Rattle.mg_session.specs.PhraseSearching.{PhrasesAsked, PhrasesBy}
-use Rattle.mg_session.specs.PhrasesAllowed.{phrase_allows, phrase_line_allows, phrases_allow}
+use Rattle.mg_session.specs.PhrasesAllowed.{phrase_allows, phrase_line_allows, phrase_terms, phrases_allow, phrases_terms}
 use Rattle.mg_session.specs.Searching.{Over, SameOpened, Searching}
 use Rattle.mg_session.proofs.AllowedLaws.{KeepsParts, allowed_behind, allowed_kept, allowed_none}
 use Rattle.mg_session.proofs.ReplyLaws.{refused_sound}
@@ -143,6 +145,10 @@ none_counted code collection phrase w0 w1 r result none put sound = record {
   text = omega arith;
 }
 
+pub terms_read : (line : List ℕ) (phrase : List (List ℕ)) → phrase_of line ≡ reads phrase → phrase_terms line ≡ phrase
+unfolding phrase_terms
+terms_read line phrase e = rw e refl
+
 says_found : (collection line : List ℕ) (phrase : List (List ℕ)) → phrase_of line ≡ reads phrase → phrase_reply collection line ≡ found_text (with_places phrase 1 (documents collection))
 unfolding phrase_reply
 says_found collection line phrase e = rw e refl
@@ -174,11 +180,13 @@ pub phrases_over : (s : Searching) (code : TextCode) (collection : List ℕ) →
 phrases_over s code collection over = record { code = code; collection = collection; over = over; by_is = refl }
 
 pub phrases_asked : (s t : Searching) (now : Settings) (line : List ℕ) (w0 w1 : Option (List ℕ)) (result : Result (Unit {0}) ShowErr) →
-    Stepped mode.Text s.files t.files s.reads t.reads s.faults t.faults → SameOpened s.opened t.opened →
+    LineStepped mode.Text (length (phrase_terms line) * looks s.opened.lex.count) s.files t.files s.reads t.reads s.faults t.faults →
+    SameOpened s.opened t.opened →
     ((code : TextCode) (collection : List ℕ) → Over s code collection → PhraseReplied code collection line w0 w1 s.reads t.reads result) →
     PhrasesAsked s t (record { now = now; line = line } ∷ [])
 phrases_asked s t now line w0 w1 result step same replied = record {
-  step = step;
+  step = subst (λ n. LineStepped mode.Text (n * looks s.opened.lex.count) s.files t.files s.reads t.reads s.faults t.faults)
+      (sym (terms_one (λ (q : Question). phrase_terms q.line) (record { now = now; line = line }))) step;
   same = same;
   allowed = λ code collection over.
       let a = (replied code collection over).allowed in
@@ -197,6 +205,11 @@ pub asked_lines : (f : List ℕ → ℕ) (given : List ℕ) (answered more : Lis
 asked_lines f given answered more is =
     ap (sum_by f) (questions_heard given) ∙ sum_by-map f (heard_questions Questions given) ∙ ap (sum_by (λ (q : Question). f q.line)) is ∙ sum_by-append (λ (q : Question). f q.line) answered more
 
+-- the words of some lines
+flat_map-map : (qs : List Question) → flat_map phrase_terms (map (λ (q : Question). q.line) qs) ≡ flat_map (λ (q : Question). phrase_terms q.line) qs
+flat_map-map [] = refl
+flat_map-map (q ∷ qs) = ap (λ ts. phrase_terms q.line ++ ts) (flat_map-map qs)
+
 -- the first of the lines of an input
 lines_allowed : (allows : List ℕ → PartPages) (given : List ℕ) (answered : List Question) {r s : Reads} →
     (more : List Question) × (heard_questions Questions given ≡ answered ++ more) → ReadsAllowed (sum_allows (λ (q : Question). allows q.line) answered) r s →
@@ -210,8 +223,14 @@ lines_allowed allows given answered first a = record {
 pub phrases_within : (s t : Searching) (answered : List Question) (code : TextCode) (collection given : List ℕ) → PhrasesAsked s t answered →
     (more : List Question) × (heard_questions Questions given ≡ answered ++ more) → Over s code collection →
     ReadsPhrases code collection given s.reads t.reads
-unfolding phrases_allow
+unfolding phrases_allow phrases_terms
 phrases_within s t answered code collection given a first over = record {
+  looked =
+      let terms = λ (q : Question). phrase_terms q.line in
+      let same = ap length (ap (flat_map phrase_terms) (questions_heard given) ∙ flat_map-map (heard_questions Questions given)) in
+      subst (λ n. ReadsLexicon s.reads t.reads (n * looks (length (dictionary collection)))) (sym same)
+      (looks_first terms (heard_questions Questions given) answered first.0 (looks s.opened.lex.count) (looks (length (dictionary collection))) first.1
+      (ap looks over.lex.terms) a.step.looked);
   allowed = lines_allowed (phrase_line_allows collection) given answered first (a.allowed code collection over);
   text = omega (arith, a.text code collection over, asked_lines (line_pages code collection) given answered first.0 first.1);
 }

@@ -1,9 +1,10 @@
 -- What a session of queries answered is what the run did.
-use Rattle.std.proofs.Common.{arith, ◌≡◌, ◌∙◌, ℕ, true, List, Some, Ok, Err, IsSome, refl}
+use Rattle.std.proofs.Common.{arith, inl, inr, ◌≡◌, ◌∙◌, ℕ, true, List, Some, Ok, Err, IsSome, refl}
 use Rattle.std.specs.Prelude.{Result}
 use Rattle.mg_dev.specs.Files.{Reads}
 use Rattle.mg_dev.specs.Moments.{SinkAt, SourceAt, StoreAt}
 use Rattle.mg_dev.specs.Runs.{Run, Stops, status_of}
+use Rattle.mg_dev.specs.declared.part.Part.TheVariants as part
 use Rattle.mg_dev.specs.declared.fault.Fault.{Fault}
 use Rattle.mg_dev.specs.declared.fault.Fault.TheVariants.{ReadFault}
 use Rattle.mg_dev.specs.declared.status.Status.TheVariants.{Done}
@@ -17,6 +18,7 @@ use Rattle.mg_layout.specs.declared.head.Head.{Head}
 use Rattle.mg_reply.proofs.CallerLemmas.{none_answered}
 use Rattle.mg_reply.specs.PrintedLines.{AnsweredBroken, InputPrints}
 use Rattle.mg_session.specs.Decided.{OpenedParts, PrintsOver, QuestionPrints}
+use Rattle.mg_session.specs.LookLaws.{looks_behind, looks_kept, looks_none}
 use Rattle.mg_session.specs.Opening.{HeadOpened, KeptByQueries, SetOpened}
 use Rattle.mg_session.specs.Parts.{NeverRead, is_of_text}
 use Rattle.mg_session.specs.Queried.{Queried}
@@ -26,7 +28,7 @@ use Rattle.mg_session.specs.Served.{LinesServed}
 use Rattle.mg_session.specs.Serves.{CountsNone, ReadsWithin}
 use Rattle.mg_session.proofs.AllowedLaws.{allowed_behind, allowed_kept}
 use Rattle.mg_session.proofs.PrintedOverLaws.{broken_over, printed_over}
-use Rattle.mg_session.proofs.ServedLaws.{Kind, NoPages, ServedAs, done_or, head_stopped, lines_served, parts_kept, run_of, set_stopped}
+use Rattle.mg_session.proofs.ServedLaws.{Kind, KeptReads, ServedAs, done_or, head_stopped, lines_served, parts_kept, run_of, set_stopped}
 use Rattle.mg_session.proofs.SessionLaws.{answers_over, first_ask_none, pages_within}
 use Rattle.mg_session.proofs.StepLaws.{never_early, text_behind}
 
@@ -36,11 +38,11 @@ pub text_is : (collection given : List ℕ) → session collection given ≡ hea
 unfolding session
 text_is collection given = refl
 
-pub within_none : (code : TextCode) (collection given : List ℕ) (r0 r1 : Reads) → NoPages r0 r1 → ReadsWithin code collection given r0 r1
-within_none code collection given r0 r1 none = record { allowed = allowed_kept _ (parts_kept none); text = omega (arith, none.2) }
+pub within_none : (code : TextCode) (collection given : List ℕ) (r0 r1 : Reads) → KeptReads KeptByQueries r0 r1 → ReadsWithin code collection given r0 r1
+within_none code collection given r0 r1 none = record { allowed = allowed_kept _ (parts_kept none); looked = looks_kept (looks_none r0 _) (none part.Lex tt (omega arith)) (none part.LexAt tt (omega arith)); text = omega (arith, none part.Text tt (omega arith)) }
 
-pub within_from : (code : TextCode) (collection given : List ℕ) (r0 r1 r2 : Reads) → NoPages r0 r1 → ReadsWithin code collection given r1 r2 → ReadsWithin code collection given r0 r2
-within_from code collection given r0 r1 r2 none w = record { allowed = allowed_behind (parts_kept none) w.allowed; text = omega (arith, w.text, none.2) }
+pub within_from : (code : TextCode) (collection given : List ℕ) (r0 r1 r2 : Reads) → KeptReads KeptByQueries r0 r1 → ReadsWithin code collection given r1 r2 → ReadsWithin code collection given r0 r2
+within_from code collection given r0 r1 r2 none w = record { allowed = allowed_behind (parts_kept none) w.allowed; looked = looks_behind (none part.Lex tt (omega arith)) (none part.LexAt tt (omega arith)) w.looked; text = omega (arith, w.text, none part.Text tt (omega arith)) }
 
 abbrev pub queries : Kind
 queries = record {
@@ -60,13 +62,14 @@ queries = record {
   reply = reply;
   behind_head = λ p never. omega (arith, never_early p never);
   never_opened = λ p never. tt;
-  lists_kept = (tt, tt, tt, tt);
+  head_kept = tt;
   within_none = within_none;
   within_from = within_from;
   answers = answers_over;
   text_is = text_is;
   files = λ s t qs a. a.files;
-  unread = λ s t qs a p never. a.unread p never;
+  unread = λ s t qs a p never. a.unread p (inl never);
+  head_unread = λ s t qs a. a.unread part.Head (inr refl);
   within = λ s t qs code collection given a first over. pages_within s t qs code collection given a first over;
   device = λ s t rose. rose;
   bad = λ s t b may. may;

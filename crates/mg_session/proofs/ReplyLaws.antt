@@ -1,5 +1,5 @@
 -- The reply to a query line.
-use Rattle.std.proofs.Common.{arith, ◌≡◌, ◌≢◌, ◌≤◌, inl, inr, ℕ, true, false, List, [], ◌∷◌, Ok, Err, refl, sym, subst}
+use Rattle.std.proofs.Common.{arith, ◌≡◌, ◌≢◌, ◌*◌, ◌≤◌, ℕ, true, false, List, [], ◌∷◌, length, Ok, Err, refl, sym, subst}
 use Rattle.std.specs.Prelude.{IfSome, IfErr, IsErrOf}
 use Rattle.std.specs.declared.option.Option.{Option}
 use Rattle.std.specs.declared.result.Result.{Result}
@@ -33,10 +33,12 @@ use Rattle.mg_post.specs.Answers.{AnswersList}
 use Rattle.mg_rank.specs.Ranked.{AnswersOr, AnswersTop}
 use Rattle.mg_reply.specs.Refusals.{AnswerStops}
 use Rattle.mg_reply.specs.Served.{PartStops}
+use Rattle.mg_front.specs.Looks.{looks}
 use Rattle.mg_text.specs.Reading.{ShowIsNotBad}
 use Rattle.mg_session.specs.Answering.{Answered, AnswersFor, HasShowCause, HasShowLack, Replied, answer_pages}
-use Rattle.mg_session.specs.PagesAllowed.{PartPages, ReadsAllowed, allowed_by, line_allows, query_allows, ranked_allows}
-use Rattle.mg_session.specs.Parts.{Stepped}
+use Rattle.mg_session.specs.PagesAllowed.{PartPages, ReadsAllowed, allowed_by, line_allows, line_terms, query_allows, ranked_allows, terms_by}
+use Rattle.mg_session.specs.LookLaws.{terms_one}
+use Rattle.mg_session.specs.Parts.{LineStepped, ReadsLexicon}
 use Rattle.mg_session.specs.SearchLaws.{same_texts, texts_later, weights_later}
 use Rattle.mg_session.specs.Searching.{Asked, MayStop, Opened, OpenedOver, Over, SameOpened, Searching}
 use Rattle.mg_session.proofs.AllowedLaws.{KeepsParts, allowed_behind, allowed_kept, allowed_none}
@@ -194,16 +196,18 @@ unfolding reply
 line_put code collection now line w0 w1 r0 r1 result replied = replied.put
 
 pub asked_one : (s t : Searching) (now : Settings) (line : List ℕ) (w0 w1 : Option (List ℕ)) (result : Result (Unit {0}) ShowErr) →
-    Stepped now.mode s.files t.files s.reads t.reads s.faults t.faults → SameOpened s.opened t.opened →
+    LineStepped now.mode (length (terms_by now.ranked line) * looks s.opened.lex.count) s.files t.files s.reads t.reads s.faults t.faults →
+    SameOpened s.opened t.opened →
     ((code : TextCode) (collection : List ℕ) → Over s code collection → Replied code collection now.ranked now line w0 w1 s.reads t.reads result) →
     Asked s t (record { now = now; line = line } ∷ [])
-unfolding line_allows line_text_bound answer_of
+unfolding line_allows line_terms line_text_bound answer_of
 asked_one s t now line w0 w1 result step same replied = record {
   files = step.files;
   faults = step.faults;
   same = same;
-  unread = λ p never. step.unread p (inl never);
-  texts_unread = λ none p of_text. step.unread p (inr (All-head (λ (q : Question). q.now.mode ≢ mode.Text) (record { now = now; line = line }) [] none, of_text));
+  unread = step.unread;
+  texts_unread = λ none p of_text. step.texts (All-head (λ (q : Question). q.now.mode ≢ mode.Text) (record { now = now; line = line }) [] none) p of_text;
+  looked = subst (λ n. ReadsLexicon s.reads t.reads (n * looks s.opened.lex.count)) (sym (terms_one line_terms (record { now = now; line = line }))) step.looked;
   allowed = λ code collection over.
       let a = (replied code collection over).allowed in
       record { post = omega (arith, a.post); skip = omega (arith, a.skip); weights = omega (arith, a.weights) };

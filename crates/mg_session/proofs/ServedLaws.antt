@@ -1,5 +1,5 @@
 -- What is told of a session's opening and of its lines is what its run did, whatever kind of session it is.
-use Rattle.std.proofs.Common.{arith, ◌≡◌, ◌≤◌, ◌∙◌, ◌⊎◌, ℕ, false, List, ◌++◌, Some, Ok, Err, IsSome, Option, refl, sym, ap, subst, inl, inr}
+use Rattle.std.proofs.Common.{arith, ◌≡◌, ◌+◌, ◌≤◌, ◌∙◌, ◌⊎◌, ℕ, false, List, ◌++◌, Some, Ok, Err, IsSome, Option, refl, sym, ap, subst, inl, inr}
 use Rattle.std.specs.Prelude.{Result, IfErr}
 use Rattle.mg_dev.specs.Causes.{Rose}
 use Rattle.mg_dev.specs.Files.{Files, Reads}
@@ -30,7 +30,7 @@ use Rattle.mg_layout.specs.declared.head.Head.{Head}
 use Rattle.mg_reply.proofs.CallerLemmas.{none_broken, none_in_turn}
 use Rattle.mg_reply.specs.Printed.{IsTooLong}
 use Rattle.mg_reply.specs.PrintedLines.{PrintRule}
-use Rattle.mg_session.specs.Opening.{HeadOpened, SetOpened}
+use Rattle.mg_session.specs.Opening.{HeadOpened, KeptByQueries, SetOpened}
 use Rattle.mg_session.specs.Served.{LineStops, LinesServed, Served}
 use Rattle.mg_session.specs.Serves.{IsFirst, ServeStops, StandsByNone}
 use Rattle.mg_session.proofs.SetLaws.{loaded_too}
@@ -51,13 +51,12 @@ run_of store store_now input input_now out out_now err err_now result = record {
   status = status_of result;
 }
 
--- no page of the lists, the weights or the text is read
-abbrev pub NoPages : Reads → Reads → Type 0
-NoPages before now = (now part.Post ≡ before part.Post) × (now part.Skip ≡ before part.Skip) × (now part.Text ≡ before part.Text)
-    × (now part.Weights ≡ before part.Weights)
+-- no part was read that is kept, and is not the head
+abbrev pub KeptReads : (Part → Type 0) → Reads → Reads → Type 0
+KeptReads IsKept before now = (p : Part) → IsKept p → 1 ≤ number p → now p ≡ before p
 
-pub parts_kept : {r s : Reads} → NoPages r s → KeepsParts r s
-parts_kept none = record { post = none.0; skip = none.1; weights = none.3 }
+pub parts_kept : {r s : Reads} → KeptReads KeptByQueries r s → KeepsParts r s
+parts_kept kept = record { post = kept part.Post tt (omega arith); skip = kept part.Skip tt (omega arith); weights = kept part.Weights tt (omega arith) }
 
 -- A kind of session: what it prints of a collection and an input, and what it reads; what its answerer's states are; and why these fit together.
 pub record Kind : Type 1 where
@@ -75,18 +74,19 @@ pub record Kind : Type 1 where
   pub MayStop : State → State → PartErr → Type 0
   pub IsOver : State → TextCode → List ℕ → Type 0
   pub reply : List ℕ → Settings → List ℕ → List ℕ
-  -- what is never read is neither the head nor read while a set is opened, and no page of the lists, the weights or the text is read then
+  -- what is never read is neither the head nor read while a set is opened, and the head is not read then
   pub behind_head : (p : Part) → IsUnread p → 1 ≤ number p
   pub never_opened : (p : Part) → IsUnread p → IsKept p
-  pub lists_kept : IsKept part.Post × IsKept part.Skip × IsKept part.Text × IsKept part.Weights
-  pub within_none : (code : TextCode) (collection given : List ℕ) (r0 r1 : Reads) → NoPages r0 r1 → IsWithin code collection given r0 r1
-  pub within_from : (code : TextCode) (collection given : List ℕ) (r0 r1 r2 : Reads) → NoPages r0 r1 → IsWithin code collection given r1 r2 → IsWithin code collection given r0 r2
+  pub head_kept : IsKept part.Head
+  pub within_none : (code : TextCode) (collection given : List ℕ) (r0 r1 : Reads) → KeptReads IsKept r0 r1 → IsWithin code collection given r0 r1
+  pub within_from : (code : TextCode) (collection given : List ℕ) (r0 r1 r2 : Reads) → KeptReads IsKept r0 r1 → IsWithin code collection given r1 r2 → IsWithin code collection given r0 r2
   -- over a collection it answers as the session of the collection does
   pub answers : (s : State) (code : TextCode) (collection : List ℕ) → IsOver s code collection → Answers s (reply collection)
   pub text_is : (collection given : List ℕ) → text collection given ≡ heard_session hearing (reply collection) given
   -- what it reads for the first query lines of an input
   pub files : (s t : State) (qs : List Question) → After s t qs → (at t).files ≡ (at s).files
   pub unread : (s t : State) (qs : List Question) → After s t qs → (p : Part) → IsUnread p → (at t).reads p ≡ (at s).reads p
+  pub head_unread : (s t : State) (qs : List Question) → After s t qs → (at t).reads part.Head ≡ (at s).reads part.Head
   pub within : (s t : State) (qs : List Question) (code : TextCode) (collection given : List ℕ) → After s t qs → (more : List Question) × (heard_questions hearing given ≡ qs ++ more)
       → IsOver s code collection → IsWithin code collection given (at s).reads (at t).reads
   -- why it stops
@@ -105,20 +105,10 @@ refused_as {A} {B} f g (inr (inr e)) = let same : f ≡ Memory = cc in inr (inr 
 
 -- ---- the opening
 
--- no page of the lists, the weights or the text is read with the head
-head_pages : (base : List ℕ) (s0 s1 : StoreAt) (r : Result Head Fault) → HeadOpened base s0 s1 r → NoPages s0.reads s1.reads
-head_pages base s0 s1 r h = (h.unread part.Post (omega arith), h.unread part.Skip (omega arith), h.unread part.Text (omega arith), h.unread part.Weights (omega arith))
-
--- nor while the set is opened
+-- what is kept is read neither with the head nor while the set is opened
 set_pages : {T : Type 0} (k : Kind) (IsOver : T → TextCode → List ℕ → Type 0) (counted : ℕ → Type 0) (head : Head) (base : List ℕ) (s0 s1 s2 : StoreAt) (r : Result Head Fault) (o : Result T Fault) →
-    HeadOpened base s0 s1 r → SetOpened IsOver k.IsKept counted head base s1 s2 o → NoPages s0.reads s2.reads
-set_pages k IsOver counted head base s0 s1 s2 r o h set =
-    let first = head_pages base s0 s1 r h in (
-      set.unread part.Post k.lists_kept.0 ∙ first.0,
-      set.unread part.Skip k.lists_kept.1 ∙ first.1,
-      set.unread part.Text k.lists_kept.2 ∙ first.2,
-      set.unread part.Weights k.lists_kept.3 ∙ first.3,
-    )
+    HeadOpened base s0 s1 r → SetOpened IsOver k.IsKept counted head base s1 s2 o → KeptReads k.IsKept s0.reads s2.reads
+set_pages k IsOver counted head base s0 s1 s2 r o h set = λ p kept high. set.unread p kept ∙ h.unread p high
 
 -- the files stand for a collection only where the set with the loaded head does
 pub stands_opened : (base : List ℕ) (s0 s1 : StoreAt) (head : Head) → HeadOpened base s0 s1 (Ok head) → (collection : List ℕ) →
@@ -140,11 +130,12 @@ is_there base s0 s1 head X h told none = absurd (no_empty_head _ _ (h.head told)
 -- ---- a session that stops before the first line
 
 -- what is told of the refusal is what the run did
-stopped : (k : Kind) (base : List ℕ) (s0 s1 : StoreAt) (i : SourceAt) (o e e1 : SinkAt) (f : Fault) → s1.files ≡ s0.files → NoPages s0.reads s1.reads →
+stopped : (k : Kind) (base : List ℕ) (s0 s1 : StoreAt) (i : SourceAt) (o e e1 : SinkAt) (f : Fault) → s1.files ≡ s0.files → KeptReads k.IsKept s0.reads s1.reads →
+    s1.reads part.Head ≤ s0.reads part.Head + 1 →
     ((p : Part) → k.IsUnread p → s1.reads p ≡ s0.reads p) →
     ServeStops k.IsCounted base (StoreRose s0 s1) (SourceRose i i) (SinkRose o o) s0.files i.left f → (IsSome s0.files → HasNoHead s0.files base → RefusedFor {T = Unit {0}} (Err f) NotBuilt) →
     ServedAs k base (run_of s0 s1 i i o o e e1 (Err f))
-stopped k base s0 s1 i o e e1 f files pages unread cause not_built = record {
+stopped k base s0 s1 i o e e1 f files pages once unread cause not_built = record {
   done = λ collection given stands some end. when_ok {T = Unit {0}} _ (Err f) end tt;
   left = λ given some end. when_ok {T = Unit {0}} _ (Err f) end tt;
   within = λ given some end. when_ok {T = Unit {0}} _ (Err f) end tt;
@@ -158,12 +149,13 @@ stopped k base s0 s1 i o e e1 f files pages unread cause not_built = record {
   files = files;
   pages = λ head code collection given stands some. k.within_none code collection given s0.reads s1.reads pages;
   unread = unread;
+  head_page = once;
 }
 
 -- the head is refused
 pub head_stopped : (k : Kind) (base : List ℕ) (s0 s1 : StoreAt) (i : SourceAt) (o e e1 : SinkAt) (f : Fault) → HeadOpened base s0 s1 (Err f) → ServedAs k base (run_of s0 s1 i i o o e e1 (Err f))
 head_stopped k base s0 s1 i o e e1 f h =
-    stopped k base s0 s1 i o e e1 f h.files (head_pages base s0 s1 (Err f) h) (λ p never. h.unread p (k.behind_head p never))
+    stopped k base s0 s1 i o e e1 f h.files (λ p kept high. h.unread p high) h.once (λ p never. h.unread p (k.behind_head p never))
     (open_stops f (StoreRose s0 s1) (StoreRose s0 s1) (SourceRose i i) (SinkRose o o) (IsSome s0.files → HasNoHead s0.files base) (IsSome s0.files → HasNoHead s0.files base)
     (StandsForNone s0.files base) (StandsForNone s0.files base) (λ n. ⊥) (k.IsCounted s0.files base) i.left (λ rose. rose) (λ none. none) (λ bad. bad) (λ n never. absurd never) h.cause)
     (λ told none. refused_as {A = Head} {B = Unit {0}} f NotBuilt (h.not_built told none))
@@ -175,6 +167,7 @@ pub set_stopped : {T : Type 0} (k : Kind) (IsOver : T → TextCode → List ℕ 
     ServedAs k base (run_of s0 s2 i i o o e e1 (Err f))
 set_stopped k IsOver counted base s0 s1 s2 i o e e1 head f h set counts =
     stopped k base s0 s2 i o e e1 f (set.files ∙ h.files) (set_pages k IsOver counted head base s0 s1 s2 (Ok head) (Err f) h set)
+    (omega (arith, h.once, set.unread part.Head k.head_kept))
     (λ p never. set.unread p (k.never_opened p never) ∙ h.unread p (k.behind_head p never))
     (open_stops f (StoreRose s1 s2) (StoreRose s0 s2) (SourceRose i i) (SinkRose o o) ⊥ (IsSome s0.files → HasNoHead s0.files base)
     (StandsByNone head s1.files base) (StandsForNone s0.files base) counted (k.IsCounted s0.files base) i.left (λ rose. omega (arith, h.faults, rose)) (λ none. absurd none)
@@ -232,6 +225,7 @@ lines_served k IsOver counted base s0 s1 old new i i1 o o1 e e1 head opened r h 
           (k.within old new lines.answered.answered code collection given lines.answered.after (lines.answered.first given some) (is_over code collection (set.over code collection by)));
       unread = λ p never.
           k.unread old new lines.answered.answered lines.answered.after p never ∙ set.unread p (k.never_opened p never) ∙ h.unread p (k.behind_head p never);
+      head_page = omega (arith, h.once, set.unread part.Head k.head_kept, k.head_unread old new lines.answered.answered lines.answered.after);
     }
 
 -- ---- where nothing stands in the way

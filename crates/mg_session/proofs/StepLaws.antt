@@ -1,5 +1,5 @@
 -- Steps of a session: what they leave of the store, and their causes.
-use Rattle.std.proofs.Common.{arith, ◌≡◌, ◌≢◌, ◌⊎◌, inl, inr, ℕ, suc, ◌≤◌, false, true, Ok, Err, refl, ◌∙◌, ap}
+use Rattle.std.proofs.Common.{arith, ◌≡◌, ◌≢◌, ◌⊎◌, inl, inr, ℕ, suc, ◌≤◌, false, true, Ok, Err, refl, sym, ◌∙◌, ap, subst}
 use Rattle.std.specs.declared.option.Option.{Option}
 use Rattle.std.specs.declared.result.Result.{Result}
 use Rattle.mg_defs.specs.declared.session.Mode.{Mode}
@@ -15,7 +15,8 @@ use Rattle.mg_front.specs.Reading.{LookedAt}
 use Rattle.mg_post.specs.TermLists.{ReadsLists}
 use Rattle.mg_rank.specs.Ranked.{ReadsRanked}
 use Rattle.mg_session.specs.Answering.{HasShowCause, IsFailureCaused}
-use Rattle.mg_session.specs.Parts.{NeverRead, ShownIn, Stepped, UnreadIn, is_of_text, is_shown_from}
+use Rattle.mg_session.specs.LookLaws.{looks_kept, looks_none}
+use Rattle.mg_session.specs.Parts.{IsOpened, LineStepped, NeverRead, ReadsLexicon, ShownIn, Stepped, UnreadByLines, UnreadIn, is_of_text, is_shown_from}
 use Rattle.mg_session.proofs.AllowedLaws.{KeepsParts}
 
 -- ---- what is left of the store
@@ -121,20 +122,76 @@ same_false : (p q : Part) (low high : ℕ) → (number p ≤ low) ⊎ (high ≤ 
 same_false p q low high (inl less) above below = grind (arith, less, above)
 same_false p q low high (inr more) above below = grind (arith, more, below)
 
--- a part that is not read is none of those of the lexicon, the lists and the weights
-unread_part : (w : Mode) (p : Part) → UnreadIn w p → (number p ≤ 4) ⊎ (10 ≤ number p)
+-- a part that is read before the lists is one of the first seven, and no document is decoded from it
+opened_early : (p : Part) → IsOpened p → (number p ≤ 6) × (is_of_text p ≡ false)
+opened_early part.Head opened = (omega arith, refl)
+opened_early part.Words opened = absurd opened
+opened_early part.Nonwords opened = absurd opened
+opened_early part.Text opened = absurd opened
+opened_early part.Places opened = absurd opened
+opened_early part.Lex opened = (omega arith, refl)
+opened_early part.LexAt opened = (omega arith, refl)
+opened_early part.Post opened = absurd opened
+opened_early part.Skip opened = absurd opened
+opened_early part.Weights opened = absurd opened
+opened_early part.Run opened = absurd opened
+opened_early part.MergeA opened = absurd opened
+opened_early part.MergeB opened = absurd opened
+opened_early part.Plain opened = absurd opened
+
+-- a part that is not read behind the look-up is none of those of the lists and the weights
+unread_part : (w : Mode) (p : Part) → UnreadIn w p → (number p ≤ 6) ⊎ (10 ≤ number p)
 unread_part w p (inl never) = inr (never_early p never)
-unread_part w p (inr more) = inl (text_early p more.1)
+unread_part w p (inr (inl opened)) = inl (opened_early p opened).0
+unread_part w p (inr (inr more)) = inl (omega (arith, text_early p more.1))
 
-unread_than : (w : Mode) (p q : Part) → UnreadIn w p → 5 ≤ number q → number q ≤ 9 → p ≢ q
-unread_than w p q unread above below = outside p q 4 10 (unread_part w p unread) above (omega (arith, below))
+unread_than : (w : Mode) (p q : Part) → UnreadIn w p → 7 ≤ number q → number q ≤ 9 → p ≢ q
+unread_than w p q unread above below = outside p q 6 10 (unread_part w p unread) above (omega (arith, below))
 
-pub lex_step : (w : Mode) (f g : Option Files) (r s : Reads) (m n : ℕ) → LookedAt part.Lex part.LexAt f g r s m n → Stepped w f g r s m n
-lex_step w f g r s m n looked = record {
+-- ---- the lexicon
+
+-- a look at the lexicon reads no part that is none of the sixth and seventh
+look_unread : {f g : Option Files} {r s : Reads} {m n : ℕ} (p : Part) → LookedAt part.Lex part.LexAt f g r s m n → (number p ≤ 4) ⊎ (10 ≤ number p) → s p ≡ r p
+look_unread p looked outer =
+    looked.others p (same_false p part.Lex 4 10 outer (omega arith) (omega arith)) (same_false p part.LexAt 4 10 outer (omega arith) (omega arith))
+
+by_lines_part : (p : Part) → UnreadByLines p → (number p ≤ 4) ⊎ (10 ≤ number p)
+by_lines_part p (inl never) = inr (never_early p never)
+by_lines_part p (inr head) = inl (omega (arith, ap number head))
+
+-- the terms of a line were looked up
+pub line_looked : (w : Mode) {places : ℕ} {f g : Option Files} {r s : Reads} {m n : ℕ} → LookedAt part.Lex part.LexAt f g r s m n →
+    ReadsLexicon r s places → LineStepped w places f g r s m n
+line_looked w looked reads = record {
   files = looked.files;
   faults = looked.faults;
-  unread = λ p unread. looked.others p (same_false p part.Lex 4 10 (unread_part w p unread) (omega arith) (omega arith))
-      (same_false p part.LexAt 4 10 (unread_part w p unread) (omega arith) (omega arith));
+  unread = λ p unread. look_unread p looked (by_lines_part p unread);
+  texts = λ none p of_text. look_unread p looked (inl (text_early p of_text));
+  looked = reads;
+}
+
+-- and then lists and documents were read
+pub line_then : {w : Mode} {places : ℕ} {f g h : Option Files} {r s t : Reads} {k m n : ℕ} → LineStepped w places f g r s k m → Stepped w g h s t m n →
+    LineStepped w places f h r t k n
+line_then a b = record {
+  files = b.files ∙ a.files;
+  faults = omega (arith, a.faults, b.faults);
+  unread = λ p unread. b.unread p (by_lines_too p unread) ∙ a.unread p unread;
+  texts = λ none p of_text. b.unread p (inr (inr (none, of_text))) ∙ a.texts none p of_text;
+  looked = looks_kept a.looked (b.unread part.Lex (inr (inl tt))) (b.unread part.LexAt (inr (inl tt)));
+}
+  where
+    by_lines_too : {w : Mode} (p : Part) → UnreadByLines p → UnreadIn w p
+    by_lines_too p (inl never) = inl never
+    by_lines_too p (inr head) = inr (inl (subst IsOpened (sym head) tt))
+
+pub line_none : (w : Mode) (places : ℕ) (f : Option Files) (r : Reads) (n : ℕ) → LineStepped w places f f r r n n
+line_none w places f r n = record {
+  files = refl;
+  faults = omega arith;
+  unread = λ p unread. refl;
+  texts = λ none p of_text. refl;
+  looked = looks_none r places;
 }
 
 pub lists_step : (w : Mode) (f g : Option Files) (r s : Reads) (m n : ℕ) → g ≡ f → m ≤ n → ReadsLists r s → Stepped w f g r s m n
@@ -157,7 +214,8 @@ ranked_step w f g r s m n files later reads = record {
 shown_not : (w : Mode) (p : Part) → UnreadIn w p → is_shown_from w p ≡ false
 shown_not mode.Docnums p unread = refl
 shown_not mode.Text p (inl never) = never_text p never
-shown_not mode.Text p (inr more) = absurd (more.0 refl)
+shown_not mode.Text p (inr (inl opened)) = (opened_early p opened).1
+shown_not mode.Text p (inr (inr more)) = absurd (more.0 refl)
 shown_not mode.Count p unread = refl
 
 pub shown_step : (w : Mode) (f g : Option Files) (r s : Reads) (m n : ℕ) → ShownIn w f g r s m n → Stepped w f g r s m n
@@ -192,9 +250,6 @@ not_shown mode.Docnums p is = refl
 not_shown mode.Text p is = is
 not_shown mode.Count p is = refl
 
-pub shown_post : (w : Mode) (f g : Option Files) (r s : Reads) (m n : ℕ) → ShownIn w f g r s m n → s part.Post ≡ r part.Post
-shown_post w f g r s m n shown = shown.others part.Post (not_shown w part.Post refl)
-
 pub shown_keeps : {w : Mode} {f g : Option Files} {r s : Reads} {m n : ℕ} → ShownIn w f g r s m n → KeepsParts r s
 shown_keeps {w} shown = record {
   post = shown.others part.Post (not_shown w part.Post refl);
@@ -206,10 +261,7 @@ shown_keeps {w} shown = record {
 pub lex_keeps : {f g : Option Files} {r s : Reads} {m n : ℕ} → LookedAt part.Lex part.LexAt f g r s m n → KeepsParts r s
 lex_keeps looked = record { post = looked.others part.Post refl refl; skip = looked.others part.Skip refl refl; weights = looked.others part.Weights refl refl }
 
--- neither Post nor Text is read
-pub lex_post : (f g : Option Files) (r s : Reads) (m n : ℕ) → LookedAt part.Lex part.LexAt f g r s m n → s part.Post ≡ r part.Post
-lex_post f g r s m n looked = looked.others part.Post refl refl
-
+-- nor is Text
 pub lex_text : (f g : Option Files) (r s : Reads) (m n : ℕ) → LookedAt part.Lex part.LexAt f g r s m n → s part.Text ≡ r part.Text
 lex_text f g r s m n looked = looked.others part.Text refl refl
 

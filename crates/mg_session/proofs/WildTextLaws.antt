@@ -409,7 +409,7 @@ all_put {T} {E} {w0} {w1} {w2} w3 {p0} {p1} {p2} {rows} {more} result none passe
 
 -- ---- what is left of the store
 
-unread_post : (p : Part) → NeverReadByPatterns p → p ≢ part.Post
+pub unread_post : (p : Part) → NeverReadByPatterns p → p ≢ part.Post
 unread_post part.Head never = absurd never
 unread_post part.Words never = λ e. absurd cc
 unread_post part.Nonwords never = λ e. absurd cc
@@ -432,5 +432,5 @@ pub lists_read : (f g : Option Files) (r s : Reads) (m n : ℕ) → g ≡ f → 
 lists_read f g r s m n files later reads = record {
   files = files;
   faults = later;
-  unread = λ p never. reads.others p (unread_post p never);
+  unread = reads.others;
 }

@@ -1,5 +1,5 @@
 -- What a call does to the parts that it takes and to its devices, whatever it answers, and why it stops: the moment before it and the one after it.
-use Rattle.std.specs.Prelude.{◌≡◌, ℕ, ◌+◌, ◌≤◌, List}
+use Rattle.std.specs.Prelude.{◌≡◌, ℕ, ◌+◌, ◌≤◌, List, ◌*◌}
 use Rattle.std.specs.declared.option.Option.{Option}
 use Rattle.std.specs.declared.result.Result.{Result}
 use Rattle.mg_dev.specs.Causes.{HasLack, HasPutCause}
@@ -12,9 +12,10 @@ use Rattle.mg_dev.specs.declared.sink.Sink as sinks
 use Rattle.mg_dev.specs.declared.store.Store as stores
 use Rattle.mg_defs.specs.CodedText.{TextCode}
 use Rattle.mg_defs.specs.declared.session.Mode.{Mode}
+use Rattle.mg_front.specs.Looks.{looks}
 use Rattle.mg_text.specs.Reading.{ShowIsNotBad}
 use Rattle.mg_session.specs.Answering.{HasShowCause, HasShowLack}
-use Rattle.mg_session.specs.Parts.{ShownIn, Stepped}
+use Rattle.mg_session.specs.Parts.{LineStepped, ShownIn}
 use Rattle.mg_session.specs.Searching.{Opened, SameOpened, SearchFits}
 use Rattle.mg_session.specs.Sessions.{ForText}
 use Rattle.mg_session.specs.Texts.{SameTexts, Texting, TextsFit}
@@ -87,14 +88,14 @@ pub record TextStep (texts texts_now : Texting) (before now : StoreAt) (out out_
 
 -- ---- the parts of a search
 
--- A line was answered in a mode from the open parts.
+-- A line of so many terms was answered in a mode from the open parts.
 pub record OpenedStep (opened opened_now : Opened) (before now : StoreAt) (out out_now : SinkAt)
-    (result : Result (Unit {0}) ShowErr) (m : Mode) : Type 0 where
+    (result : Result (Unit {0}) ShowErr) (m : Mode) (terms : ℕ) : Type 0 where
   -- what the readers keep agrees with the files, and the parts are the same
   pub fits : SearchFits now.files opened_now
   pub same : SameOpened opened opened_now
-  -- no file changes, and no part is read that a line in this mode does not read
-  pub step : Stepped m before.files now.files before.reads now.reads before.faults now.faults
+  -- no file changes, no part is read that a line in this mode does not read, and of the lexicon what its terms take
+  pub step : LineStepped m (terms * looks opened.lex.count) before.files now.files before.reads now.reads before.faults now.faults
   -- a failure has its cause, and so has the output's want of memory
   pub cause : HasShowCause result before.faults now.faults out.faults out_now.faults
   pub lack : HasShowLack out.lacks out_now.lacks result
@@ -133,9 +134,9 @@ StepsText of_store of_out store store_now out out_now result texts texts_now IsS
     (at_sink of_out out_now) result IsStep
 
 abbrev pub StepsOpened : {X Y : Type 0} → stores.Ghosts X → sinks.Ghosts Y → X → X → Y → Y →
-    Result (Unit {0}) ShowErr → Opened → Opened → Mode → Type 0
-StepsOpened of_store of_out store store_now out out_now result opened opened_now m = OpenedStep opened opened_now
+    Result (Unit {0}) ShowErr → Opened → Opened → Mode → ℕ → Type 0
+StepsOpened of_store of_out store store_now out out_now result opened opened_now m terms = OpenedStep opened opened_now
     (at_store of_store store)
     (at_store of_store store_now)
     (at_sink of_out out)
-    (at_sink of_out out_now) result m
+    (at_sink of_out out_now) result m terms

@@ -11,6 +11,7 @@ pub mod Showing
 pub mod Serves
 pub mod Opening
 pub mod Served
+pub mod LookLaws
 pub mod SearchLaws
 pub mod PrintedLaws
 pub mod PhraseAnswers

@@ -1,5 +1,5 @@
 -- What the opening of a set does, before a line of the input is read.
-use Rattle.std.specs.Prelude.{◌≡◌, ◌≤◌, ℕ, List, IsSome, IfOk, IfErr}
+use Rattle.std.specs.Prelude.{◌≡◌, ◌+◌, ◌≤◌, ℕ, List, IsSome, IfOk, IfErr}
 use Rattle.std.specs.declared.result.Result.{Result}
 use Rattle.mg_dev.specs.Moments.{StoreAt, StoreRose}
 use Rattle.mg_dev.specs.Files.{bytes_at}
@@ -38,6 +38,8 @@ pub record HeadOpened (base : List ℕ) (before now : StoreAt) (result : Result 
   pub files : now.files ≡ before.files
   pub faults : before.faults ≤ now.faults
   pub unread : (p : Part) → 1 ≤ number p → now.reads p ≡ before.reads p
+  -- and of the head at most one page
+  pub once : now.reads part.Head ≤ before.reads part.Head + 1
   -- what is loaded is the head of the files
   pub head : IfOk result (λ head. IsSome before.files → HasHead before.files base head)
   -- the cause of each refusal

@@ -1,5 +1,5 @@
 -- The answer to a phrase: the documents that have it, which are sought among those that have all its terms.
-use Rattle.std.specs.Prelude.{◌≡◌, ℕ, ◌+◌, ◌≤◌, nat_lt, Bool, true, false, List, [], ◌∷◌, ◌++◌, length, flat_map, sum_by, Option, Some, OnOk}
+use Rattle.std.specs.Prelude.{◌≡◌, ℕ, ◌+◌, ◌*◌, ◌≤◌, nat_lt, Bool, true, false, List, [], ◌∷◌, ◌++◌, length, flat_map, sum_by, Option, Some, OnOk}
 use Rattle.std.specs.declared.result.Result.{Result}
 use Rattle.mg_dev.specs.Files.{Reads}
 use Rattle.mg_dev.specs.Streams.{AfterPut}
@@ -14,16 +14,18 @@ use Rattle.mg_defs.specs.PlainSession.{plain_questions}
 use Rattle.mg_defs.specs.ShownAnswers.{Shown, plain, satisfying}
 use Rattle.mg_defs.specs.Sat.{Query}
 use Rattle.mg_defs.specs.Split.{documents}
-use Rattle.mg_defs.specs.Terms.{document}
+use Rattle.mg_defs.specs.Terms.{dictionary, document}
 use Rattle.mg_defs.specs.TextBounds.{doc_pages}
 use Rattle.mg_defs.specs.Texts.{row}
 use Rattle.mg_bool.specs.Matches.{Matching, left_of}
+use Rattle.mg_front.specs.Looks.{looks}
 use Rattle.mg_reply.specs.Pending.{AfterPass, Passed}
 use Rattle.mg_text.specs.Reading.{ShowIsNotBad}
 use Rattle.mg_session.specs.Answering.{ListsWalked}
 use Rattle.mg_session.specs.PagesAllowed.{ReadsAllowed}
-use Rattle.mg_session.specs.PhrasesAllowed.{phrase_allows, phrase_line_allows, phrases_allow}
+use Rattle.mg_session.specs.PhrasesAllowed.{phrase_allows, phrase_line_allows, phrases_allow, phrases_terms}
 use Rattle.mg_session.specs.declared.phrase_rows.PhraseRows.{PhraseRows}
+use Rattle.mg_session.specs.Parts.{ReadsLexicon}
 
 -- ---- rows
 
@@ -70,6 +72,8 @@ line_lists collection line = bound_as (joined_bound collection) (phrase_of line)
 -- no more pages are read than the lines allow, added up
 pub record ReadsPhrases (code : TextCode) (collection given : List ℕ) (before now : Reads) : Type 0 where
   pub allowed : ReadsAllowed (phrases_allow collection given) before now
+  -- of the lexicon those that the look-up of each word takes
+  pub looked : ReadsLexicon before now (length (phrases_terms given) * looks (length (dictionary collection)))
   pub text : now part.Text ≤ before part.Text + sum_by (line_pages code collection) (plain_questions (lines given))
 
 -- ---- an answer

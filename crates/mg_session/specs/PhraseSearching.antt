@@ -1,5 +1,5 @@
 -- What lines that are phrases do to a search over built files.
-use Rattle.std.specs.Prelude.{◌≡◌, ℕ, ◌+◌, ◌≤◌, List, length, sum_by}
+use Rattle.std.specs.Prelude.{◌≡◌, ℕ, ◌+◌, ◌≤◌, List, length, sum_by, ◌*◌, flat_map}
 use Rattle.std.specs.declared.option.Option.{Option}
 use Rattle.mg_dev.specs.Files.{Files}
 use Rattle.mg_dev.specs.declared.part.Part.TheVariants as part
@@ -8,10 +8,11 @@ use Rattle.mg_defs.specs.PhraseSession.{phrase_reply}
 use Rattle.mg_defs.specs.Session.{Question}
 use Rattle.mg_defs.specs.declared.session.Mode.TheVariants as mode
 use Rattle.mg_defs.specs.declared.session.Settings.{Settings}
-use Rattle.mg_session.specs.Parts.{Stepped}
+use Rattle.mg_session.specs.Parts.{LineStepped}
+use Rattle.mg_front.specs.Looks.{looks}
 use Rattle.mg_session.specs.PagesAllowed.{ReadsAllowed, sum_allows}
 use Rattle.mg_session.specs.PhraseAnswers.{line_pages}
-use Rattle.mg_session.specs.PhrasesAllowed.{phrase_line_allows}
+use Rattle.mg_session.specs.PhrasesAllowed.{phrase_line_allows, phrase_terms}
 use Rattle.mg_session.specs.Searching.{Opened, Over, SameOpened, SearchFits, Searching}
 
 -- it answers as a session of phrases over a collection does, whatever the settings are
@@ -30,8 +31,9 @@ pub record CanSeek (files : Option Files) (o : Opened) (words : List (List ℕ))
 
 -- these lines were answered in between
 pub record PhrasesAsked (s t : Searching) (questions : List Question) : Type 0 where
-  -- no file changed, no fault was forgotten, and no part was read that a session never reads
-  pub step : Stepped mode.Text s.files t.files s.reads t.reads s.faults t.faults
+  -- no file changed, no fault was forgotten, no part was read that a line never reads, and of the lexicon what the terms take
+  pub step : LineStepped mode.Text (length (flat_map (λ (q : Question). phrase_terms q.line) questions) * looks s.opened.lex.count)
+      s.files t.files s.reads t.reads s.faults t.faults
   -- the same parts are open
   pub same : SameOpened s.opened t.opened
   -- no more pages of the lists were read than the lines allow

@@ -1,5 +1,5 @@
 -- How queries and lines are answered, by what the types of the store and the output tell.
-use Rattle.std.specs.Prelude.{ℕ, Bool, List}
+use Rattle.std.specs.Prelude.{ℕ, Bool, List, length}
 use Rattle.std.specs.List.{IsDistinct}
 use Rattle.std.specs.Str.{bytes_eq}
 use Rattle.std.specs.declared.option.Option.{Option}
@@ -23,9 +23,10 @@ use Rattle.mg_session.specs.Answering.{Answered, AnswersFor, Replied}
 use Rattle.mg_session.specs.Calls.{StepsOpened, StepsText}
 use Rattle.mg_session.specs.Decided.{BooleanRow, PhraseRow, PrintsLine, PrintsMatches, PrintsPhrase, PrintsQuery, PrintsTerms, PrintsTold, PrintsWords, RanksTold}
 use Rattle.mg_session.specs.DocStands.{ArePlacesIn, AreRowsOf, IsDocOf}
-use Rattle.mg_session.specs.PagesAllowed.{PartPages, query_allows, ranked_allows}
+use Rattle.mg_session.specs.PagesAllowed.{PartPages, query_allows, ranked_allows, terms_by}
 use Rattle.mg_session.specs.Parts.{Stepped}
 use Rattle.mg_session.specs.PhraseAnswers.{DocumentSearched, PhraseAnswered, PhraseReplied}
+use Rattle.mg_session.specs.PhrasesAllowed.{phrase_terms}
 use Rattle.mg_session.specs.Searching.{Opened}
 use Rattle.mg_session.specs.Sessions.{ForOpened, ForText}
 use Rattle.mg_session.specs.Texts.{Texting}
@@ -193,7 +194,7 @@ AsksQuery of_store of_out store store_now out out_now result opened opened_now n
     (λ collection. query_allows collection q))
     (PrintsTold (of_out.written out) (of_out.written out_now) result (of_store.files store) opened q
     (BooleanRow (IsDocOf opened.texts (of_store.files store)) now))
-    (StepsOpened of_store of_out store store_now out out_now result opened opened_now now.mode)
+    (StepsOpened of_store of_out store store_now out out_now result opened opened_now now.mode (length (query_terms q)))
 
 -- distinct terms, which are ranked
 abbrev pub AsksTerms : {X Y : Type 0} → stores.Ghosts X → sinks.Ghosts Y → X → X → Y → Y →
@@ -203,7 +204,7 @@ AsksTerms of_store of_out store store_now out out_now result opened opened_now n
     (λ collection. ranked_allows collection now ts))
     (RanksTold (of_out.written out) (of_out.written out_now) result (of_store.files store) opened ts
     (AreRowsOf (IsDocOf opened.texts (of_store.files store)) now.mode))
-    (StepsOpened of_store of_out store store_now out out_now result opened opened_now now.mode)
+    (StepsOpened of_store of_out store store_now out out_now result opened opened_now now.mode (length ts))
 
 -- a line, ranked or Boolean
 abbrev pub AsksLine : {X Y : Type 0} → stores.Ghosts X → sinks.Ghosts Y → X → X → Y → Y →
@@ -211,7 +212,8 @@ abbrev pub AsksLine : {X Y : Type 0} → stores.Ghosts X → sinks.Ghosts Y → 
 AsksLine of_store of_out store store_now out out_now result opened opened_now is_ranked now line = AnsweredOver
     (RepliesTo of_store of_out store store_now out out_now result opened is_ranked now line)
     (PrintsLine (of_out.written out) (of_out.written out_now) result (of_store.files store) opened is_ranked now line)
-    (StepsOpened of_store of_out store store_now out out_now result opened opened_now now.mode)
+    (StepsOpened of_store of_out store store_now out out_now result opened opened_now now.mode
+    (length (terms_by is_ranked line)))
 
 -- a phrase of these words
 abbrev pub AsksWords : {X Y : Type 0} → stores.Ghosts X → sinks.Ghosts Y → X → X → Y → Y →
@@ -219,7 +221,7 @@ abbrev pub AsksWords : {X Y : Type 0} → stores.Ghosts X → sinks.Ghosts Y →
 AsksWords of_store of_out store store_now out out_now result opened opened_now words = AnsweredOver
     (AnswersWords of_store of_out store store_now out out_now result opened words)
     (PrintsWords (of_out.written out) (of_out.written out_now) result (of_store.files store) opened words)
-    (StepsOpened of_store of_out store store_now out out_now result opened opened_now mode.Text)
+    (StepsOpened of_store of_out store store_now out out_now result opened opened_now mode.Text (length words))
 
 -- a line that is a phrase
 abbrev pub AsksPhrase : {X Y : Type 0} → stores.Ghosts X → sinks.Ghosts Y → X → X → Y → Y →
@@ -227,7 +229,8 @@ abbrev pub AsksPhrase : {X Y : Type 0} → stores.Ghosts X → sinks.Ghosts Y �
 AsksPhrase of_store of_out store store_now out out_now result opened opened_now line = AnsweredOver
     (RepliesToPhrase of_store of_out store store_now out out_now result opened line)
     (PrintsPhrase (of_out.written out) (of_out.written out_now) result (of_store.files store) opened line)
-    (StepsOpened of_store of_out store store_now out out_now result opened opened_now mode.Text)
+    (StepsOpened of_store of_out store store_now out out_now result opened opened_now mode.Text
+    (length (phrase_terms line)))
 
 -- ---- patterns
 

@@ -12,13 +12,15 @@ use Rattle.mg_defs.specs.Session.{Question}
 use Rattle.mg_defs.specs.TextBounds.{line_text_bound}
 use Rattle.mg_defs.specs.declared.session.Mode.TheVariants as mode
 use Rattle.mg_defs.specs.declared.session.Settings.{Settings}
+use Rattle.mg_front.specs.Looks.{looks}
 use Rattle.mg_front.specs.Reading.{Fronted, SameParts}
 use Rattle.mg_layout.specs.declared.head.Head.{Head}
 use Rattle.mg_lex.specs.Reading.{LexStands}
 use Rattle.mg_post.specs.TermLists.{ListsStand}
 use Rattle.mg_rank.specs.Ranked.{WeightsStand}
 use Rattle.mg_text.specs.Reading.{IsText}
-use Rattle.mg_session.specs.PagesAllowed.{PartPages, ReadsAllowed, line_allows, sum_allows}
+use Rattle.mg_session.specs.LookLaws.{looks_more, looks_none}
+use Rattle.mg_session.specs.PagesAllowed.{PartPages, ReadsAllowed, line_allows, line_terms, sum_allows}
 use Rattle.mg_session.specs.Searching.{AnswersBy, AskForNoText, Asked, MayStop, Opened, Over, SameOpened, Searching}
 use Rattle.mg_session.specs.Texts.{SameTexts, Texting, TextsStand}
 
@@ -140,6 +142,7 @@ asked_none s = record {
   same = same_opened s.opened;
   unread = λ p never. refl;
   texts_unread = λ none p of_text. refl;
+  looked = looks_none s.reads _;
   allowed = λ code collection over. record { post = omega arith; skip = omega arith; weights = omega arith };
   shown = λ code collection over. omega arith;
 }
@@ -152,6 +155,7 @@ asked_more s t u xs ys a b = record {
   unread = λ p never. b.unread p never ∙ a.unread p never;
   texts_unread = λ none p of_text. b.texts_unread (ask_behind xs ys none) p of_text
       ∙ a.texts_unread (ask_before xs ys none) p of_text;
+  looked = looks_more line_terms xs ys (looks s.opened.lex.count) (looks t.opened.lex.count) (ap looks a.same.lex.count) a.looked b.looked;
   allowed = λ code collection over. allowed_more (line_allows collection) xs ys (a.allowed code collection over)
       (b.allowed code collection (over_later s t xs code collection a over));
   shown = λ code collection over. omega (

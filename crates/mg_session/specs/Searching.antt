@@ -1,5 +1,5 @@
 -- A state of a search over built files, and what a query line does to it.
-use Rattle.std.specs.Prelude.{◌≡◌, ◌≢◌, ℕ, ◌+◌, ◌≤◌, true, None, List, All, length, sum_by}
+use Rattle.std.specs.Prelude.{◌≡◌, ◌≢◌, ℕ, ◌+◌, ◌*◌, ◌≤◌, true, None, List, All, flat_map, length, sum_by}
 use Rattle.std.specs.declared.option.Option.{Option}
 use Rattle.mg_dev.specs.Causes.{Rose}
 use Rattle.mg_dev.specs.Files.{Files, Reads}
@@ -16,12 +16,13 @@ use Rattle.mg_defs.specs.Replies.{reply}
 use Rattle.mg_defs.specs.Session.{Question}
 use Rattle.mg_defs.specs.Split.{documents}
 use Rattle.mg_defs.specs.TextBounds.{line_text_bound}
+use Rattle.mg_front.specs.Looks.{looks}
 use Rattle.mg_front.specs.Reading.{Fronted, FrontFits, SameParts}
 use Rattle.mg_layout.specs.declared.head.Head.{Head}
 use Rattle.mg_lex.specs.Reading.{LexStands}
 use Rattle.mg_rank.specs.Ranked.{WeightsStand}
-use Rattle.mg_session.specs.PagesAllowed.{ReadsAllowed, lines_allow}
-use Rattle.mg_session.specs.Parts.{NeverRead, is_of_text}
+use Rattle.mg_session.specs.PagesAllowed.{ReadsAllowed, line_terms, lines_allow}
+use Rattle.mg_session.specs.Parts.{ReadsLexicon, UnreadByLines, is_of_text}
 use Rattle.mg_session.specs.Texts.{SameTexts, Texting, TextsFit, TextsStand}
 
 -- the parts of a base that are open: its lexicon and its text, and how many documents there are
@@ -101,10 +102,11 @@ pub record Asked (s t : Searching) (questions : List Question) : Type 0 where
   pub files : t.files ≡ s.files
   pub faults : s.faults ≤ t.faults
   pub same : SameOpened s.opened t.opened
-  pub unread : (p : Part) → NeverRead p → t.reads p ≡ s.reads p
+  pub unread : (p : Part) → UnreadByLines p → t.reads p ≡ s.reads p
   pub texts_unread : AskForNoText questions → (p : Part) → is_of_text p ≡ true → t.reads p ≡ s.reads p
   pub allowed : (code : TextCode) (collection : List ℕ) → Over s code collection →
       ReadsAllowed (lines_allow collection questions) s.reads t.reads
+  pub looked : ReadsLexicon s.reads t.reads (length (flat_map line_terms questions) * looks s.opened.lex.count)
   pub shown : (code : TextCode) (collection : List ℕ) → Over s code collection →
       t.reads part.Text ≤ s.reads part.Text + sum_by (line_text_bound code collection) questions
 

@@ -1,5 +1,5 @@
 -- What a session over files does, whatever its lines ask: the answering of its lines, and its whole run.
-use Rattle.std.specs.Prelude.{◌≡◌, ℕ, ◌≤◌, false, List, [], ◌∷◌, Some, IsSome, IsErrOf, OnOk, IfErr}
+use Rattle.std.specs.Prelude.{◌≡◌, ℕ, ◌+◌, ◌≤◌, false, List, [], ◌∷◌, Some, IsSome, IsErrOf, OnOk, IfErr}
 use Rattle.std.specs.declared.option.Option.{Option}
 use Rattle.std.specs.declared.result.Result.{Result}
 use Rattle.mg_dev.specs.Files.{Files, Reads}
@@ -10,6 +10,7 @@ use Rattle.mg_dev.specs.Streams.{AfterPut, appended, GrewByPrefix}
 use Rattle.mg_dev.specs.declared.fault.Fault.{Fault}
 use Rattle.mg_dev.specs.declared.fault.Fault.TheVariants.{StoreFault, ReadFault, WriteFault, NotBuilt, Damaged, Memory, InputTooLong}
 use Rattle.mg_dev.specs.declared.part.Part.{Part}
+use Rattle.mg_dev.specs.declared.part.Part.TheVariants as part
 use Rattle.mg_dev.specs.declared.part_err.PartErr.{PartErr}
 use Rattle.mg_dev.specs.declared.part_err.PartErr.TheVariants as err
 use Rattle.mg_dev.specs.declared.show_err.ShowErr.{ShowErr}
@@ -125,3 +126,5 @@ pub record Served (text : List ℕ → List ℕ → List ℕ) (hearing : Hearing
       StandsBy head code run.store.files base collection → run.input.left ≡ Some given
       → IsWithin code collection given run.store.reads run.store_now.reads
   pub unread : (p : Part) → IsUnread p → run.store_now.reads p ≡ run.store.reads p
+  -- and of the head at most one page, whatever the files hold
+  pub head_page : run.store_now.reads part.Head ≤ run.store.reads part.Head + 1

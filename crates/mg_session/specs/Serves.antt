@@ -1,5 +1,5 @@
 -- Why a session over files stops, and what it reads.
-use Rattle.std.specs.Prelude.{◌≡◌, ℕ, ◌+◌, ◌≤◌, true, List, IsSome}
+use Rattle.std.specs.Prelude.{◌≡◌, ℕ, ◌+◌, ◌*◌, ◌≤◌, true, List, IsSome, length}
 use Rattle.std.specs.Option.{ForSome}
 use Rattle.std.specs.declared.option.Option.{Option}
 use Rattle.mg_dev.specs.Files.{Files, Reads}
@@ -9,10 +9,13 @@ use Rattle.mg_dev.specs.declared.fault.Fault.TheVariants.{StoreFault, ReadFault,
 use Rattle.mg_defs.specs.CodedText.{TextCode}
 use Rattle.mg_defs.specs.InputLimit.{is_too_much}
 use Rattle.mg_defs.specs.Limits.{input_limit}
+use Rattle.mg_defs.specs.Terms.{dictionary}
 use Rattle.mg_defs.specs.TextBounds.{session_text_bound}
+use Rattle.mg_front.specs.Looks.{looks}
 use Rattle.mg_layout.specs.Stands.{ForSetBy, HasNoHead, StandsForNone}
 use Rattle.mg_layout.specs.declared.head.Head.{Head}
-use Rattle.mg_session.specs.PagesAllowed.{ReadsAllowed, session_allows}
+use Rattle.mg_session.specs.PagesAllowed.{ReadsAllowed, session_allows, session_terms}
+use Rattle.mg_session.specs.Parts.{ReadsLexicon}
 
 -- the cause of each refusal, by the faults of store, input and output, whether nothing is built, whether the files stand for none,
 -- which numbers of rotations are counted and are too many, and the input
@@ -57,4 +60,6 @@ StandsByNone head files base = ForSetBy head files base (λ code collection. ⊥
 -- no more pages are read than the query lines allow, added up
 pub record ReadsWithin (code : TextCode) (collection given : List ℕ) (before now : Reads) : Type 0 where
   pub allowed : ReadsAllowed (session_allows collection given) before now
+  -- of the lexicon those that the look-up of each term takes
+  pub looked : ReadsLexicon before now (length (session_terms given) * looks (length (dictionary collection)))
   pub text : now part.Text ≤ before part.Text + session_text_bound code collection given

@@ -1,5 +1,5 @@
 -- What a line of a session of patterns is answered from, and what is printed of it.
-use Rattle.std.specs.Prelude.{◌≡◌, ℕ, ◌+◌, ◌≤◌, List, length, sum_by}
+use Rattle.std.specs.Prelude.{◌≡◌, ◌≢◌, ℕ, ◌+◌, ◌≤◌, List, length, sum_by}
 use Rattle.std.specs.declared.option.Option.{Option}
 use Rattle.std.specs.declared.result.Result.{Result}
 use Rattle.mg_dev.specs.Files.{Files, Reads}
@@ -47,16 +47,16 @@ wild_pages collection line = pages_of collection (pattern_of line)
 pub record ReadsPatterns (code : TextCode) (collection given : List ℕ) (before now : Reads) : Type 0 where
   pub post : now part.Post ≤ before part.Post + sum_by (wild_pages collection) (plain_questions (lines given))
 
--- no file changed, no fault was forgotten, and no part was read that a session of patterns never reads
+-- no file changed, no fault was forgotten, and no part was read but Post
 pub record ReadsNoOther (files_before files_now : Option Files) (reads_before reads_now : Reads)
     (faults_before faults_now : ℕ) : Type 0 where
   pub files : files_now ≡ files_before
   pub faults : faults_before ≤ faults_now
-  pub unread : (p : Part) → NeverReadByPatterns p → reads_now p ≡ reads_before p
+  pub unread : (p : Part) → p ≢ part.Post → reads_now p ≡ reads_before p
 
 -- A pattern was answered.
 pub record PatternStep (before now : StoreAt) (out out_now : SinkAt) (result : Result (Unit {0}) ShowErr) : Type 0 where
-  -- no file changes, and no part is read that a session of patterns never reads
+  -- no file changes, and no part is read but the lists
   pub step : ReadsNoOther before.files now.files before.reads now.reads before.faults now.faults
   -- a failure has its cause, and so has the output's want of memory
   pub cause : HasShowCause result before.faults now.faults out.faults out_now.faults

@@ -1,14 +1,16 @@
 //! What the lexicon tells of the terms of a query.
-ghost use Rattle.std.specs.Prelude.{◌≡◌, ◌≤◌, IfOk, length};
+ghost use Rattle.std.specs.Prelude.{◌≡◌, ◌*◌, ◌≤◌, IfOk, length};
 ghost use Rattle.mg_dev.specs.Moments.{Between};
 ghost use Rattle.mg_dev.specs.PartCauses.{HasPartCause};
 ghost use Rattle.mg_dev.specs.declared.part.Part.TheVariants as part;
+ghost use Rattle.mg_front.specs.Looks.{looks};
 ghost use Rattle.mg_front.specs.Reading.{FrontFits, LookedAt, SameParts};
 ghost use Rattle.mg_bool.specs.Places.{AreInfos};
 ghost use Rattle.mg_rank.specs.Ranked.{AnswersOr};
 ghost use Rattle.mg_session.specs.Answering.{known_infos};
 ghost use Rattle.mg_session.specs.Decided.{TermsTold};
 ghost use Rattle.mg_session.specs.Sessions.{ForLexicon};
+ghost use Rattle.mg_session.specs.Parts.{ReadsLexicon};
 
 use mg_dev::{PartErr, Store};
 use mg_layout::TermInfo;
@@ -40,6 +42,8 @@ pub(crate) fn find_terms<S: Store>(
         TermsTold lex.old (S.files store.old) terms.now infos.items) }
     ensures looked { Between S.files S.reads S.faults store.old store.new
         (LookedAt part.Lex part.LexAt) }
+    ensures reads { ReadsLexicon (S.reads store.old) (S.reads store.new)
+        (length terms.now * looks lex.old.count) }
     ensures cause { HasPartCause (S.faults store.old) (S.faults store.new) result }
 {
     let mut infos = Vec::new(alloc);

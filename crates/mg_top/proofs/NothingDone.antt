@@ -23,7 +23,7 @@ use Rattle.mg_reply.proofs.CallerLemmas.{none_in_turn}
 use Rattle.mg_merge.specs.Merging.{budget_of}
 use Rattle.mg_session.specs.Serves as serves
 use Rattle.mg_session.specs.PagesAllowed.{PartPages, ReadsAllowed}
-use Rattle.mg_session.specs.Parts.{NeverRead}
+use Rattle.mg_session.specs.Parts.{NeverRead, ReadsLexicon}
 use Rattle.mg_session.specs.PhraseAnswers.{ReadsPhrases}
 use Rattle.mg_session.specs.Served.{Served}
 use Rattle.mg_session.specs.Serves.{ReadsWithin}
@@ -121,7 +121,11 @@ module _ (run : Run) (stops : Stops run Memory) (store : run.store_now ≡ run.s
     files = files;
     pages = λ head code c given stands some. within code c given;
     unread = λ p never. same_reads p;
+    head_page = rw (same_reads part.Head) (omega arith);
   }
+
+  nothing_looked : (places : ℕ) → ReadsLexicon run.store.reads run.store_now.reads places
+  nothing_looked places = record { places_read = rw (same_reads part.LexAt) (omega arith); strings_read = rw (same_reads part.Lex) (omega arith) }
 
   nothing_allowed : (most : PartPages) → ReadsAllowed most run.store.reads run.store_now.reads
   nothing_allowed most = record {
@@ -133,7 +137,7 @@ module _ (run : Run) (stops : Stops run Memory) (store : run.store_now ≡ run.s
   queried : (n : List ℕ) → Queried n run
   queried n = record {
     served = served session Commands reply ReadsWithin NeverRead serves.CountsNone n (λ code c given.
-        record { allowed = nothing_allowed _; text = rw (same_reads part.Text) (omega arith) });
+        record { allowed = nothing_allowed _; looked = nothing_looked _; text = rw (same_reads part.Text) (omega arith) });
     printed = λ given told some is. absurd (not_done is);
     answered_broken = λ given told some is. absurd (not_read is);
     complete = λ c given stands some short no_store no_input no_output. inr stops;
@@ -143,7 +147,7 @@ module _ (run : Run) (stops : Stops run Memory) (store : run.store_now ≡ run.s
   phrased : (n : List ℕ) → Phrased n run
   phrased n = record {
     served = served phrase_session Questions (λ c now. phrase_reply c) ReadsPhrases NeverRead serves.CountsNone n (λ code c given.
-        record { allowed = nothing_allowed _; text = rw (same_reads part.Text) (omega arith) });
+        record { allowed = nothing_allowed _; looked = nothing_looked _; text = rw (same_reads part.Text) (omega arith) });
     printed = λ given told some is. absurd (not_done is);
     answered_broken = λ given told some is. absurd (not_read is);
     complete = λ c given stands some short no_store no_input no_output. inr stops;

@@ -6,6 +6,8 @@ use Rattle.mg_layout.specs.declared.term_info.TermInfo.{TermInfo}
 use Rattle.mg_lex.specs.Stood.{TermTold}
 use Rattle.mg_session.specs.Answering.{FirstInfos}
 use Rattle.mg_session.specs.PrintedLaws.{told_as}
+use Rattle.mg_front.specs.Looks.{looks}
+use Rattle.mg_session.specs.LookLaws.{looks_most, looks_then, one_more, some_terms}
 use Rattle.mg_session.specs.SearchLaws.{lex_later, parts_then}
 use Rattle.mg_session.proofs.FindLaws.{infos_all, infos_more, told_more, told_of, told_or}
 use Rattle.mg_session.proofs.StepLaws.{looked_then}
@@ -33,6 +35,7 @@ loop-term-preserved g c = record {
       (told_more _ _ c.args.terms.now c.loop-term.term-index c.loop-term.infos.items c.in-Ok.info c.loop-term.invariant.size (c.loop-term.invariant.stood known)
       (subst (λ t. TermTold c.args.lex.now (g.S.Store.files c.args.store.now) t c.in-Ok.info) term told));
   size = omega (arith, ap length c.in-Ok-push.ensures.items, length-append c.loop-term.infos.items (c.in-Ok.info ∷ []), c.loop-term.invariant.size);
+  reads = looks_then (one_more c.loop-term.term-index _ _ (ap looks c.loop-term.invariant.same.count)) c.loop-term.invariant.reads c.in-Ok.ensures.reads;
 }
 
 pub returns-clause-answer : goal.returns-clause-answer
@@ -86,6 +89,22 @@ returns-in-Err-push-clause-looked g c = looked_then c.loop-term.invariant.looked
 
 pub returns-in-Err-push-clause-cause : goal.returns-in-Err-push-clause-cause
 returns-in-Err-push-clause-cause g c = record { later = omega (arith, c.loop-term.invariant.looked.faults, c.in-Ok.ensures.cause.later); device = tt }
+
+-- ---- what was read
+
+pub returns-in-Err-clause-reads : goal.returns-in-Err-clause-reads
+returns-in-Err-clause-reads g c =
+    looks_most (some_terms (c.loop-term.term-index + 1) (length c.args.terms.now) _ (omega (arith, c.loop-term-test.true)))
+    (looks_then (one_more c.loop-term.term-index _ _ (ap looks c.loop-term.invariant.same.count)) c.loop-term.invariant.reads c.in-Err.ensures.reads)
+
+pub returns-in-Err-push-clause-reads : goal.returns-in-Err-push-clause-reads
+returns-in-Err-push-clause-reads g c =
+    looks_most (some_terms (c.loop-term.term-index + 1) (length c.args.terms.now) _ (omega (arith, c.loop-term-test.true)))
+    (looks_then (one_more c.loop-term.term-index _ _ (ap looks c.loop-term.invariant.same.count)) c.loop-term.invariant.reads c.in-Ok.ensures.reads)
+
+pub returns-clause-reads : goal.returns-clause-reads
+returns-clause-reads g c =
+    looks_most (some_terms c.loop-term.term-index (length c.args.terms.now) _ (omega (arith, c.loop-term.auto.term-index-end))) c.loop-term.invariant.reads
 
 -- ---- all terms are looked up
 

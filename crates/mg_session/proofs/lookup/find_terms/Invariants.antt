@@ -1,10 +1,12 @@
-use Rattle.std.proofs.Common.{◌≡◌, ◌<◌, ℕ, List, [], length, get_or, slice_index_or, None, IsSome}
+use Rattle.std.proofs.Common.{◌≡◌, ◌<◌, ℕ, List, [], length, get_or, slice_index_or, None, IsSome, ◌*◌}
 use Rattle.mg_dev.specs.declared.part.Part.TheVariants as part
 use Rattle.mg_defs.specs.WithinLimits.{IsWithinLimits}
+use Rattle.mg_front.specs.Looks.{looks}
 use Rattle.mg_front.specs.Reading.{FrontFits, LookedAt, SameParts}
 use Rattle.mg_lex.specs.Reading.{LexStands}
 use Rattle.mg_lex.specs.Stood.{TermTold}
 use Rattle.mg_session.specs.Answering.{FirstInfos}
+use Rattle.mg_session.specs.Parts.{ReadsLexicon}
 use Rattle.mg_session.proofs.lookup.find_terms.Given as goal
 
 abbrev pub invariant-loop-term : goal.invariant-loop-term
@@ -18,4 +20,5 @@ invariant-loop-term g l = record {
   stood : IsSome (g.S.Store.files l.fn.store) → (k : ℕ) → k < l.term-index →
       TermTold l.fn.lex (g.S.Store.files l.fn.store) (get_or l.fn.terms k []) (slice_index_or l.infos.items k None);
   size : length l.infos.items ≡ l.term-index;
+  reads : ReadsLexicon (g.S.Store.reads l.fn.store) (g.S.Store.reads l.store) (l.term-index * looks l.fn.lex.count);
 }

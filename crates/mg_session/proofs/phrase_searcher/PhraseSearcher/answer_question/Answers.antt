@@ -1,9 +1,9 @@
-use Rattle.std.proofs.Common.{subst}
+use Rattle.std.proofs.Common.{ap, length, subst, sym}
 use Rattle.mg_query.specs.RefusalOf.{refusal_of}
 use Rattle.mg_session.specs.Decided.{PrintsWords}
 use Rattle.mg_session.proofs.DecidedLaws.{read_same, refused_printed}
-use Rattle.mg_session.proofs.CallLaws.{line_told, opened_unread}
-use Rattle.mg_session.proofs.PhraseReplyLaws.{line_answered, line_refused, line_words}
+use Rattle.mg_session.proofs.CallLaws.{line_told, opened_terms, opened_unread}
+use Rattle.mg_session.proofs.PhraseReplyLaws.{line_answered, line_refused, line_words, terms_read}
 use Rattle.mg_session.proofs.phrase_searcher.PhraseSearcher.answer_question.Goals as goal
 
 pub returns-in-Err : goal.returns-in-Err
@@ -25,5 +25,5 @@ returns-in-Ok g c = record {
   printed = λ ts is told.
       subst (λ xs. PrintsWords (g.O.Sink.written c.args.out.now) (g.O.Sink.written c.answer_parsed.new.out) c.answer_parsed.result
       (g.S.Store.files c.args.store.now) c.args.self.now xs) (read_same c.in-Ok.ensures.reads is) c.answer_parsed.ensures.printed;
-  stepped = c.answer_parsed.ensures.stepped;
+  stepped = opened_terms (sym (ap length (terms_read c.args.line.now c.in-Ok.phrase c.in-Ok.ensures.reads))) c.answer_parsed.ensures.stepped;
 }

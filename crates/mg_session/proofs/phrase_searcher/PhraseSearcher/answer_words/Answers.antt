@@ -8,6 +8,8 @@ use Rattle.mg_lex.specs.Reading.{LexStands}
 use Rattle.mg_query.specs.QueryOf.{query_of}
 use Rattle.mg_session.specs.Decided.{PhraseRow, PrintsTold, QueryToldPrinted, TermsTold}
 use Rattle.mg_session.specs.DocStands.{ArePlacesIn}
+use Rattle.mg_front.specs.Looks.{looks}
+use Rattle.mg_session.specs.LookLaws.{looks_for}
 use Rattle.mg_session.specs.Searching.{Opened, OpenedOver}
 use Rattle.mg_session.proofs.DecidedLaws.{joined_words, told_printed}
 use Rattle.mg_session.proofs.DocStandsLaws.{places_moved}
@@ -27,7 +29,8 @@ returns-in-Err g c = record {
       (lex_keeps c.in-Err.ensures.looked) (lex_text _ _ _ _ _ _ c.in-Err.ensures.looked);
   printed = λ t us words. tt;
   stepped = let e = c.in-Err.ensures in
-      opened_refused c.self.view_is c.requires.can.fits e.fits e.same e.looked c.in-Err.refusal c.from.ensures e.cause;
+      let reads = looks_for (looks c.self.inside.lex.count) c.as_slice.ensures e.reads in
+      opened_refused (length c.args.phrase.now) c.self.view_is c.requires.can.fits e.fits e.same e.looked reads c.in-Err.refusal c.from.ensures e.cause;
 }
 
 pub answer_phrase-requires-clause-size : goal.answer_phrase-requires-clause-size
@@ -35,7 +38,8 @@ answer_phrase-requires-clause-size g c =
     omega (arith, ap length c.deref.ensures.value, c.in-Ok.ensures.told.size, ap length c.as_slice.ensures, ap length (terms_joined c.args.phrase.now c.args.query.now c.requires.joined))
 
 pub answer_phrase-requires-clause-showable : goal.answer_phrase-requires-clause-showable
-answer_phrase-requires-clause-showable g c = let e = c.in-Ok.ensures in opened_showable c.self.view_is c.requires.can.fits e.fits e.same e.looked
+answer_phrase-requires-clause-showable g c = let e = c.in-Ok.ensures in opened_showable (length c.args.phrase.now) c.self.view_is c.requires.can.fits e.fits e.same e.looked
+    (looks_for (looks c.self.inside.lex.count) c.as_slice.ensures e.reads)
 
 pub returns : goal.returns
 returns g c = record {
@@ -66,5 +70,6 @@ returns g c = record {
       (told_printed (query_of c.args.query.now) (PhraseRow (ArePlacesIn c.self.inside.texts (g.S.Store.files c.find_terms.new.store) c.args.phrase.now)) _ _ c.answer_phrase.result
       c.self.view_is c.in-Ok.ensures.looked.files same c.answer_phrase.ensures.printed));
   stepped = let e = c.in-Ok.ensures in
-      opened_answered c.self.view_is c.requires.can.fits e.fits e.same e.looked c.answer_phrase.ensures.stepped;
+      let reads = looks_for (looks c.self.inside.lex.count) c.as_slice.ensures e.reads in
+      opened_answered (length c.args.phrase.now) c.self.view_is c.requires.can.fits e.fits e.same e.looked reads c.answer_phrase.ensures.stepped;
 }

@@ -6,6 +6,8 @@ use Rattle.mg_layout.specs.declared.term_info.TermInfo.{TermInfo}
 use Rattle.mg_lex.specs.Reading.{LexStands}
 use Rattle.mg_session.specs.Decided.{TermsTold, TermsToldPrinted}
 use Rattle.mg_session.specs.DocStands.{AreRowsOf, IsDocOf}
+use Rattle.mg_front.specs.Looks.{looks}
+use Rattle.mg_session.specs.LookLaws.{looks_for}
 use Rattle.mg_session.specs.Searching.{Opened, OpenedOver}
 use Rattle.mg_session.proofs.DecidedLaws.{told_ranked}
 use Rattle.mg_session.proofs.DocStandsLaws.{docs_moved}
@@ -23,14 +25,16 @@ returns-in-Err g c = record {
       (lex_keeps c.in-Err.ensures.looked) (lex_text _ _ _ _ _ _ c.in-Err.ensures.looked);
   printed = tt;
   stepped = let e = c.in-Err.ensures in
-      opened_refused c.self.view_is c.requires.fits e.fits e.same e.looked c.in-Err.refusal c.from.ensures e.cause;
+      let reads = looks_for (looks c.self.inside.lex.count) c.as_slice.ensures e.reads in
+      opened_refused (length c.args.terms.now) c.self.view_is c.requires.fits e.fits e.same e.looked reads c.in-Err.refusal c.from.ensures e.cause;
 }
 
 pub answer_terms-requires-clause-few : goal.answer_terms-requires-clause-few
 answer_terms-requires-clause-few g c = omega (arith, ap length c.deref.ensures.value, c.in-Ok.ensures.told.size, ap length c.as_slice.ensures, c.requires.few)
 
 pub answer_terms-requires-clause-showable : goal.answer_terms-requires-clause-showable
-answer_terms-requires-clause-showable g c = let e = c.in-Ok.ensures in opened_showable c.self.view_is c.requires.fits e.fits e.same e.looked
+answer_terms-requires-clause-showable g c = let e = c.in-Ok.ensures in opened_showable (length c.args.terms.now) c.self.view_is c.requires.fits e.fits e.same e.looked
+    (looks_for (looks c.self.inside.lex.count) c.as_slice.ensures e.reads)
 
 pub returns : goal.returns
 returns g c = record {
@@ -55,5 +59,6 @@ returns g c = record {
       (told_ranked (AreRowsOf (IsDocOf c.self.inside.texts (g.S.Store.files c.find_terms.new.store)) c.args.now.now.mode) _ _ c.answer_terms.result c.self.view_is same
       c.answer_terms.ensures.printed);
   stepped = let e = c.in-Ok.ensures in
-      opened_answered c.self.view_is c.requires.fits e.fits e.same e.looked c.answer_terms.ensures.stepped;
+      let reads = looks_for (looks c.self.inside.lex.count) c.as_slice.ensures e.reads in
+      opened_answered (length c.args.terms.now) c.self.view_is c.requires.fits e.fits e.same e.looked reads c.answer_terms.ensures.stepped;
 }

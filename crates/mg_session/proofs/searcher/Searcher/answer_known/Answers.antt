@@ -8,6 +8,8 @@ use Rattle.mg_layout.specs.declared.term_info.TermInfo.{TermInfo}
 use Rattle.mg_lex.specs.Reading.{LexStands}
 use Rattle.mg_session.specs.Decided.{BooleanRow, QueryToldPrinted, TermsTold}
 use Rattle.mg_session.specs.DocStands.{IsDocOf}
+use Rattle.mg_front.specs.Looks.{looks}
+use Rattle.mg_session.specs.LookLaws.{looks_for}
 use Rattle.mg_session.specs.Searching.{Opened, OpenedOver}
 use Rattle.mg_session.proofs.DecidedLaws.{told_printed}
 use Rattle.mg_session.proofs.DocStandsLaws.{docs_moved}
@@ -25,14 +27,16 @@ returns-in-Err g c = record {
       (lex_keeps c.in-Err.ensures.looked) (lex_text _ _ _ _ _ _ c.in-Err.ensures.looked);
   printed = tt;
   stepped = let e = c.in-Err.ensures in
-      opened_refused c.self.view_is c.requires.fits e.fits e.same e.looked c.in-Err.refusal c.from.ensures e.cause;
+      let reads = looks_for (looks c.self.inside.lex.count) (c.as_slice.ensures ∙ c.requires.terms) e.reads in
+      opened_refused (length (query_terms (query_of c.args.query.now))) c.self.view_is c.requires.fits e.fits e.same e.looked reads c.in-Err.refusal c.from.ensures e.cause;
 }
 
 pub answer_query-requires-clause-size : goal.answer_query-requires-clause-size
 answer_query-requires-clause-size g c = omega (arith, ap length c.deref.ensures.value, c.in-Ok.ensures.told.size, ap length c.as_slice.ensures, ap length c.requires.terms)
 
 pub answer_query-requires-clause-showable : goal.answer_query-requires-clause-showable
-answer_query-requires-clause-showable g c = let e = c.in-Ok.ensures in opened_showable c.self.view_is c.requires.fits e.fits e.same e.looked
+answer_query-requires-clause-showable g c = let e = c.in-Ok.ensures in opened_showable (length (query_terms (query_of c.args.query.now))) c.self.view_is c.requires.fits e.fits e.same e.looked
+    (looks_for (looks c.self.inside.lex.count) (c.as_slice.ensures ∙ c.requires.terms) e.reads)
 
 pub returns : goal.returns
 returns g c = record {
@@ -58,5 +62,6 @@ returns g c = record {
       (told_printed (query_of c.args.query.now) (BooleanRow (IsDocOf c.self.inside.texts (g.S.Store.files c.find_terms.new.store)) c.args.now.now) _ _ c.answer_query.result c.self.view_is
       c.in-Ok.ensures.looked.files same c.answer_query.ensures.printed);
   stepped = let e = c.in-Ok.ensures in
-      opened_answered c.self.view_is c.requires.fits e.fits e.same e.looked c.answer_query.ensures.stepped;
+      let reads = looks_for (looks c.self.inside.lex.count) (c.as_slice.ensures ∙ c.requires.terms) e.reads in
+      opened_answered (length (query_terms (query_of c.args.query.now))) c.self.view_is c.requires.fits e.fits e.same e.looked reads c.answer_query.ensures.stepped;
 }

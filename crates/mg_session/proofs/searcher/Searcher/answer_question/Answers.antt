@@ -9,7 +9,7 @@ returns-then-now g c = record {
       (g.S.Store.reads c.args.store.now) (g.S.Store.reads c.answer_ranked.new.store) c.answer_ranked.result) (sym c.if-now.true)
       (c.answer_ranked.ensures.answer code collection over);
   printed = rw c.if-now.true c.answer_ranked.ensures.printed;
-  stepped = c.answer_ranked.ensures.stepped;
+  stepped = rw c.if-now.true c.answer_ranked.ensures.stepped;
 }
 
 pub returns-else-now : goal.returns-else-now
@@ -19,5 +19,5 @@ returns-else-now g c = record {
       (g.O.Sink.written c.answer_boolean.new.out) (g.S.Store.reads c.args.store.now) (g.S.Store.reads c.answer_boolean.new.store) c.answer_boolean.result)
       (sym c.if-now.false) (c.answer_boolean.ensures.answer code collection over);
   printed = rw c.if-now.false c.answer_boolean.ensures.printed;
-  stepped = c.answer_boolean.ensures.stepped;
+  stepped = rw c.if-now.false c.answer_boolean.ensures.stepped;
 }

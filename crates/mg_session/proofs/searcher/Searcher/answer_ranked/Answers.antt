@@ -1,9 +1,10 @@
-use Rattle.std.proofs.Common.{subst}
+use Rattle.std.proofs.Common.{ap, length, subst, sym}
 use Rattle.mg_query.specs.RefusalOf.{refusal_of}
 use Rattle.mg_session.specs.Decided.{RanksTold}
 use Rattle.mg_session.specs.DocStands.{AreRowsOf, IsDocOf}
+use Rattle.mg_session.specs.PagesAllowed.{terms_as}
 use Rattle.mg_session.proofs.DecidedLaws.{read_same, refused_printed}
-use Rattle.mg_session.proofs.CallLaws.{line_told, opened_unread}
+use Rattle.mg_session.proofs.CallLaws.{line_told, opened_terms, opened_unread}
 use Rattle.mg_session.proofs.TermLaws.{line_terms}
 use Rattle.mg_session.proofs.ReplyLaws.{ranked_answered, ranked_refused}
 use Rattle.mg_session.proofs.searcher.Searcher.answer_ranked.Goals as goal
@@ -31,5 +32,5 @@ returns-in-Ok g c = record {
       subst (λ xs. RanksTold (g.O.Sink.written c.args.out.now) (g.O.Sink.written c.answer_distinct.new.out) c.answer_distinct.result
       (g.S.Store.files c.args.store.now) c.args.self.now xs
       (AreRowsOf (IsDocOf c.args.self.now.texts (g.S.Store.files c.args.store.now)) c.args.now.now.mode)) (read_same c.in-Ok.ensures.reads is) c.answer_distinct.ensures.printed;
-  stepped = c.answer_distinct.ensures.stepped;
+  stepped = opened_terms (sym (ap (λ r. length (terms_as (λ ts. ts) r)) c.in-Ok.ensures.reads)) c.answer_distinct.ensures.stepped;
 }
