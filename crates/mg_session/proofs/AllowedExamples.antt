@@ -8,6 +8,7 @@ use Rattle.mg_defs.specs.Commands.{command, words, dot_of, set_query, set_mode, 
 use Rattle.mg_defs.specs.Lists.{posting_bits, bits_after, last_doc, doc_before, bits_before, block_pages, lists_bits, lists_entries, entries_to}
 use Rattle.mg_defs.specs.PageBounds.{numbers, met_pages, whole_pages, pages_for, list_pages, asked_of, boolean_bound, line_bound, ranked_bound, session_bound}
 use Rattle.mg_defs.specs.Parse.{parse}
+use Rattle.mg_defs.specs.Patterns.{pattern_of, without_end_blanks}
 use Rattle.mg_defs.specs.Read.{boolean, ranked, query_of}
 use Rattle.mg_defs.specs.Session.{after_line, asked, ends, heard_questions, questions}
 use Rattle.mg_defs.specs.Phrases.{phrase_of}
@@ -18,6 +19,7 @@ use Rattle.mg_bool.specs.Places.{place_bound, term_entries}
 use Rattle.mg_session.specs.PagesAllowed.{line_allows, session_allows}
 use Rattle.mg_session.specs.PhraseAnswers.{joined_bound, line_lists}
 use Rattle.mg_session.specs.PhrasesAllowed.{phrase_line_allows, phrases_allow}
+use Rattle.mg_session.specs.WildAnswers.{pattern_blocks, pattern_pages, patterns_pages, wild_blocks}
 
 -- 'y x' and then 200 of one x
 abbrev many : List ℕ
@@ -52,3 +54,18 @@ phrase_blocks : (line_lists many (codes "x") ≡ 4) × (line_lists many (codes "
 unfolding golomb unary ones short shorter ceil_log2 gamma parse digits filled sign_of phrase_of posting_bits bits_after last_doc doc_before bits_before block_pages
     lists_bits numbers met_pages whole_pages pages_for list_pages asked_of boolean_bound joined_bound
 phrase_blocks = (refl, refl)
+
+-- ---- patterns
+
+-- one page of Post for the list of each term that matches
+patterns : patterns_pages many (codes "x*\n*\nz*\n(\n") ≡ 3
+unfolding golomb unary ones short shorter ceil_log2 gamma parse digits filled pattern_of without_end_blanks posting_bits bits_after last_doc doc_before bits_before
+    lists_bits pattern_pages patterns_pages plain_questions asked_plainly
+    ends command words dot_of set_query set_mode set_most set_of value is_most
+patterns = refl
+
+-- those of the lists' blocks of the first two
+pattern_by_blocks : (wild_blocks many (codes "x*") ≡ 4) × (wild_blocks many (codes "*") ≡ 5)
+unfolding golomb unary ones short shorter ceil_log2 gamma parse digits filled pattern_of without_end_blanks posting_bits bits_after last_doc doc_before bits_before block_pages
+    lists_bits numbers whole_pages list_pages ranked_bound pattern_blocks
+pattern_by_blocks = (refl, refl)

@@ -17,6 +17,7 @@ use Rattle.mg_defs.specs.Patterns.{Pattern, PatternLine, bad, matching, pattern_
 use Rattle.mg_defs.specs.PlainSession.{plain_questions}
 use Rattle.mg_defs.specs.Split.{documents}
 use Rattle.mg_defs.specs.WildSession.{match_text, wild_reply}
+use Rattle.mg_post.specs.PagesOnce.{span_pages}
 use Rattle.mg_post.specs.TermLists.{ListsStand}
 use Rattle.mg_text.specs.Reading.{ShowIsNotBad}
 use Rattle.mg_wild.specs.Loading.{HasTermsOf, TellsOf}
@@ -31,21 +32,32 @@ NeverReadByPatterns part.Lex = ⊥
 NeverReadByPatterns part.Post = ⊥
 NeverReadByPatterns _ = Unit {0}
 
--- the pages of Post that a pattern may read: those of the lists of the terms that match it
+-- the pages of Post that a pattern may read: those on which the list of each term lies that matches it
 unfoldable pub pattern_pages : List ℕ → Pattern → ℕ
-pattern_pages collection p = ranked_bound collection (matching collection p)
+pattern_pages collection p = sum_by (span_pages collection) (matching collection p)
+
+-- those of each block of these lists
+unfoldable pub pattern_blocks : List ℕ → Pattern → ℕ
+pattern_blocks collection p = ranked_bound collection (matching collection p)
 
 -- of a line; none where it is no pattern
-abbrev pub pages_of : List ℕ → PatternLine → ℕ
-pages_of collection (sides p) = pattern_pages collection p
-pages_of collection (bad at) = 0
+abbrev pub pages_of : (Pattern → ℕ) → PatternLine → ℕ
+pages_of pages (sides p) = pages p
+pages_of pages (bad at) = 0
 
 abbrev pub wild_pages : List ℕ → List ℕ → ℕ
-wild_pages collection line = pages_of collection (pattern_of line)
+wild_pages collection line = pages_of (pattern_pages collection) (pattern_of line)
 
--- no more pages of Post are read than the bounds of the lines add up to
+abbrev pub wild_blocks : List ℕ → List ℕ → ℕ
+wild_blocks collection line = pages_of (pattern_blocks collection) (pattern_of line)
+
+-- those of the lines of an input
+unfoldable pub patterns_pages : List ℕ → List ℕ → ℕ
+patterns_pages collection input = sum_by (wild_pages collection) (plain_questions (lines input))
+
+-- no more pages of Post are read than the lines allow, added up
 pub record ReadsPatterns (code : TextCode) (collection given : List ℕ) (before now : Reads) : Type 0 where
-  pub post : now part.Post ≤ before part.Post + sum_by (wild_pages collection) (plain_questions (lines given))
+  pub post : now part.Post ≤ before part.Post + patterns_pages collection given
 
 -- no file changed, no fault was forgotten, and no part was read but Post
 pub record ReadsNoOther (files_before files_now : Option Files) (reads_before reads_now : Reads)

@@ -1,5 +1,5 @@
 -- What is marked and passed on while a pattern is answered.
-use Rattle.std.specs.Prelude.{◌≡◌, ◌≢◌, ℕ, ◌+◌, ◌≤◌, ◌<◌, ◌||◌, List, [], All, length, get_or, map}
+use Rattle.std.specs.Prelude.{◌≡◌, ◌≢◌, ℕ, ◌+◌, ◌≤◌, ◌<◌, ◌||◌, List, [], All, length, get_or, map, sum_by}
 use Rattle.std.specs.List.{flat_map, list_any}
 use Rattle.std.specs.declared.result.Result.{Result}
 use Rattle.mg_dev.specs.Each.{ForEach}
@@ -11,12 +11,12 @@ use Rattle.mg_dev.specs.declared.part.Part.{Part}
 use Rattle.mg_dev.specs.declared.part.Part.TheVariants.{Post}
 use Rattle.mg_dev.specs.declared.part_err.PartErr.{PartErr}
 use Rattle.mg_dev.specs.declared.store.Store as stores
-use Rattle.mg_defs.specs.PageBounds.{ranked_bound}
 use Rattle.mg_defs.specs.Split.{documents}
 use Rattle.mg_defs.specs.Terms.{dictionary, docs, document}
 use Rattle.mg_defs.specs.Weights.{has_term}
 use Rattle.mg_defs.specs.WildSession.{term_row}
 use Rattle.mg_post.specs.ListReading.{ListReading}
+use Rattle.mg_post.specs.PagesOnce.{span_pages}
 use Rattle.mg_rank.specs.Ranked.{AnswersOr}
 use Rattle.mg_wild.specs.Terms.{LexTerms}
 use Rattle.mg_session.specs.Calls.{at_store}
@@ -78,9 +78,9 @@ pub record NumbersMarked (base : List ℕ) (terms : LexTerms) (all : ℕ) (numbe
     (before now : StoreAt) (result : Result (Unit {0}) PartErr) : Type 0 where
   -- where the lists and the terms are those of a collection, no list is refused for what it holds
   pub answer : ForEach (WildSources base before.files terms all) (MarksTerms numbers marked marked_now result)
-  -- and no more pages of Post are read than those of the terms' lists
+  -- and no more pages of Post are read than those on which the list of each term lies
   pub pages : ForEach (WildSources base before.files terms all) (λ collection. now.reads Post
-      ≤ before.reads Post + ranked_bound collection (terms_at collection numbers))
+      ≤ before.reads Post + sum_by (span_pages collection) (terms_at collection numbers))
   pub step : MarkStep all marked_now before now result
 
 -- by what the type of the store tells

@@ -8,6 +8,7 @@ ghost use Rattle.mg_post.specs.PagesOnce.{span_pages};
 ghost use Rattle.mg_session.specs.PagesAllowed.{session_allows, session_terms};
 ghost use Rattle.mg_session.specs.PhraseAnswers.{line_lists};
 ghost use Rattle.mg_session.specs.PhrasesAllowed.{phrases_allow, phrases_terms};
+ghost use Rattle.mg_session.specs.WildAnswers.{patterns_pages, wild_blocks};
 
 use mg_bool::query_bound_is_the_lesser;
 
@@ -42,3 +43,10 @@ pub fn phrase_lines_allow()
 {
     query_bound_is_the_lesser();
 }
+
+/// The pages of Post that the lines of an input may read, each a pattern: no more than those of each block
+/// of the lists of the terms that match.
+pub fn pattern_lines_allow()
+    ensures { (collection given : List ℕ) → patterns_pages collection given
+        ≤ sum_by (wild_blocks collection) (plain_questions (lines given)) }
+{}

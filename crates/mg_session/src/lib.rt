@@ -34,7 +34,7 @@ mod wild_answer;
 mod wild_searcher;
 mod word_texts;
 
-pub use laws::{phrase_lines_allow, query_lines_allow};
+pub use laws::{pattern_lines_allow, phrase_lines_allow, query_lines_allow};
 pub use phrase::serve_phrase;
 pub use session::serve;
 pub use wild::serve_wild;

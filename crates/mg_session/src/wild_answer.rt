@@ -1,10 +1,10 @@
 //! The answer to a pattern: the terms that match it, and the documents that have one of them.
 ghost use Rattle.std.specs.Prelude.{◌≡◌, ◌++◌, ℕ, [], ◌∷◌};
 ghost use Rattle.mg_dev.specs.Each.{ForEach};
-ghost use Rattle.mg_defs.specs.PageBounds.{list_pages};
 ghost use Rattle.mg_defs.specs.WildSession.{numbers_text, term_row};
 ghost use Rattle.mg_bits.specs.Pages.{Fits};
 ghost use Rattle.mg_post.specs.ListReading.{ForReader, SameSource, current_doc};
+ghost use Rattle.mg_post.specs.PagesOnce.{span_pages};
 ghost use Rattle.mg_rank.specs.Ranked.{ForTerm, PostWithin};
 ghost use Rattle.mg_reply.specs.Printed.{Passes, Puts};
 ghost use Rattle.mg_wild.specs.Patterns.{sides_of};
@@ -38,7 +38,7 @@ fn mark_postings<S: Store>(
     ensures answer { ForReader (S.files store.old) 0 reader.old
         (λ base collection t. MarksLists (t ∷ []) marked.old marked.new result collection) }
     ensures pages { ForReader (S.files store.old) 0 reader.old
-        (λ base collection t. PostWithin S.reads store.old store.new (list_pages collection t)) }
+        (λ base collection t. PostWithin S.reads store.old store.new (span_pages collection t)) }
     ensures stepped { StepsMarks S.Store store.old store.new result all marked.new }
 {
     let mut last = 0;
@@ -70,7 +70,7 @@ fn mark_list<S: Store>(
     ensures answer { ForTerm lists.now.base.now (S.files store.old) info.now lists.now.all
         (λ collection t. MarksLists (t ∷ []) marked.old marked.new result collection) }
     ensures pages { ForTerm lists.now.base.now (S.files store.old) info.now lists.now.all
-        (λ collection t. PostWithin S.reads store.old store.new (list_pages collection t)) }
+        (λ collection t. PostWithin S.reads store.old store.new (span_pages collection t)) }
     ensures stepped { StepsMarks S.Store store.old store.new result lists.now.all marked.new }
 {
     reader.open(info);

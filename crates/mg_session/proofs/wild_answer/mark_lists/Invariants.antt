@@ -1,6 +1,6 @@
-use Rattle.std.proofs.Common.{◌≡◌, ◌≤◌, ℕ, List, take}
+use Rattle.std.proofs.Common.{◌≡◌, ◌≤◌, ℕ, List, take, sum_by}
 use Rattle.mg_bits.specs.Pages.{Fits}
-use Rattle.mg_defs.specs.PageBounds.{ranked_bound}
+use Rattle.mg_post.specs.PagesOnce.{span_pages}
 use Rattle.mg_rank.specs.Ranked.{PostWithin}
 use Rattle.mg_session.specs.WildAnswers.{WildSources}
 use Rattle.mg_session.specs.WildMarks.{AddsLists, ReadsBase, ReadsPost, terms_at}
@@ -17,5 +17,5 @@ invariant-loop-number g l = record {
   added : (collection : List ℕ) → WildSources l.lists.base.now (g.S.Store.files l.fn.store) l.terms l.lists.all collection →
       AddsLists collection (terms_at collection (take l.number-index l.numbers)) l.fn.marked l.marked;
   post : (collection : List ℕ) → WildSources l.lists.base.now (g.S.Store.files l.fn.store) l.terms l.lists.all collection →
-      PostWithin g.S.Store.reads l.fn.store l.store (ranked_bound collection (terms_at collection (take l.number-index l.numbers)));
+      PostWithin g.S.Store.reads l.fn.store l.store (sum_by (span_pages collection) (terms_at collection (take l.number-index l.numbers)));
 }

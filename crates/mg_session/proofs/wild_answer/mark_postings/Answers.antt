@@ -1,6 +1,6 @@
 use Rattle.std.proofs.Common.{arith, ◌≤◌, ◌<◌, sym, ◌∙◌, subst, refl}
 use Rattle.mg_post.specs.TermLists.{ListsStand}
-use Rattle.mg_post.proofs.CallerLemmas.{none_at, pages_read}
+use Rattle.mg_post.proofs.CallerLemmas.{none_at, span_within}
 use Rattle.mg_session.proofs.WildListLaws.{caused_then, marking_end, marking_next, marking_start, or_list, post_same, post_then}
 use Rattle.mg_session.proofs.wild_answer.mark_postings.Goals as goal
 
@@ -63,7 +63,7 @@ loop-last-preserved g c =
       post = λ base collection t stand list.
           let stand2 = subst (λ fs. ListsStand base fs collection) (sym inv.files) stand in
           let f = inv.list base collection t stand list in
-          let more = c.in-Ok-Some.ensures.post c.loop-last.last base collection t stand2 f in
+          let more = c.in-Ok-Some.ensures.once c.loop-last.last base collection t stand2 f in
           omega (arith, inv.post base collection t stand list, more);
     }
 
@@ -82,18 +82,18 @@ pub returns-in-Ok-None-clause-pages : goal.returns-in-Ok-None-clause-pages
 returns-in-Ok-None-clause-pages g c = λ base collection t stand list.
     let stand2 = subst (λ fs. ListsStand base fs collection) (sym c.loop-last.invariant.files) stand in
     let f = c.loop-last.invariant.list base collection t stand list in
-    omega (arith, c.loop-last.invariant.post base collection t stand list, c.next.ensures.most c.loop-last.last base collection t stand2 f)
+    omega (arith, c.loop-last.invariant.post base collection t stand list, c.next.ensures.once_most c.loop-last.last base collection t stand2 f)
 
 pub returns-in-Err-clause-pages : goal.returns-in-Err-clause-pages
 returns-in-Err-clause-pages g c = λ base collection t stand list.
     let stand2 = subst (λ fs. ListsStand base fs collection) (sym c.loop-last.invariant.files) stand in
     let f = c.loop-last.invariant.list base collection t stand list in
-    omega (arith, c.loop-last.invariant.post base collection t stand list, c.next.ensures.most c.loop-last.last base collection t stand2 f)
+    omega (arith, c.loop-last.invariant.post base collection t stand list, c.next.ensures.once_most c.loop-last.last base collection t stand2 f)
 
 pub returns-clause-pages : goal.returns-clause-pages
 returns-clause-pages g c = λ base collection t stand list.
     let f = c.loop-last.invariant.list base collection t stand list in
-    omega (arith, c.loop-last.invariant.post base collection t stand list, pages_read collection t c.loop-last.reader.reached f.reached)
+    omega (arith, c.loop-last.invariant.post base collection t stand list, span_within collection t c.loop-last.reader.reached f.reached)
 
 pub returns-in-Ok-None-clause-same : goal.returns-in-Ok-None-clause-same
 returns-in-Ok-None-clause-same g c =

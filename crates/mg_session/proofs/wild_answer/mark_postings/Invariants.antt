@@ -1,6 +1,6 @@
 use Rattle.std.proofs.Common.{◌-◌, ◌≡◌, ◌≤◌}
 use Rattle.mg_bits.specs.Pages.{Fits}
-use Rattle.mg_post.specs.ListReading.{ForReader, ReaderFor, SameSource, current_doc, read_pages}
+use Rattle.mg_post.specs.ListReading.{ForReader, ReaderFor, SameSource, current_doc, span_to}
 use Rattle.mg_rank.specs.Ranked.{PostWithin}
 use Rattle.mg_session.specs.WildMarks.{ReadsPost}
 use Rattle.mg_session.proofs.WildListLaws.{Marking}
@@ -19,7 +19,7 @@ invariant-loop-last g l = record {
   faults : g.S.Store.faults l.fn.store ≤ g.S.Store.faults l.store;
   walk : ForReader (g.S.Store.files l.fn.store) 0 l.fn.reader (λ base collection t. Marking collection t l.last l.fn.marked l.marked);
   list : ForReader (g.S.Store.files l.fn.store) 0 l.fn.reader (λ base collection t. ReaderFor base collection t l.last l.reader);
-  post : ForReader (g.S.Store.files l.fn.store) 0 l.fn.reader (λ base collection t. PostWithin g.S.Store.reads l.fn.store l.store (read_pages collection t l.reader));
+  post : ForReader (g.S.Store.files l.fn.store) 0 l.fn.reader (λ base collection t. PostWithin g.S.Store.reads l.fn.store l.store (span_to collection t l.reader.reached));
 }
 
 abbrev pub decreases-loop-last : goal.decreases-loop-last
