@@ -1,5 +1,6 @@
 -- A document's weight, and how many documents have each term, by the counts of its terms.
-use Rattle.std.proofs.Common.{arith, ◌≡◌, ◌+◌, ◌*◌, ◌-◌, ◌<◌, ◌≤◌, ◌^◌, ◌||◌, ℕ, suc, Bool, true, false, cond, nat_lt, min, List, [], ◌∷◌, ◌++◌, length, drop, get_or, slice_index, slice_set, map, filter, count_by, sum_by, All, refl, sym, ap, ◌∙◌, inl, inr, append_assoc, length-set}
+use Rattle.std.proofs.Common.{arith, ◌≡◌, ◌+◌, ◌*◌, ◌-◌, ◌<◌, ◌≤◌, ◌^◌, ◌||◌, ℕ, suc, Bool, true, false, cond, nat_lt, min, List, [], ◌∷◌, ◌++◌, length, drop, get_or, slice_index}
+use Rattle.std.proofs.Common.{slice_set, map, filter, count_by, sum_by, All, refl, sym, ap, ◌∙◌, inl, inr, append_assoc, length-set}
 use Rattle.std.specs.List.{AllByRecursion, enumerate_from, list_any}
 use Rattle.std.specs.List.Sorted.{IsStrictlySortedBy}
 use Rattle.std.specs.Ordering.{nat_cmp}

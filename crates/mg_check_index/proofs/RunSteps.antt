@@ -1,5 +1,6 @@
 -- Occurrences taken one after the other, with the runs that are compared.
-use Rattle.std.proofs.Common.{◌≡◌, ◌≢◌, ℕ, zero, suc, ◌+◌, ◌-◌, ◌*◌, ◌/◌, ◌<◌, ◌≤◌, ◌^◌, List, [], ◌∷◌, ◌++◌, length, Ok, Err, refl, sym, ap, ◌∙◌, subst, arith, take, drop, map, length-append, append-nil, append_assoc}
+use Rattle.std.proofs.Common.{◌≡◌, ◌≢◌, ℕ, zero, suc, ◌+◌, ◌-◌, ◌*◌, ◌/◌, ◌<◌, ◌≤◌, ◌^◌, List, [], ◌∷◌, ◌++◌, length, Ok, Err, refl, sym, ap, ◌∙◌, subst, arith, take, drop, map}
+use Rattle.std.proofs.Common.{length-append, append-nil, append_assoc}
 use Rattle.std.specs.declared.option.Option.{Option}
 use Rattle.std.specs.declared.result.Result.{Result}
 use Rattle.std.proofs.lemmas.Grind.{common_steps}
@@ -14,7 +15,8 @@ use Rattle.mg_defs.specs.Postings.{once, gathered, term_postings}
 use Rattle.mg_defs.specs.Runs.{first_runs, runs_of}
 use Rattle.mg_runs.specs.FinishedRuns.{finished}
 use Rattle.mg_defs.specs.RunBits.{run_part_bits, runs_bits}
-use Rattle.mg_runs.proofs.CallerLemmas.{drop_all, drop_end, entries_of, finished-full, finished-low, finished-room, first_runs-full, first_runs-more, length_end, length_rest, map_end, none_finished, occurrences_drop, occurrences_end, rest_fits, runs_of_last, runs_of_none}
+use Rattle.mg_runs.proofs.CallerLemmas.{drop_all, drop_end, entries_of, finished-full, finished-low, finished-room, first_runs-full, first_runs-more, length_end, length_rest}
+use Rattle.mg_runs.proofs.CallerLemmas.{map_end, none_finished, occurrences_drop, occurrences_end, rest_fits, runs_of_last, runs_of_none}
 use Rattle.mg_runs.specs.Bytes.{AreEntries}
 use Rattle.mg_runs.specs.Fed.{IsOccurrence, cap_of}
 use Rattle.mg_check_index.specs.Counting.{HasBegun, HasTaken, RunReading}

@@ -95,6 +95,11 @@ pub record SameRooms (old new : Ranged) : Type 0 where
   pub starts : new.starts ≡ old.starts
   pub count : length new.next ≡ length old.next
 
+-- a step that adds to lists: they are the same ones, and each is still within its room
+pub record KeepsRooms (old new : Ranged) : Type 0 where
+  pub laid : IsLaidOut new
+  pub same : SameRooms old new
+
 -- the postings of a document, by the terms that it has and how often each comes, in the list of one of them
 abbrev pub postings_in : ℕ → List (ℕ × ℕ) → ℕ → List Posting
 postings_in doc counted number = map (λ (e : ℕ × ℕ). record { doc = doc; freq = e.1 })

@@ -7,6 +7,7 @@ use Rattle.mg_dev.specs.Names.{full_name}
 use Rattle.mg_dev.specs.PartCauses.{HasPartCause}
 use Rattle.mg_dev.specs.declared.part.Part.TheVariants.{Run}
 use Rattle.mg_dev.specs.declared.part_err.PartErr.{PartErr}
+use Rattle.mg_dev.proofs.CallerLemmas.{cause_err}
 use Rattle.mg_defs.specs.Bits.{Bits, digits, to_byte}
 use Rattle.mg_defs.specs.RunBits.{run_part_bits}
 use Rattle.mg_defs.specs.Runs.{runs_of}
@@ -21,7 +22,6 @@ use Rattle.mg_runs.specs.Pooled.{Pooled, used}
 use Rattle.mg_runs.specs.declared.round.Round.{Round}
 use Rattle.mg_runs.proofs.LastRun.{last_bits, no_entries_used, no_last_bits, some_entries}
 use Rattle.mg_runs.proofs.RoundsFirst.{fed_places, fed_places_none}
-use Rattle.mg_runs.proofs.StepLaws.{cause_err}
 use Rattle.mg_runs.proofs.Steps.{undamaged_as}
 
 pub no_entries_left : (pool : Pooled) (u : ℕ) → u ≡ used pool → u ≤ 0 → pool.entries ≡ []
@@ -50,14 +50,14 @@ pub put_last : {old now : Inverting} {f g : Option Files} {r s : Reads} {m n u :
 put_last {old = old} {now = now} {f = f} {g = g} {r = r} {s = s} {u = u} fed is more used base ends =
     let some = some_entries old.pool u used is.slots more in
     record {
-      name = ends.name ∙ is.name;
-      wrote = subst (λ n. WroteTo n f g r s) is.name ends.wrote;
-      later = ends.cause.later;
-      bits = λ fed was told bits e. last_bits old f g fed now.writer bits was some told ends.bits ends.whole e;
+      name = ends.spilled.name ∙ is.name;
+      wrote = subst (λ n. WroteTo n f g r s) is.name ends.spilled.wrote;
+      later = ends.spilled.cause.later;
+      bits = λ fed was told bits e. last_bits old f g fed now.writer bits was some told ends.spilled.bits ends.spilled.whole e;
       places = λ fed was. ends.places ∙ fed_places old f fed was some;
-      entries = ends.empty;
-      limit = ends.limit;
-      peak = ends.peak;
+      entries = ends.spilled.empty;
+      limit = ends.spilled.limit;
+      peak = ends.spilled.peak;
       base = base;
     }
 

@@ -9,6 +9,8 @@ use Rattle.mg_dev.specs.PartCauses.{HasPartCause, IsCaused}
 use Rattle.mg_dev.specs.declared.file_ref.FileRef.{FileRef}
 use Rattle.mg_dev.specs.declared.part.Part.{Part}
 use Rattle.mg_dev.specs.declared.part_err.PartErr.{PartErr}
+use Rattle.mg_dev.specs.declared.part_err.PartErr.TheVariants.{Device, Memory, Bad}
+use Rattle.mg_dev.proofs.CallerLemmas.{cause_err, cause_ok, cause_then}
 use Rattle.mg_bits.specs.BitWriting.{BitWriting, Holds}
 use Rattle.mg_bits.specs.Pages.{Looked}
 use Rattle.mg_bits.specs.Writer.{WroteTo}
@@ -19,27 +21,18 @@ use Rattle.mg_runs.specs.Reading.{GroupShaped}
 use Rattle.mg_runs.specs.Steps.{GroupLook, GroupStep, GroupWrite, HasSlots, LookStep, PassStep, PoolBack, RefusesAt, RunStep, SlotStep, WriterStep}
 use Rattle.mg_runs.specs.declared.group.Group.{Group}
 use Rattle.mg_runs.proofs.Joins.{passed_looked, passed_more, passed_none, passed_wrote}
-use Rattle.mg_runs.proofs.Steps.{caused_as, looked_more, looked_none, memory_as, pool_more}
+use Rattle.mg_runs.proofs.Steps.{looked_more, looked_none, memory_as, pool_more}
 
 -- ---- causes
 
-pub cause_ok : {T : Type 0} {x : T} {m n : ℕ} → m ≤ n → HasPartCause m n (Ok x)
-cause_ok le = record { later = le; device = tt }
-
-pub cause_err : {T U : Type 0} {e : PartErr} {l m n : ℕ} → l ≤ m → HasPartCause {T = T} m n (Err e) → HasPartCause {T = U} l n (Err e)
-cause_err {T} {U} {e} {l} {m} {n} le cause = record {
-  later = omega (arith, le, cause.later);
-  device = caused_as T U l m n e le cause.device;
-}
+caused_as : (T U : Type 0) (f g : ℕ) (e : PartErr) → IsCaused {T = T} f g (Err e) → IsCaused {T = U} f g (Err e)
+caused_as T U f g Device rose = rose
+caused_as T U f g Memory rose = tt
+caused_as T U f g (Bad bad) rose = tt
 
 -- a refusal with no cause in the store
 cause_bad : {U : Type 0} (e : PartErr) {m n : ℕ} → m ≤ n → ((f g : ℕ) → IsCaused {T = ℕ} f g (Err e)) → HasPartCause {T = U} m n (Err e)
-cause_bad {U} e {m} {n} le caused = record { later = le; device = caused_as ℕ U m m n e (omega arith) (caused m n) }
-
--- causes behind a call that was done
-pub cause_then : {T : Type 0} (result : Result T PartErr) {l m n : ℕ} → l ≤ m → HasPartCause m n result → HasPartCause l n result
-cause_then (Ok x) le cause = cause_ok (omega (arith, le, cause.later))
-cause_then (Err e) le cause = cause_err le cause
+cause_bad {U} e {m} {n} le caused = record { later = le; device = caused_as ℕ U m n e (caused m n) }
 
 -- ---- looks
 
@@ -79,7 +72,7 @@ refuses_ok = record { caused = λ f g. tt; memory = tt; names = tt; bit = tt }
 pub refuses_bad : {U : Type 0} (e : PartErr) {part : Part} {at : ℕ} → ((f g : ℕ) → IsCaused {T = ℕ} f g (Err e)) → NoMemory {T = ℕ} (Err e) → NamesPart part e → TellsBit at e →
     RefusesAt {T = U} part at (Err e)
 refuses_bad {U} e caused memory names bit = record {
-  caused = λ f g. caused_as ℕ U f f g e (omega arith) (caused f g);
+  caused = λ f g. caused_as ℕ U f g e (caused f g);
   memory = memory_as ℕ U e memory;
   names = names;
   bit = bit;

@@ -9,7 +9,6 @@ use Rattle.mg_dev.specs.declared.part.Part.{Part}
 use Rattle.mg_dev.specs.declared.part_err.PartErr.{PartErr}
 use Rattle.mg_dev.specs.declared.part_err.PartErr.TheVariants.{Device, Memory, Bad}
 use Rattle.mg_dev.specs.Files.{Files, Reads}
-use Rattle.mg_dev.specs.PartCauses.{IsCaused}
 use Rattle.mg_bits.specs.Pages.{Looked}
 use Rattle.mg_defs.specs.declared.TermPosting.{TermPosting}
 use Rattle.mg_runs.specs.Pooled.{Pooled, SamePool}
@@ -33,11 +32,6 @@ pool_more one two = record {
   peak = two.peak ∙ one.peak;
   limit = two.limit ∙ one.limit;
 }
-
-pub caused_as : (T U : Type 0) (f g h : ℕ) (e : PartErr) → f ≤ g → IsCaused {T = T} g h (Err e) → IsCaused {T = U} f h (Err e)
-caused_as T U f g h Device le c = omega arith
-caused_as T U f g h Memory le c = tt
-caused_as T U f g h (Bad bad) le c = tt
 
 pub undamaged_as : (T U : Type 0) (e : PartErr) → NoDamage {T = T} (Err e) → NoDamage {T = U} (Err e)
 undamaged_as T U Device h = tt

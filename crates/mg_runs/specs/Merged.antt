@@ -57,9 +57,9 @@ pub record MayEnd (w : BitWriting) (files : Option Files) : Type 0 where
   pub place : w.place ≤ 2 ^ 62
   pub whole : w.place % 8 ≡ 0
 
--- the entries of a pool are written as a run, whose place is kept
-pub record EndsRun {T : Type 0} (pool_old pool_new : Pooled) (old new : BitWriting) (places_old places_new : List ℕ)
-    (result : Result T PutErr) (files_before files_now : Option Files)
+-- the entries of a pool are written as a run, and the pool is emptied
+pub record Spilled {T : Type 0} (pool_old pool_new : Pooled) (old new : BitWriting) (result : Result T PutErr)
+    (files_before files_now : Option Files)
     (reads_before reads_now : Reads) (faults_before faults_now : ℕ) : Type 0 where
   -- the writer stands for its file, at a byte
   pub holds : OnOk result (Holds new files_now)
@@ -72,13 +72,21 @@ pub record EndsRun {T : Type 0} (pool_old pool_new : Pooled) (old new : BitWriti
   pub slots : OnOk result (pool_old.slots ≡ [] → pool_new.slots ≡ [])
   pub peak : pool_new.peak ≡ pool_old.peak
   pub limit : pool_new.limit ≡ pool_old.limit
-  -- the run began where the writer stood
-  pub places : OnOk result (places_new ≡ places_old ++ old.place ∷ [])
   -- no other file is written, and nothing is read
   pub name : new.name ≡ old.name
   pub wrote : WroteTo old.name files_before files_now reads_before reads_now
   -- a refusal has a cause
   pub cause : HasPutCause faults_before faults_now result
+
+-- the same, and the run's place is kept
+pub record EndsRun {T : Type 0} (pool_old pool_new : Pooled) (old new : BitWriting) (places_old places_new : List ℕ)
+    (result : Result T PutErr) (files_before files_now : Option Files)
+    (reads_before reads_now : Reads) (faults_before faults_now : ℕ) : Type 0 where
+  -- the run is written, and the pool is emptied
+  pub spilled : Spilled pool_old pool_new old new result files_before files_now reads_before reads_now
+      faults_before faults_now
+  -- the run began where the writer stood
+  pub places : OnOk result (places_new ≡ places_old ++ old.place ∷ [])
 
 -- what was taken is all in runs, and their part is ended
 pub record RunsClosed {T : Type 0} (old new : Inverting) (result : Result T PutErr) (files_before files_now : Option Files)

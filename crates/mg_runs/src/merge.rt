@@ -1,14 +1,14 @@
 //! The postings of all runs.
-ghost use Rattle.std.specs.Prelude.{◌≡◌, ◌≤◌, ◌<◌, ◌*◌, ◌/◌, ◌^◌, List, [], IfErr, IfOk, IfSome, OnOk, OnSome, IsSome, length, drop, max};
+ghost use Rattle.std.specs.Prelude.{◌≡◌, ◌≤◌, ◌<◌, ◌/◌, List, [], IfErr, IfOk, IfSome, OnOk, OnSome, IsSome, length, drop};
 ghost use Rattle.mg_defs.specs.Limits.{greatest_budget};
-ghost use Rattle.mg_dev.specs.PartCauses.{HasPartCause};
 ghost use Rattle.mg_defs.specs.declared.TermPosting.{TermPosting};
 ghost use Rattle.mg_runs.specs.Cursors.{NoDamage, NoMemory};
-ghost use Rattle.mg_runs.specs.Damages.{NamesItsPart, NamesPartOf, TellsBitIn};
-ghost use Rattle.mg_runs.specs.Joins.{IsRunPart, Worked};
+ghost use Rattle.mg_runs.specs.Damages.{NamesPartOf, TellsBitIn};
+ghost use Rattle.mg_runs.specs.Joins.{IsRunPart};
 ghost use Rattle.mg_runs.specs.Left.{IsMerging, postings_left, ForMerging};
 ghost use Rattle.mg_runs.specs.Merging.{first as first_of};
 ghost use Rattle.mg_runs.specs.Merged.{MergeOpened};
+ghost use Rattle.mg_runs.specs.Steps.{WorkStep};
 ghost use Rattle.mg_dev.specs.Moments.{Between};
 
 use crate::group::Group;
@@ -94,16 +94,14 @@ impl<'a> Merge<'a> {
         ensures rest { postings_left self.new ≤ postings_left self.old }
         ensures undamaged { IsSome (S.files store.old) → NoDamage result }
         ensures memory { NoMemory result }
-        ensures names { IfErr result NamesItsPart }
         ensures part { IfErr result (NamesPartOf self.old.group) }
         ensures bit { IfErr result (TellsBitIn self.new.group) }
         ensures base { self.new.base ≡ self.old.base }
         ensures runs { self.new.runs ≡ self.old.runs }
         ensures peak { self.new.peak ≡ self.old.peak }
         ensures files { S.files store.new ≡ S.files store.old }
-        ensures worked { Between S.files S.reads S.faults store.old store.new
-            (Worked self.old.base) }
-        ensures cause { HasPartCause (S.faults store.old) (S.faults store.new) result }
+        ensures step { Between S.files S.reads S.faults store.old store.new
+            (WorkStep self.old.base result) }
     {
         let group = match &mut self.group {
             Some(group) => group,

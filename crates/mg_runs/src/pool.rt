@@ -1,5 +1,5 @@
 //! Memory of fixed size.
-ghost use Rattle.std.specs.Prelude.{◌≡◌, ◌≤◌, ◌<◌, ◌+◌, ◌*◌, ◌/◌, ◌^◌, ◌++◌, ◌↔◌, [], ◌∷◌, IfOk, IsTrue, length, max, slice_index_or};
+ghost use Rattle.std.specs.Prelude.{◌≡◌, ◌≤◌, ◌<◌, ◌+◌, ◌*◌, ◌/◌, ◌++◌, ◌↔◌, [], ◌∷◌, IfOk, IsTrue, length, max, slice_index_or};
 ghost use Rattle.mg_defs.specs.Limits.{least_budget, greatest_budget};
 ghost use Rattle.mg_runs.specs.Pooled.{SamePool, used, slot_bytes};
 ghost use Rattle.mg_runs.specs.Slots.{FillLook, FillsFrom, ChangesOneSlot};

@@ -1,25 +1,21 @@
 //! Occurrences that are taken, and written as runs.
-ghost use Rattle.std.specs.Prelude.{◌≡◌, ◌+◌, ◌-◌, ◌*◌, ◌/◌, ◌%◌, ◌≤◌, ◌<◌, ◌^◌, [], ℕ, List, Some, IfErr, IfOk, OnOk, IsSome, is_some, length};
+ghost use Rattle.std.specs.Prelude.{◌≡◌, ◌-◌, ◌*◌, ◌/◌, ◌≤◌, ◌<◌, ◌^◌, [], ℕ, List, Some, IfErr, IfOk, OnOk, IsSome, is_some, length};
 ghost use Rattle.mg_dev.specs.Causes.{HasPutCause};
-ghost use Rattle.mg_dev.specs.Files.{SameReads, bytes_at, file_at};
+ghost use Rattle.mg_dev.specs.Files.{SameReads, file_at};
 ghost use Rattle.mg_dev.specs.Names.{full_name};
 ghost use Rattle.mg_dev.specs.PartCauses.{HasPartCause};
-ghost use Rattle.mg_defs.specs.Bits.{filled};
-ghost use Rattle.mg_defs.specs.Postings.{gathered, term_postings};
-ghost use Rattle.mg_defs.specs.RunBits.{run_bits};
+ghost use Rattle.mg_defs.specs.Postings.{term_postings};
 ghost use Rattle.mg_defs.specs.Heads.{run_count};
-ghost use Rattle.mg_defs.specs.Runs.{runs_of};
 ghost use Rattle.mg_defs.specs.Summaries.{pool_peak};
-ghost use Rattle.mg_bits.specs.Writer.{AreBytes, WroteTo};
-ghost use Rattle.mg_bits.specs.BitWriting.{Holds, WroteBits};
+ghost use Rattle.mg_bits.specs.Writer.{WroteTo};
 ghost use Rattle.mg_runs.specs.Bytes.{AreEntries};
 ghost use Rattle.mg_runs.specs.Cursors.{NoDamage};
 ghost use Rattle.mg_runs.specs.Damages.{NamesItsPart};
-ghost use Rattle.mg_runs.specs.Fed.{IsFed, cap_of, starts, ForFed, TookOne, HasRunBits, HasRunBytes};
+ghost use Rattle.mg_runs.specs.Fed.{IsFed, cap_of, ForFed, TookOne, HasRunBits, HasRunBytes};
 ghost use Rattle.mg_runs.specs.Joins.{Worked};
 ghost use Rattle.mg_runs.specs.Left.{IsMerging, postings_left};
 ghost use Rattle.mg_runs.specs.Stays.{SameButRuns};
-ghost use Rattle.mg_runs.specs.Merged.{EndsRun, MayEnd, RunsClosed, RunsFinished, RunsMerged};
+ghost use Rattle.mg_runs.specs.Merged.{EndsRun, MayEnd, RunsClosed, RunsFinished, RunsMerged, Spilled};
 ghost use Rattle.mg_dev.specs.Moments.{Between};
 
 use crate::join::refused;
@@ -67,24 +63,11 @@ pub fn reset_part<S: Store>(store: &mut S, base: &str, part: Part) -> Result<(),
 
 /// Writes the pool's entries as a run, and empties it.
 pub fn spill<S: Store>(pool: &mut Pool, w: &mut BitWriter<'_>, store: &mut S) -> Result<(), PutErr>
-    requires holds { Holds w.old (S.files store.old) }
-    requires place { w.old.place ≤ 2 ^ 62 }
-    requires whole { w.old.place % 8 ≡ 0 }
+    requires writer { MayEnd w.old (S.files store.old) }
     requires some { 1 ≤ length pool.old.entries }
     requires entries { AreEntries pool.old.entries }
-    ensures holds { OnOk result (Holds w.new (S.files store.new)) }
-    ensures bits { OnOk result (WroteBits w.old w.new (S.files store.old) (S.files store.new)
-        (filled (run_bits (gathered pool.old.entries)))) }
-    ensures place { OnOk result (w.new.place ≤ w.old.place + 128 + 256 * length pool.old.entries) }
-    ensures whole { OnOk result (w.new.place % 8 ≡ 0) }
-    ensures empty { OnOk result (pool.new.entries ≡ []) }
-    ensures slots { OnOk result (pool.old.slots ≡ [] → pool.new.slots ≡ []) }
-    ensures peak { pool.new.peak ≡ pool.old.peak }
-    ensures limit { pool.new.limit ≡ pool.old.limit }
-    ensures name { w.new.name ≡ w.old.name }
-    ensures wrote { WroteTo w.old.name (S.files store.old) (S.files store.new) (S.reads store.old)
-        (S.reads store.new) }
-    ensures cause { HasPutCause (S.faults store.old) (S.faults store.new) result }
+    ensures { Between S.files S.reads S.faults store.old store.new (Spilled pool.old pool.new
+        w.old w.new result) }
 {
     let alloc = *pool.bytes.allocator();
     let count = pool.entries;

@@ -1,5 +1,5 @@
 //! The postings of a run, one after the other.
-ghost use Rattle.std.specs.Prelude.{◌≡◌, ◌≤◌, ◌<◌, ◌+◌, ◌^◌, ℕ, Err, IfErr, IfOk, IsOkAnd, length};
+ghost use Rattle.std.specs.Prelude.{◌≤◌, ◌<◌, ◌+◌, ◌^◌, ℕ, Err, IfErr, IfOk, IsOkAnd, length};
 ghost use Rattle.mg_dev.specs.Moments.{Between};
 ghost use Rattle.mg_dev.specs.PartCauses.{IsCaused};
 ghost use Rattle.mg_defs.specs.RunBits.{before_first};

@@ -9,6 +9,13 @@ use Rattle.mg_bits.specs.Writer.{AreBytes}
 use Rattle.mg_check_index.proofs.RunWritten.{run_is, run_short, written_bits}
 use Rattle.mg_check_index.proofs.run_part.write_into.Goals as goal
 
+pub spill-requires-clause-writer : goal.spill-requires-clause-writer
+spill-requires-clause-writer g c = record {
+  holds = c.in-Ok.ensures.holds;
+  place = omega (arith, c.in-Ok.ensures.place);
+  whole = omega (arith, c.in-Ok.ensures.place);
+}
+
 pub spill-requires-clause-some : goal.spill-requires-clause-some
 spill-requires-clause-some g c = c.requires.run.some
 

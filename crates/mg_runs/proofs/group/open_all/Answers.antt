@@ -10,7 +10,8 @@ use Rattle.mg_dev.specs.Files.{bytes_at}
 use Rattle.mg_dev.specs.Names.{full_name}
 use Rattle.mg_runs.specs.declared.cursor.Cursor.{Cursor}
 use Rattle.mg_dev.specs.declared.part_err.PartErr.TheVariants.{Memory}
-use Rattle.mg_runs.proofs.StepLaws.{cause_err, cause_ok, look_bad, look_none}
+use Rattle.mg_dev.proofs.CallerLemmas.{cause_err, cause_ok}
+use Rattle.mg_runs.proofs.StepLaws.{look_bad, look_none}
 use Rattle.mg_runs.proofs.Steps.{looked_more, pool_more, tells_err}
 use Rattle.mg_runs.proofs.Heads.{open_more}
 use Rattle.mg_runs.proofs.group.open_all.Goals as goal

@@ -60,7 +60,8 @@ pub returns-in-Err-align : goal.returns-in-Err-align
 returns-in-Err-align g c =
     let number = writer_wrote {T = Unit {0}} {x = tt} c.in-Ok.ensures.puts.holds c.put_number.ensures.puts.name c.put_number.ensures.puts.wrote c.put_number.ensures.puts.cause.later in
     let r = c.refused-in-Err-align in
-    let stopped = writer_refused {T = ℕ} c.align.ensures.name c.align.ensures.wrote (r.ensures.cause _ _ (put_as (Unit {0}) ℕ _ _ _ c.in-Err-align.ensures.cause)) r.ensures.names in
+    let stopped = writer_refused {T = ℕ} c.align.ensures.name c.align.ensures.wrote
+    (r.ensures.cause _ _ (put_as (Unit {0}) ℕ _ _ _ c.in-Err-align.ensures.cause)) r.ensures.names in
     record {
       told = λ told left has run room count. tells_none ℕ (Unit {0}) _ r.result r.ensures.undamaged;
       place = tt;

@@ -6,6 +6,17 @@ use Rattle.mg_runs.proofs.runs.spill.Goals as goal
 no_slots : (count : ℕ) (bytes others : List ℕ) → first_chunks 64 count bytes ≡ [] → first_chunks 64 count others ≡ []
 no_slots count bytes others none = ap (λ k. first_chunks 64 k others) (no_chunks count bytes none)
 
+pub write_entries-requires-clause-holds : goal.write_entries-requires-clause-holds
+write_entries-requires-clause-holds g c = c.requires.writer.holds
+
+pub write_entries-requires-clause-place : goal.write_entries-requires-clause-place
+write_entries-requires-clause-place g c =
+    let is = c.pool.invariant in
+    omega (arith, c.requires.writer.place, is.in_peak, is.in_limit, is.most)
+
+pub write_entries-requires-clause-whole : goal.write_entries-requires-clause-whole
+write_entries-requires-clause-whole g c = c.requires.writer.whole
+
 pub write_entries-requires-clause-entries : goal.write_entries-requires-clause-entries
 write_entries-requires-clause-entries g c =
     let some = rw (← c.pool.view_is, length_entries) at c.requires.some in
@@ -27,9 +38,9 @@ returns-in-Err g c =
     let puts = c.write_entries.ensures.puts in
     rw (← c.pool.view_is) (record {
       holds = tt;
+      whole = tt;
       bits = tt;
       place = tt;
-      whole = tt;
       empty = tt;
       slots = tt;
       peak = refl;
@@ -49,9 +60,9 @@ returns g c =
     let puts = c.in-Ok.ensures.puts in
     rw (← c.pool.view_is) (record {
       holds = puts.holds;
+      whole = c.in-Ok.ensures.whole;
       bits = rw value at puts.bits;
       place = rw length_entries c.in-Ok.ensures.place;
-      whole = c.in-Ok.ensures.whole;
       empty = refl;
       slots = λ none. no_slots _ _ _ none;
       peak = refl;

@@ -1,10 +1,10 @@
 use Rattle.std.proofs.Common.{◌≡◌, List, ap, sym, get_or, refl, ◌∙◌, arith}
 use Rattle.std.proofs.lemmas.List.{get_or_default}
 use Rattle.std.proofs.lemmas.List.Sums.{sum_by-set}
+use Rattle.mg_dev.proofs.CallerLemmas.{cause_err, cause_ok}
 use Rattle.mg_runs.specs.Merging.{no_cursor}
 use Rattle.mg_runs.specs.declared.cursor.Cursor.{Cursor}
 use Rattle.mg_runs.proofs.Naming.{bit_of_cursor}
-use Rattle.mg_runs.proofs.StepLaws.{cause_err, cause_ok}
 use Rattle.mg_runs.proofs.Steps.{memory_as, tells_err}
 use Rattle.mg_runs.proofs.Heads.{at_first, step_shaped, step_stands}
 use Rattle.mg_runs.proofs.group.Group.step.Goals as goal

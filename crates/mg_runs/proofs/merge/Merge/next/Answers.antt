@@ -1,9 +1,9 @@
 use Rattle.std.proofs.Common.{ap, arith, refl, sym, drop}
 use Rattle.std.proofs.lemmas.Result.{IfErr-weaker, IfOk-weaker}
+use Rattle.mg_dev.proofs.CallerLemmas.{cause_ok}
 use Rattle.mg_runs.specs.Merging.{first}
 use Rattle.mg_runs.proofs.Kept.{next_left}
 use Rattle.mg_runs.proofs.Naming.{names_its}
-use Rattle.mg_runs.proofs.StepLaws.{cause_ok}
 use Rattle.mg_runs.proofs.Working.{worked_looked, worked_none}
 use Rattle.mg_runs.proofs.merge.Merge.next.Goals as goal
 
@@ -17,15 +17,13 @@ returns-in-None g c = rw (← c.self.view_is) (record {
   rest = omega arith;
   undamaged = λ t. tt;
   memory = tt;
-  names = tt;
   part = tt;
   bit = tt;
   base = refl;
   runs = refl;
   peak = refl;
   files = refl;
-  worked = worked_none _ _ _ _;
-  cause = cause_ok (omega arith);
+  step = record { worked = worked_none _ _ _ _; cause = cause_ok (omega arith); names = tt };
 })
 
 pub returns : goal.returns
@@ -43,13 +41,15 @@ returns g c =
       rest = rw same step.rest;
       undamaged = λ t. c.next.ensures.undamaged t _ (open_now.told t);
       memory = step.memory;
-      names = IfErr-weaker c.next.result _ _ (λ e names. names_its _ e open_now.part names) step.read.look.names;
       part = rw same step.read.look.names;
       bit = step.bit;
       base = refl;
       runs = refl;
       peak = refl;
       files = step.read.look.looked.files;
-      worked = worked_looked open_now.part step.read.look.looked;
-      cause = step.read.look.cause;
+      step = record {
+        worked = worked_looked open_now.part step.read.look.looked;
+        cause = step.read.look.cause;
+        names = IfErr-weaker c.next.result _ _ (λ e names. names_its _ e open_now.part names) step.read.look.names;
+      };
     })

@@ -1,9 +1,9 @@
 use Rattle.std.proofs.Common.{rules, ◌∙◌, subst, sym, length, arith}
+use Rattle.mg_dev.proofs.CallerLemmas.{cause_err, cause_ok}
 use Rattle.mg_runs.specs.Joins.{IsRunPart}
 use Rattle.mg_runs.proofs.Naming.{names_its}
 use Rattle.mg_runs.proofs.RoundsLoop.{peak_round}
 use Rattle.mg_runs.specs.declared.round.Round.{Round}
-use Rattle.mg_runs.proofs.StepLaws.{cause_err, cause_ok}
 use Rattle.mg_runs.proofs.Steps.{tells_err}
 use Rattle.mg_runs.proofs.Working.{other_is, passed_run, worked_passed, worked_more, some_next}
 use Rattle.mg_runs.proofs.round.Round.rounds.Goals as goal

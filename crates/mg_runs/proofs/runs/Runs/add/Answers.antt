@@ -24,12 +24,12 @@ returns-clause-fed g c = λ fed few is.
     elim c.if-is_full.branch [
       | then-is_full+in_ok-end_run w ↦
           let full : length c.self.inside.pool.entries ≡ c.self.inside.pool.limit / 12 = search rules in
-          let pe = rw (w.self-inside-is, w.in_ok-end_run.ensures.empty) at c.push.ensures.entries in
-          let pp = rw (w.self-inside-is, w.end_run.ensures.peak) at c.push.ensures.peak in
-          let pl = rw (w.self-inside-is, w.end_run.ensures.limit) at c.push.ensures.limit in
+          let pe = rw (w.self-inside-is, w.in_ok-end_run.ensures.spilled.empty) at c.push.ensures.entries in
+          let pp = rw (w.self-inside-is, w.end_run.ensures.spilled.peak) at c.push.ensures.peak in
+          let pl = rw (w.self-inside-is, w.end_run.ensures.spilled.limit) at c.push.ensures.limit in
           rw (w.self-inside-is, w.store-is)
-          (fed_full _ _ _ _ fed (c.args.term, c.args.doc) was full new few w.end_run.ensures.wrote.told w.in_ok-end_run.ensures.bits w.in_ok-end_run.ensures.holds
-          w.in_ok-end_run.ensures.whole w.in_ok-end_run.ensures.place pe c.push.ensures.slots pp pl w.in_ok-end_run.ensures.places refl)
+          (fed_full _ _ _ _ fed (c.args.term, c.args.doc) was full new few w.end_run.ensures.spilled.wrote.told w.in_ok-end_run.ensures.spilled.bits w.in_ok-end_run.ensures.spilled.holds
+          w.in_ok-end_run.ensures.spilled.whole w.in_ok-end_run.ensures.spilled.place pe c.push.ensures.slots pp pl w.in_ok-end_run.ensures.places refl)
       | else-is_full w ↦
           let other : length c.self.inside.pool.entries ≡ c.self.inside.pool.limit / 12 → ⊥ = search rules in
           let room = less _ _ (fed_most _ _ fed was) other in

@@ -29,11 +29,11 @@ returns-in-Err g c = record {
         bytes = λ told. tt;
         places = λ fed was. tt;
         entries = tt;
-        limit = c.end_run.ensures.limit;
-        peak = c.end_run.ensures.peak;
+        limit = c.end_run.ensures.spilled.limit;
+        peak = c.end_run.ensures.spilled.peak;
         base = refl;
-        wrote = rw fed_is.name at c.end_run.ensures.wrote;
-        cause = c.in-Err.ensures.cause;
+        wrote = rw fed_is.name at c.end_run.ensures.spilled.wrote;
+        cause = c.in-Err.ensures.spilled.cause;
       });
 }
 

@@ -1,6 +1,6 @@
 use Rattle.std.proofs.Common.{ℕ, refl}
+use Rattle.mg_dev.proofs.CallerLemmas.{cause_ok}
 use Rattle.mg_runs.proofs.Finishing.{finish_err}
-use Rattle.mg_runs.proofs.StepLaws.{cause_ok}
 use Rattle.mg_runs.proofs.Steps.{put_as}
 use Rattle.mg_runs.proofs.runs.Runs.finish.Goals as goal
 

@@ -3,6 +3,7 @@ use Rattle.std.specs.Prelude.{IfOk}
 use Rattle.mg_dev.specs.Files.{bytes_at}
 use Rattle.mg_dev.specs.Names.{full_name}
 use Rattle.mg_dev.specs.declared.part.Part.TheVariants.{Run}
+use Rattle.mg_dev.proofs.CallerLemmas.{cause_err, cause_then}
 use Rattle.mg_bits.specs.Writer.{AreBytes}
 use Rattle.mg_defs.specs.Bits.{bits_of}
 use Rattle.mg_defs.specs.Postings.{term_postings}
@@ -13,7 +14,6 @@ use Rattle.mg_runs.proofs.LastRun.{on_ok, run_made, runs_fit, peak_all}
 use Rattle.mg_runs.proofs.RoundsLoop.{fed_count}
 use Rattle.mg_runs.proofs.RoundsFirst.{fed_cap, fed_stored}
 use Rattle.mg_runs.proofs.Naming.{refusal_names_its}
-use Rattle.mg_runs.proofs.StepLaws.{cause_err, cause_then}
 use Rattle.mg_runs.proofs.Steps.{damage_none, undamaged_as}
 use Rattle.mg_runs.proofs.Working.{worked_wrote, worked_more, worked_looked}
 use Rattle.mg_runs.proofs.runs.Runs.merge_by.Goals as goal
@@ -35,7 +35,8 @@ returns-in-Ok-rounds g c = record {
       let told_by = rw (c.in-Ok.ensures.finished.base, c.in-Ok.ensures.finished.part) at c.in-Ok-rounds.ensures.done.told in
       let same : bytes_at (g.S.Store.files c.open.new.store) name ≡ bytes_at (g.S.Store.files c.finish.new.store) name
       = ap (λ f. bytes_at f name) c.open.ensures.opened.read.looked.files ∙ ap (λ b. unwrap_or b []) run in
-      let worked = worked_more (worked_wrote c.finish.ensures.finished.wrote c.finish.ensures.finished.cause.later) (worked_more rounds (worked_looked c.in-Ok-rounds.ensures.done.last.part c.open.ensures.opened.read.looked)) in
+      let worked = worked_more (worked_wrote c.finish.ensures.finished.wrote c.finish.ensures.finished.cause.later)
+      (worked_more rounds (worked_looked c.in-Ok-rounds.ensures.done.last.part c.open.ensures.opened.read.looked)) in
       record {
         left = λ fed is.
             c.open.ensures.opened.left (term_postings fed) (λ told.
@@ -51,7 +52,8 @@ returns-in-Ok-rounds g c = record {
             subst (λ k. IfOk c.open.result (λ (m : Merging). m.runs ≡ k)) (size ∙ fed_count _ _ fed (fed_cap _ _ fed is).0 (c.in-Ok.ensures.finished.places fed is)) c.open.ensures.opened.runs;
         peak = λ fed is.
             let count = fed_count _ _ fed (fed_cap _ _ fed is).0 (c.in-Ok.ensures.finished.places fed is) in
-            let top = peak_all (length fed) _ c.args.width _ _ c.in-Ok.first.pool.peak _ (c.in-Ok.ensures.finished.peak ∙ is.peak) count c.in-Ok-rounds.ensures.done.last.peak c.in-Ok-rounds.ensures.done.last.few in
+            let top = peak_all (length fed) _ c.args.width _ _ c.in-Ok.first.pool.peak _ (c.in-Ok.ensures.finished.peak ∙ is.peak) count
+            c.in-Ok-rounds.ensures.done.last.peak c.in-Ok-rounds.ensures.done.last.few in
             subst (λ k. IfOk c.open.result (λ (m : Merging). m.peak ≡ k)) top c.open.ensures.opened.peak;
         few = c.open.ensures.opened.few;
         base = search rules;
