@@ -3,3 +3,4 @@ mod LoadLaws
 mod TextLaws
 mod NextLaws
 pub mod CallerLemmas
+mod KeptLaws

@@ -5,7 +5,11 @@ use Rattle.std.specs.declared.option.Option.{Option}
 use Rattle.std.specs.declared.result.Result.{Result}
 use Rattle.mg_dev.specs.Files.{Files, Reads}
 use Rattle.mg_dev.specs.Moments.{Between, StoreStep}
+use Rattle.mg_dev.specs.Names.{full_name}
+use Rattle.mg_dev.specs.declared.part.Part.{Part}
+use Rattle.mg_dev.specs.declared.part.Part.TheVariants.{Places, Text}
 use Rattle.mg_dev.specs.declared.part_err.PartErr.{PartErr}
+use Rattle.mg_bits.specs.Pages.{Fits, Paging}
 use Rattle.mg_defs.specs.Heads.{IsWithin}
 use Rattle.mg_defs.specs.Means.{IsModel, StandForNone}
 use Rattle.mg_defs.specs.Stands.{Parts}
@@ -70,6 +74,20 @@ abbrev pub Compares : {X T : Type 0} → (Parts → Type 0) → List ℕ → Res
     (X → ℕ) → X → X → Type 0
 Compares claim base result files reads faults before now = Between files reads faults before now
     (Compared claim base result)
+
+-- ---- pages that documents are compared with
+
+-- a page of a part under a base is kept, if any
+pub record KeepsPage (base : List ℕ) (part : Part) (files : Option Files) (feed : Paging) : Type 0 where
+  pub name_is : feed.name ≡ full_name base part
+  pub part_is : feed.part ≡ part
+  -- it agrees with the part, where the files are told
+  pub fits : Fits feed files
+
+-- a page each of Text and of Places
+pub record KeepsPages (base : List ℕ) (files : Option Files) (one other : Paging) : Type 0 where
+  pub text : KeepsPage base Text files one
+  pub places : KeepsPage base Places files other
 
 -- ---- what they start from
 

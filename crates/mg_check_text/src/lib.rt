@@ -4,6 +4,7 @@
 //! read mean one collection, or the set stands for none. Documents are read again for their terms.
 #![tactic(auto)]
 
+mod held;
 mod load;
 mod next_doc;
 mod progress;

@@ -8,11 +8,12 @@ ghost use Rattle.mg_text.specs.Reading.{TextFits};
 ghost use Rattle.mg_check_text.specs.Checking.{CodeStands, ForNextDoc, FoundMore, HasAdded, IsInRange, PlaceStands, StandsNext, WhereRead};
 ghost use Rattle.mg_check_parts.specs.Refusals.{OnBad};
 ghost use Rattle.mg_check_parts.specs.Decoding.{CanCode};
-ghost use Rattle.mg_check_text.specs.Reads.{Compares, FindsText, ReadsBy, ReadsText};
+ghost use Rattle.mg_check_text.specs.Reads.{Compares, FindsText, KeepsPages, ReadsBy, ReadsText};
 
+use crate::held::{Held, expect_kept};
 use crate::progress::Progress;
 use crate::set::Set;
-use mg_check_parts::{code_doc, expect_more};
+use mg_check_parts::code_doc;
 use mg_dev::{Bad, FileRef, Part, PartErr, Store};
 use mg_fields::{eight_bytes, four_bytes};
 use mg_layout::Head;
@@ -27,26 +28,29 @@ const CLOSING: u8 = 2;
 pub(crate) fn expect_place<S: Store>(
     store: &mut S,
     set: &Set<'_>,
+    held: &mut Held<'_, S>,
     number: u32,
     place: u64,
 ) -> Result<(), PartErr>
+    requires pages { KeepsPages set.now.base.now (S.files store.old) held.old.text
+        held.old.places }
     requires narrow { set.now.head.now.version ≡ 1 → place < 2 ^ 32 }
-    ensures { Compares (PlaceStands set.now.head.now.version number place) set.now.base.now result
-        S.files S.reads S.faults store.old store.new }
+    ensures pages { KeepsPages set.now.base.now (S.files store.new) held.new.text
+        held.new.places }
+    ensures compared { Compares (PlaceStands set.now.head.now.version number place)
+        set.now.base.now result S.files S.reads S.faults store.old store.new }
 {
     let file = FileRef {
         base: set.base,
         part: Part::Places,
     };
+    let number = u64::from(number);
     let compared = if set.head.version == 1 {
-        expect_more(
-            store,
-            file,
-            4 * u64::from(number),
-            &four_bytes(place as u32),
-        )
+        let bytes = four_bytes(place as u32);
+        expect_kept(store, &mut held.places, file, 4 * number, &bytes)
     } else {
-        expect_more(store, file, 8 * u64::from(number), &eight_bytes(place))
+        let bytes = eight_bytes(place);
+        expect_kept(store, &mut held.places, file, 8 * number, &bytes)
     };
     match compared {
         Ok(_) => Ok(()),
@@ -120,11 +124,16 @@ fn unknown_piece(place: u64) -> PartErr
 fn expect_coded<S: Store>(
     store: &mut S,
     set: &Set<'_>,
+    held: &mut Held<'_, S>,
     progress: &Progress,
     coded: &[u8],
 ) -> Result<u64, PartErr>
+    requires pages { KeepsPages set.now.base.now (S.files store.old) held.old.text
+        held.old.places }
     requires place { progress.now.place ≤ 2 ^ 60 }
     requires narrow { set.now.head.now.version ≡ 1 → progress.now.place < 2 ^ 32 }
+    ensures pages { KeepsPages set.now.base.now (S.files store.new) held.new.text
+        held.new.places }
     ensures end { IfOk result (λ end. end ≡ progress.now.place + length coded.now) }
     ensures compared { Compares (CodeStands set.now.head.now.version coded.now progress.now)
         set.now.base.now result S.files S.reads S.faults store.old store.new }
@@ -133,48 +142,57 @@ fn expect_coded<S: Store>(
         base: set.base,
         part: Part::Text,
     };
-    let end = match expect_more(store, text, progress.place, coded) {
+    let end = match expect_kept(store, &mut held.text, text, progress.place, coded) {
         Ok(end) => end,
         Err(refusal) => return Err(refusal),
     };
-    match expect_place(store, set, progress.documents, progress.place) {
+    match expect_place(store, set, held, progress.documents, progress.place) {
         Ok(()) => Ok(end),
         Err(refusal) => Err(refusal),
     }
 }
 
-// Codes a document, and adds it to what was read where its code stands next in Text and its place in Places.
+// Codes the document that is held, and adds it to what was read where its code stands next in Text and its place in
+// Places.
 fn add_doc<S: Store>(
     alloc: Global,
     store: &mut S,
     set: &Set<'_>,
     model: &TextModel,
-    doc: &[u8],
+    held: &mut Held<'_, S>,
     progress: &mut Progress,
 ) -> Result<(), PartErr>
-    requires document { IsDocument doc.now }
-    requires can { CanCode model.now doc.now progress.old.uses }
+    requires pages { KeepsPages set.now.base.now (S.files store.old) held.old.text
+        held.old.places }
+    requires document { IsDocument held.old.document.bytes.items }
+    requires can { CanCode model.now held.old.document.bytes.items progress.old.uses }
     requires documents { progress.old.documents < 2 ^ 32 - 1 }
     requires bytes { progress.old.bytes < 2 ^ 32 }
     requires place { progress.old.place ≤ 2 ^ 60 }
     requires narrow { set.now.head.now.version ≡ 1 → progress.old.place < 2 ^ 32 }
-    ensures compared { Compares (StandsNext set.now.head.now.version model.now doc.now progress.old)
-        set.now.base.now result S.files S.reads S.faults store.old store.new }
-    ensures added { OnOk result (HasAdded model.now doc.now progress.old progress.new) }
-    ensures short { OnOk result (coded_size model.now doc.now ≤ 12 * length doc.now + 13) }
+    ensures pages { KeepsPages set.now.base.now (S.files store.new) held.new.text
+        held.new.places }
+    ensures compared { Compares (StandsNext set.now.head.now.version model.now
+        held.old.document.bytes.items progress.old) set.now.base.now result S.files S.reads S.faults
+        store.old store.new }
+    ensures added { OnOk result (HasAdded model.now held.old.document.bytes.items progress.old
+        progress.new) }
+    ensures short { OnOk result (coded_size model.now held.old.document.bytes.items
+        ≤ 12 * length held.old.document.bytes.items + 13) }
 {
-    let coded = match code_doc(alloc, model, doc, &mut progress.uses) {
+    let size = held.document.bytes().len() as u64;
+    let coded = match code_doc(alloc, model, held.document.bytes(), &mut progress.uses) {
         Ok(Some(coded)) => coded,
         Ok(None) => return Err(unknown_piece(progress.place)),
         Err(_) => return Err(PartErr::Memory),
     };
-    let end = match expect_coded(store, set, progress, coded.bytes()) {
+    let end = match expect_coded(store, set, held, progress, coded.bytes()) {
         Ok(end) => end,
         Err(refusal) => return Err(refusal),
     };
     progress.documents += 1;
-    progress.bytes += doc.len() as u64;
-    progress.last = doc.len() as u64;
+    progress.bytes += size;
+    progress.last = size;
     progress.place = end;
     Ok(())
 }
@@ -186,12 +204,16 @@ pub(crate) fn next_doc<S: Store>(
     store: &mut S,
     set: &Set<'_>,
     reader: &mut TextReader<'_, S>,
-    held: &mut HeldDocument,
+    held: &mut Held<'_, S>,
     progress: &mut Progress,
 ) -> Result<(), PartErr>
     requires reads { ReadsBy reader.old (S.files store.old) set.now.head.now }
+    requires pages { KeepsPages set.now.base.now (S.files store.old) held.old.text
+        held.old.places }
     requires more { progress.old.documents < set.now.head.now.documents }
     requires range { IsInRange reader.old.code set.now.head.now progress.old }
+    ensures pages { KeepsPages set.now.base.now (S.files store.new) held.new.text
+        held.new.places }
     ensures range { OnOk result (IsInRange reader.old.code set.now.head.now progress.new) }
     ensures count { OnOk result (progress.new.documents ≡ progress.old.documents + 1) }
     ensures read { FindsText (IsSome (S.files store.old) → OnOk result
@@ -201,9 +223,9 @@ pub(crate) fn next_doc<S: Store>(
         set.now.base.now reader.old reader.new result S.files S.reads S.faults store.old
         store.new }
 {
-    match decode_next(store, set.head, reader, held, progress) {
+    match decode_next(store, set.head, reader, &mut held.document, progress) {
         Ok(()) => {}
         Err(refusal) => return Err(refusal),
     }
-    add_doc(alloc, store, set, reader.model(), held.bytes(), progress)
+    add_doc(alloc, store, set, reader.model(), held, progress)
 }

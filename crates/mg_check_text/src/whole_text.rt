@@ -7,8 +7,9 @@ ghost use Rattle.mg_defs.specs.Heads.{IsWithin};
 ghost use Rattle.mg_layout.specs.HeadAnswers.{fields_of};
 ghost use Rattle.mg_layout.specs.Stands.{parts_at};
 ghost use Rattle.mg_check_text.specs.Checking.{EndNumbers, EndsAt, FoundDocs, FoundSet, IsInRange, IsLoaded, WhereLoaded};
-ghost use Rattle.mg_check_text.specs.Reads.{Compares, FindsText, ReadsBy};
+ghost use Rattle.mg_check_text.specs.Reads.{Compares, FindsText, KeepsPages, ReadsBy};
 
+use crate::held::Held;
 use crate::next_doc::{expect_place, next_doc};
 use crate::progress::Progress;
 use crate::set::Set;
@@ -16,8 +17,8 @@ use mg_check_parts::expect_used;
 use mg_dev::{Bad, Part, PartErr, Store};
 use mg_layout::Head;
 use mg_model::{Stream, TextModel};
-use mg_text::{HeldDocument, TextReader};
-use std::alloc::Global;
+use mg_text::TextReader;
+use std::alloc::{AllocError, Global};
 
 // Where the flag of an open end stands in the head, and where the collection's size does.
 const OPEN_END_AT: u64 = 28;
@@ -30,8 +31,13 @@ fn read_docs<S: Store>(
     store: &mut S,
     set: &Set<'_>,
     reader: &mut TextReader<'_, S>,
+    held: &mut Held<'_, S>,
 ) -> Result<Progress, PartErr>
     requires reads { ReadsBy reader.old (S.files store.old) set.now.head.now }
+    requires pages { KeepsPages set.now.base.now (S.files store.old) held.old.text
+        held.old.places }
+    ensures pages { KeepsPages set.now.base.now (S.files store.new) held.new.text
+        held.new.places }
     ensures range { IfOk result (λ p. IsInRange reader.old.code set.now.head.now p) }
     ensures all { IfOk result (λ p. p.documents ≡ set.now.head.now.documents) }
     ensures read { FindsText (IsSome (S.files store.old) →
@@ -41,13 +47,12 @@ fn read_docs<S: Store>(
         set.now.base.now reader.old reader.new result S.files S.reads S.faults store.old
         store.new }
 {
-    let mut held = HeldDocument::new(alloc, set.head.collection);
     let mut progress = match Progress::new(alloc, reader.model()) {
         Ok(progress) => progress,
         Err(_) => return Err(PartErr::Memory),
     };
     for _number in 0..set.head.documents {
-        match next_doc(alloc, store, set, reader, &mut held, &mut progress) {
+        match next_doc(alloc, store, set, reader, held, &mut progress) {
             Ok(()) => {}
             Err(refusal) => return Err(refusal),
         }
@@ -103,8 +108,11 @@ fn expect_end<S: Store>(
     store: &mut S,
     set: &Set<'_>,
     model: &TextModel,
+    held: &mut Held<'_, S>,
     progress: &Progress,
 ) -> Result<(), PartErr>
+    requires pages { KeepsPages set.now.base.now (S.files store.old) held.old.text
+        held.old.places }
     requires within { IsWithin (fields_of set.now.head.now) }
     requires range { IsInRange model.now set.now.head.now progress.now }
     ensures { Compares (EndsAt set.now.head.now model.now progress.now) set.now.base.now result
@@ -114,7 +122,7 @@ fn expect_end<S: Store>(
         Ok(()) => {}
         Err(bad) => return Err(PartErr::Bad(bad)),
     }
-    match expect_place(store, set, progress.documents, progress.place) {
+    match expect_place(store, set, held, progress.documents, progress.place) {
         Ok(()) => {}
         Err(refusal) => return Err(refusal),
     }
@@ -146,11 +154,15 @@ pub fn read_text<S: Store>(
         reader.old reader.new result S.files S.reads S.faults store.old store.new }
 {
     let set = Set { base, head };
-    let progress = match read_docs(alloc, store, &set, reader) {
+    let mut held = match Held::new(alloc, &set) {
+        Ok(held) => held,
+        Err(AllocError) => return Err(PartErr::Memory),
+    };
+    let progress = match read_docs(alloc, store, &set, reader, &mut held) {
         Ok(progress) => progress,
         Err(refusal) => return Err(refusal),
     };
-    match expect_end(alloc, store, &set, reader.model(), &progress) {
+    match expect_end(alloc, store, &set, reader.model(), &mut held, &progress) {
         Ok(()) => Ok(()),
         Err(refusal) => Err(refusal),
     }

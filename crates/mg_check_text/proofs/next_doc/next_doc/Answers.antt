@@ -5,12 +5,19 @@ use Rattle.mg_layout.specs.Stands.{parts_at}
 use Rattle.mg_check_text.specs.Checking.{IsNextDoc}
 use Rattle.mg_check_text.proofs.ReadLaws.{text_looks}
 use Rattle.mg_check_text.proofs.NextLaws.{both-ok, code-range, head-few, next-there, on-bad, other-next, range-next, refused-next, told-there}
+use Rattle.mg_check_text.proofs.KeptLaws.{both_there}
 use Rattle.mg_check_text.proofs.next_doc.next_doc.Goals as goal
+
+pub add_doc-requires-clause-pages : goal.add_doc-requires-clause-pages
+add_doc-requires-clause-pages g c = both_there c.decode_next.ensures.text.looks.files c.requires.pages
+
+pub returns-in-Err-clause-pages : goal.returns-in-Err-clause-pages
+returns-in-Err-clause-pages g c = both_there c.decode_next.ensures.text.looks.files c.requires.pages
 
 pub add_doc-requires-clause-can : goal.add_doc-requires-clause-can
 add_doc-requires-clause-can g c =
     let same : c.model.result.now ≡ c.args.reader.now.code = c.model.ensures ∙ c.decode_next.ensures.text.same.code in
-    let left : c.args.progress.now.bytes + length c.bytes.result.now ≤ c.args.set.now.head.now.collection = omega (arith, c.in-Ok.ensures.short, ap length c.bytes.ensures) in
+    let left : c.args.progress.now.bytes + length c.decode_next.new.held.bytes.items ≤ c.args.set.now.head.now.collection = omega (arith, c.in-Ok.ensures.short) in
     let few = (head-few c.args.set.now.head.now c.requires.reads.within).0 in
     let range = c.requires.range in
     record {
@@ -31,7 +38,7 @@ returns-in-Err-clause-read g c = record {
 pub returns-clause-range : goal.returns-clause-range
 returns-clause-range g c =
     let same : c.model.result.now ≡ c.args.reader.now.code = c.model.ensures ∙ c.decode_next.ensures.text.same.code in
-    let left : c.args.progress.now.bytes + length c.bytes.result.now ≤ c.args.set.now.head.now.collection = omega (arith, c.in-Ok.ensures.short, ap length c.bytes.ensures) in
+    let left : c.args.progress.now.bytes + length c.decode_next.new.held.bytes.items ≤ c.args.set.now.head.now.collection = omega (arith, c.in-Ok.ensures.short) in
     both-ok _ _ _ c.add_doc.result (λ added short. code-range (sym same) (range-next (code-range same c.requires.range) added short left c.requires.more))
     c.add_doc.ensures.added c.add_doc.ensures.short
 
@@ -41,12 +48,12 @@ returns-clause-read g c = record {
   none = λ loaded docs so.
       let same : c.model.result.now ≡ c.args.reader.now.code = c.model.ensures ∙ c.decode_next.ensures.text.same.code in
       let files = c.decode_next.ensures.text.looks.files in
-      other-next c.bytes.result.now c.add_doc.result loaded so c.requires.more
-      (λ collection stand short. c.bytes.ensures ∙ c.in-Ok.ensures.own collection (record { stands = stand; short = omega (arith, short) }))
-      (on-bad (IsNextDoc (parts_at (g.S.Store.files c.decode_next.new.store) c.args.set.now.base.now) c.args.set.now.head.now.version c.model.result.now c.bytes.result.now c.args.progress.now)
-      (IsNextDoc (parts_at (g.S.Store.files c.args.store.now) c.args.set.now.base.now) c.args.set.now.head.now.version c.args.reader.now.code c.bytes.result.now c.args.progress.now) c.add_doc.result
+      other-next c.decode_next.new.held.bytes.items c.add_doc.result loaded so c.requires.more
+      (λ collection stand short. c.in-Ok.ensures.own collection (record { stands = stand; short = omega (arith, short) }))
+      (on-bad (IsNextDoc (parts_at (g.S.Store.files c.decode_next.new.store) c.args.set.now.base.now) c.args.set.now.head.now.version c.model.result.now c.decode_next.new.held.bytes.items c.args.progress.now)
+      (IsNextDoc (parts_at (g.S.Store.files c.args.store.now) c.args.set.now.base.now) c.args.set.now.head.now.version c.args.reader.now.code c.decode_next.new.held.bytes.items c.args.progress.now) c.add_doc.result
       (λ next. next-there (g.S.Store.files c.args.store.now) (g.S.Store.files c.decode_next.new.store) c.args.set.now.base.now c.args.set.now.head.now.version
-      c.args.reader.now.code c.model.result.now c.bytes.result.now c.args.progress.now files same next)
+      c.args.reader.now.code c.model.result.now c.decode_next.new.held.bytes.items c.args.progress.now files same next)
       (c.add_doc.ensures.compared.other (told-there files loaded.told)));
   text = text_looks c.in-Ok.ensures.text c.add_doc.ensures.compared.looks;
 }

@@ -11,11 +11,15 @@ next_doc-requires-clause-reads g c = reads_on c.requires.reads c.loop-number.inv
 pub next_doc-requires-clause-range : goal.next_doc-requires-clause-range
 next_doc-requires-clause-range g c = code-range c.loop-number.invariant.text.same.code c.loop-number.invariant.range
 
+pub next_doc-requires-clause-pages : goal.next_doc-requires-clause-pages
+next_doc-requires-clause-pages g c = c.loop-number.invariant.pages
+
 pub loop-number-init : goal.loop-number-init
 loop-number-init g c =
     let none = c.in-Ok.ensures.none (parts_at (g.S.Store.files c.args.store.now) c.args.set.now.base.now) c.args.set.now.head.now.version in
     record {
       text = text_none (g.S.Store.files c.args.store.now) (g.S.Store.reads c.args.store.now) (g.S.Store.faults c.args.store.now) c.requires.reads.fits;
+      pages = c.requires.pages;
       range = code-range (sym c.model.ensures) (c.in-Ok.ensures.range c.args.set.now.head.now);
       count = sym none.count;
       found = λ told. none-yet c.model.ensures none;
@@ -27,6 +31,7 @@ loop-number-preserved g c =
     let e = c.in-Ok-next_doc.ensures in
     record {
       text = text_then inv.text e.read.text;
+      pages = e.pages;
       range = code-range (sym inv.text.same.code) e.range;
       count = e.count ∙ ap (λ (n : ℕ). n + 1) inv.count;
       found = λ told. docs-more c.args.set.now.base.now inv.text.looks.files inv.text.same.code (inv.found told)
@@ -48,3 +53,6 @@ returns-in-Err-next_doc-clause-read g c =
 
 pub returns-clause-read : goal.returns-clause-read
 returns-clause-read g c = record { found = c.loop-number.invariant.found; none = λ loaded. tt; text = text_ok c.loop-number.invariant.text }
+
+pub returns-clause-pages : goal.returns-clause-pages
+returns-clause-pages g c = c.loop-number.invariant.pages
