@@ -1,5 +1,5 @@
 -- What of a document went to an empty sink in memory.
-use Rattle.std.proofs.Common.{arith, ◌≡◌, ◌≢◌, ◌≤◌, ◌<◌, ◌+◌, ◌-◌, ◌^◌, ◌⊎◌, inl, inr, Option, Result, OnOk, refl, min, ℕ, List, [], ◌++◌, length, take, sym, ap, subst, ◌∙◌, Some, Ok, Err}
+use Rattle.std.proofs.Common.{arith, ◌≡◌, ◌≢◌, ◌≤◌, ◌<◌, ◌+◌, ◌-◌, ◌^◌, ◌⊎◌, inl, inr, Option, Result, OnOk, refl, min, ℕ, zero, suc, List, [], ◌++◌, length, take, sym, ap, subst, ◌∙◌, Some, Ok, Err}
 use Rattle.std.proofs.lemmas.Grind.{common_steps}
 use Rattle.mg_dev.specs.Bads.{IsNotBad}
 use Rattle.mg_dev.specs.PartCauses.{HasPartCause}
@@ -12,6 +12,7 @@ use Rattle.mg_dev.specs.Files.{Files}
 use Rattle.mg_text.specs.Held.{AnswersHeld, HasShortDocument, held_answer}
 use Rattle.mg_text.specs.Decoding.{IsShowCaused}
 use Rattle.mg_defs.specs.Parse.{text}
+use Rattle.mg_defs.specs.Terms.{document}
 use Rattle.mg_text.specs.Reading.{ShowIsNotBad, TellsDocument, TextReading, TextStands, WroteAll}
 use Rattle.mg_text.proofs.StandLaws.{doc_short}
 
@@ -46,9 +47,13 @@ part_not_bad Device fine = tt
 part_not_bad Memory fine = tt
 part_not_bad (Bad bad) fine = fine
 
+document_short : (collection : List ℕ) (number : ℕ) → length (document collection number) ≤ length collection
+document_short collection zero = omega arith
+document_short collection (suc n) = doc_short collection n
+
 -- no document has more bytes than a collection may have
 pub any_short : (r : TextReading) (files : Option Files) (number : ℕ) (collection : List ℕ) → TextStands r files collection → HasShortDocument r files number (2 ^ 32 - 1) collection
-any_short r files number collection stands = record { stands = stands; short = omega (arith, doc_short collection (number - 1), stands.few) }
+any_short r files number collection stands = record { stands = stands; short = omega (arith, document_short collection number, stands.few) }
 
 -- ---- what is answered once a document was shown
 
