@@ -12,7 +12,7 @@ use Rattle.mg_dev.specs.declared.part.Part.{Part}
 use Rattle.mg_layout.specs.Contents.{AnswersBytes, StandAt}
 use Rattle.mg_layout.specs.Sizes.{AnswersSize}
 use Rattle.mg_check_index.specs.Counting.{Comparing, EndsElsewhere, EndsThere, GoesOnOtherwise, HasBegun, HasWeighed, Weighing, WeighsOtherwise}
-use Rattle.mg_check_parts.specs.Refusals.{WhereBad}
+use Rattle.mg_check_parts.specs.Refusals.{Refutes, WhereBad}
 
 pub where_bad : {T : Type 0} (P Q : Type 0) (r : Result T PartErr) → (P → Q) → WhereBad P r → WhereBad Q r
 where_bad P Q (Ok value) f p = tt
@@ -35,6 +35,13 @@ pub goes_on_otherwise : (refusal : PartErr) (c : Comparing) (files : Option File
 goes_on_otherwise Device c files wanted answer = tt
 goes_on_otherwise Memory c files wanted answer = tt
 goes_on_otherwise (Bad bad) c files wanted answer = λ done rest begun e. answer.0 (stand_there c.at done wanted rest (bytes_at files c.name) begun.at_is e)
+
+-- the same by what a comparison refutes
+pub goes_on_refuted : (refusal : PartErr) (c : Comparing) (files : Option Files) (wanted : List ℕ) → Refutes (StandAt c.at wanted (bytes_at files c.name)) refusal →
+    WhereBad {T = Unit {0}} (GoesOnOtherwise c files wanted) (Err refusal)
+goes_on_refuted Device c files wanted other = tt
+goes_on_refuted Memory c files wanted other = tt
+goes_on_refuted (Bad bad) c files wanted other = λ done rest begun e. other (stand_there c.at done wanted rest (bytes_at files c.name) begun.at_is e)
 
 pub begun_more : (old new : Comparing) (f g : Option Files) (wanted : List ℕ) → new.name ≡ old.name → new.at ≡ old.at + length wanted → g ≡ f →
     (IsSome f → StandAt old.at wanted (bytes_at f old.name)) → (done : List ℕ) → HasBegun old f done → HasBegun new g (done ++ wanted)

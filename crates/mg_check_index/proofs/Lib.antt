@@ -13,3 +13,4 @@ mod RunPartLaws
 mod TallySteps
 mod TallyAdds
 pub mod CallerLemmas
+mod InStoreLaws

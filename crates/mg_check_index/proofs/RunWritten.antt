@@ -5,7 +5,7 @@ use Rattle.mg_dev.specs.Files.{Files}
 use Rattle.mg_defs.specs.Bits.{Bits, bits_of, digits, filled, to_byte, as_bytes}
 use Rattle.mg_defs.specs.Postings.{gathered}
 use Rattle.mg_defs.specs.RunBits.{run_bits}
-use Rattle.mg_defs.proofs.BitLaws.{length_bits_of}
+use Rattle.mg_defs.proofs.CodedTextLaws.{length-as_bytes}
 use Rattle.mg_bits.specs.BitWriting.{BitWriting, WroteBits, bits_put}
 use Rattle.mg_bits.specs.Writer.{AreBytes}
 use Rattle.mg_bits.proofs.CallerLemmas.{bytes_again}
@@ -27,8 +27,15 @@ written_bits w0 w1 f0 f1 bits made told none wrote whole is = is ∙ whole_bits 
 pub run_is : (pool : Pooled) (bytes : List ℕ) → AreBytes bytes → bits_of bytes ≡ filled (run_bits (gathered pool.entries)) → bytes ≡ run_of_pool pool
 run_is pool bytes small is = sym (bytes_again bytes small) ∙ ap as_bytes (is ∙ sym (append-nil (filled (run_bits (gathered pool.entries)))))
 
-pub run_short : (bytes : List ℕ) (bits : Bits) (n p0 p1 : ℕ) → bits_of bytes ≡ bits → p0 ≡ 0 → p1 ≡ p0 + length bits → p1 ≤ p0 + 128 + 256 * n → length bytes ≤ 16 + 32 * n
-run_short bytes bits n p0 p1 is none place few = omega (arith, length_bits_of bytes, ap length is)
+pub run_count : (pool : Pooled) (p0 p1 : ℕ) → p0 ≡ 0 → p1 ≡ p0 + length (filled (run_bits (gathered pool.entries))) → p1 % 8 ≡ 0 → p1 / 8 ≡ length (run_of_pool pool)
+run_count pool p0 p1 none place whole =
+    let bits : Bits = filled (run_bits (gathered pool.entries)) in
+    let long : length (as_bytes bits) ≡ p1 / 8 = omega (arith, length-as_bytes bits, none, place, whole) in
+    sym long ∙ ap (λ (b : Bits). length (as_bytes b)) (sym (append-nil bits))
+
+pub run_short : (pool : Pooled) (p0 p1 : ℕ) → p0 ≡ 0 → p1 ≡ p0 + length (filled (run_bits (gathered pool.entries))) → p1 % 8 ≡ 0 →
+    p1 ≤ p0 + 128 + 256 * length pool.entries → length (run_of_pool pool) ≤ 16 + 32 * length pool.entries
+run_short pool p0 p1 none place whole few = omega (arith, run_count pool p0 p1 none place whole, none, few)
 
 -- a pool for so many entries
 pub budget_least : (cap budget : ℕ) → budget ≡ max (12 * cap) 4096 → 4096 ≤ budget

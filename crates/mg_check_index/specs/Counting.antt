@@ -119,10 +119,6 @@ pub record SameRun (old new : RunReading) : Type 0 where
   pub name : new.part.name ≡ old.part.name
   pub limit : new.pool.limit ≡ old.pool.limit
 
--- the bytes of a run in a store of its own
-abbrev pub run_bytes : Option Files → List ℕ
-run_bytes files = bytes_at files (full_name [] part.Run)
-
 -- the bytes of the run that a pool's entries make
 abbrev pub run_of_pool : Pooled → List ℕ
 run_of_pool pool = as_bytes (runs_bits (gathered pool.entries ∷ []))
@@ -135,11 +131,6 @@ pub record CanBeRun (pool : Pooled) : Type 0 where
   pub many : length pool.entries ≤ 2 ^ 32
   -- each is of a document, and counts at least one
   pub entries : AreEntries pool.entries
-
--- these are the bytes of the run that its entries make, of which there are few
-pub record IsRunOf (pool : Pooled) (bytes : List ℕ) : Type 0 where
-  pub bytes_are : bytes ≡ run_of_pool pool
-  pub few : length bytes ≤ 16 + 32 * length pool.entries
 
 -- its entries are written as a run, told of the moments before and after
 pub record WritesRun {T E : Type 0} (old new : Pooled) (result : Result T E) : Type 0 where

@@ -1,10 +1,11 @@
 //! The parts of a set that tell of terms, compared with what is made anew.
 //!
 //! Nothing here reads the text. Of each document its terms are told, and the weights and the runs are compared as they
-//! come. Of each range of terms the lists are told. They are written anew in memory, some at a time, and compared, and at
-//! last the lexicon.
+//! come. A run is written anew into a store that compares, a page at a time, so it is not held. Of each range of terms the
+//! lists are told. They are written anew in memory, some at a time, and compared, and at last the lexicon.
 #![tactic(auto)]
 
+mod comparing_store;
 mod comparison;
 mod ends;
 mod indexed;
@@ -14,6 +15,7 @@ mod lists_of_range;
 mod range_lists;
 mod ranges;
 mod run_part;
+mod run_written;
 mod some_lists;
 mod tally;
 mod weights;

@@ -1,30 +1,22 @@
 //! The runs of occurrences, compared with the part that has them.
 //!
-//! The occurrences go into a pool of as many entries as a run of the set is made of. A full pool is written into a store
-//! in memory as a run, and its bytes are compared with those of the part behind the runs before.
+//! The occurrences go into a pool of as many entries as a run of the set is made of. A full pool is written as a run, and
+//! its bytes are compared a page at a time with those of the part behind the runs before.
 ghost use Rattle.std.specs.Prelude.{◌≡◌, ◌+◌, ◌-◌, ◌*◌, ◌<◌, ◌≤◌, ◌^◌, ℕ, List, [], length, IfOk, IsSome, Option, OnOk};
 ghost use Rattle.mg_dev.specs.Files.{Files};
 ghost use Rattle.mg_dev.specs.Names.{full_name};
 ghost use Rattle.mg_dev.specs.Moments.{Between};
 ghost use Rattle.mg_dev.specs.declared.part.Part.TheVariants as part;
 ghost use Rattle.mg_runs.specs.Fed.{cap_of};
-ghost use Rattle.mg_check_index.specs.Counting.{CanBeRun, ComparesPart, SameRun, HasTaken, IsRunOf, WritesRun, run_bytes, run_of_pool, HasBegunMore, GoesOnOtherwise, HasTakenOne, HasTakenAll, RunsOtherwise, RunsOtherwiseOn, HasBegunRuns, AreItsRuns, AreOtherRuns};
+ghost use Rattle.mg_check_index.specs.Counting.{CanBeRun, ComparesPart, SameRun, HasTaken, WritesRun, run_of_pool, HasBegunMore, GoesOnOtherwise, HasTakenOne, HasTakenAll, RunsOtherwise, RunsOtherwiseOn, HasBegunRuns, AreItsRuns, AreOtherRuns};
 ghost use Rattle.mg_defs.specs.Limits.{least_cap, greatest_cap};
 
 use crate::comparison::Comparison;
-use mg_bits::BitWriter;
-use mg_check_parts::wanted;
 use mg_defs::{LEAST_BUDGET, OCCURRENCE_BYTES, ranges_join};
-use mg_dev::{FileRef, Part, PartErr, PutErr, Store};
-use mg_mem::SureStore;
-use mg_runs::{Pool, spill};
+use mg_dev::{Part, PartErr, Store};
+use mg_runs::Pool;
 use std::alloc::{AllocError, Global};
 use std::marker::Model;
-
-// The base of the store that a run is written into, and the full name of its file.
-const BASE: &str = "";
-
-const RUN: &str = ".run";
 
 /// The comparison of the part of the runs, and the pool of the occurrences behind those that were compared.
 #[derive(Drop)]
@@ -40,54 +32,6 @@ impl<'a> Model for RunPart<'a> {
     ghost Value = { RunReading };
 
     ghost view = { λ r. record { part = r.part; pool = r.pool } };
-}
-
-// Writes a pool's entries into an empty store as a run, and empties the pool.
-fn write_into<S: Store>(alloc: Global, store: &mut S, pool: &mut Pool) -> Result<(), PutErr>
-    requires run { CanBeRun pool.old }
-    ensures written { IsSome (S.files store.old) →
-        OnOk result (IsRunOf pool.old (run_bytes (S.files store.new))) }
-    ensures pool { WritesRun pool.old pool.new result }
-{
-    let file = FileRef {
-        base: BASE,
-        part: Part::Run,
-    };
-    let mut writer = match BitWriter::start(alloc, store, file) {
-        Ok(writer) => writer,
-        Err(refusal) => return Err(refusal),
-    };
-    match spill(pool, &mut writer, store) {
-        Ok(()) => {}
-        Err(refusal) => return Err(refusal),
-    }
-    match writer.finish(store) {
-        Ok(()) => Ok(()),
-        Err(refusal) => Err(refusal),
-    }
-}
-
-// The same into a store of its own.
-fn write_run(alloc: Global, pool: &mut Pool) -> Result<SureStore, AllocError>
-    requires run { CanBeRun pool.old }
-    ensures run { IfOk result (λ store.
-        IsRunOf pool.old (run_bytes (⟦<SureStore as Store>⟧.files store))) }
-    ensures pool { WritesRun pool.old pool.new result }
-{
-    let mut store = SureStore::new(alloc);
-    match write_into(alloc, &mut store, pool) {
-        Ok(()) => Ok(store),
-        // The store never fails: only memory may be wanting.
-        Err(_) => Err(AllocError),
-    }
-}
-
-// The bytes of a run that was written so.
-#[tactic(auto, unfolding(mg_dev::specs::Names::full_name))]
-fn run_in(store: &SureStore) -> &[u8]
-    ensures { result.now ≡ run_bytes (⟦<SureStore as Store>⟧.files store.now) }
-{
-    wanted(store, RUN)
 }
 
 impl<'a> RunPart<'a> {
@@ -122,14 +66,7 @@ impl<'a> RunPart<'a> {
         ensures pool { WritesRun self.old.pool self.new.pool result }
         ensures name { self.new.part.name ≡ self.old.part.name }
     {
-        let written = match write_run(self.alloc, &mut self.pool) {
-            Ok(written) => written,
-            Err(_) => return Err(PartErr::Memory),
-        };
-        match self.part.expect(store, run_in(&written)) {
-            Ok(()) => Ok(()),
-            Err(refusal) => Err(refusal),
-        }
+        self.part.expect_run(self.alloc, store, &mut self.pool)
     }
 
     /// Takes the next occurrence: a term's number, and a document's, from 1. A full pool is first compared as a run.
