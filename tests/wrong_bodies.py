@@ -48,7 +48,8 @@ def edits_are_named(suite):
 def contract_of(crate, function):
     """The clauses of the functions of this name, a trait's among them: their names, and an empty one for a clause that has none."""
     found = []
-    for path in (ROOT / "crates" / crate / "src").rglob("*.rt"):
+    # A store or a sink of a crate promises what its trait says, and that stands in mg_dev.
+    for path in [*(ROOT / "crates" / crate / "src").rglob("*.rt"), *(ROOT / "crates" / "mg_dev" / "src").rglob("*.rt")]:
         for head in re.findall(rf"\bfn {function}\b(?:<.*?>)?\(.*?(?:\n *\{{\n|\}};\n)", path.read_text(), re.S):
             found.append(re.findall(r"^\s*(?:ensures|requires) ?(\w*) ?\{", head, re.M))
     return found
