@@ -138,6 +138,33 @@ fn expect_end<S: Store>(
     }
 }
 
+// Reads all of Text, and compares it with the pages that are kept.
+fn read_held<S: Store>(
+    alloc: Global,
+    store: &mut S,
+    set: &Set<'_>,
+    reader: &mut TextReader<'_, S>,
+    held: &mut Held<'_, S>,
+) -> Result<(), PartErr>
+    requires reads { ReadsBy reader.old (S.files store.old) set.now.head.now }
+    requires pages { KeepsPages set.now.base.now (S.files store.old) held.old.text
+        held.old.places }
+    ensures { FindsText (IsLoaded (S.files store.old) set.now.base.now set.now.head.now reader.old →
+        OnOk result (FoundSet (S.files store.old) set.now.base.now set.now.head.now reader.old))
+        (WhereLoaded (S.files store.old) set.now.base.now set.now.head.now reader.old)
+        set.now.base.now reader.old reader.new result S.files S.reads S.faults store.old
+        store.new }
+{
+    let progress = match read_docs(alloc, store, set, reader, held) {
+        Ok(progress) => progress,
+        Err(refusal) => return Err(refusal),
+    };
+    match expect_end(alloc, store, set, reader.model(), held, &progress) {
+        Ok(()) => Ok(()),
+        Err(refusal) => Err(refusal),
+    }
+}
+
 /// Reads all of Text, and compares each document with its code and its place. Where it refuses a part, the set stands
 /// for no collection; else Head, Words, Nonwords, Text and Places are those of one collection, that of the documents.
 pub fn read_text<S: Store>(
@@ -154,16 +181,8 @@ pub fn read_text<S: Store>(
         reader.old reader.new result S.files S.reads S.faults store.old store.new }
 {
     let set = Set { base, head };
-    let mut held = match Held::new(alloc, &set) {
-        Ok(held) => held,
-        Err(AllocError) => return Err(PartErr::Memory),
-    };
-    let progress = match read_docs(alloc, store, &set, reader, &mut held) {
-        Ok(progress) => progress,
-        Err(refusal) => return Err(refusal),
-    };
-    match expect_end(alloc, store, &set, reader.model(), &mut held, &progress) {
-        Ok(()) => Ok(()),
-        Err(refusal) => Err(refusal),
+    match Held::new(alloc, &set) {
+        Ok(mut held) => read_held(alloc, store, &set, reader, &mut held),
+        Err(AllocError) => Err(PartErr::Memory),
     }
 }
