@@ -1,7 +1,9 @@
 -- From the lists of all terms to the answer.
 use Rattle.std.proofs.Common.{arith, ◌≡◌, ◌≢◌, ◌+◌, ◌≤◌, ◌<◌, ℕ, Bool, List, [], ◌∷◌, ◌++◌, length, map, filter, take, get_or, sum_by, refl, sym, ap, subst}
 use Rattle.std.proofs.Common.{◌∙◌, slice_index_or, Err}
-use Rattle.std.specs.List.{All, enumerate_from, list_any}
+use Rattle.std.specs.Prelude.{Result, Ok}
+use Rattle.std.specs.List.{All, enumerate_from, list_any, IsDistinct}
+use Rattle.std.specs.Str.{bytes_eq}
 use Rattle.std.proofs.lemmas.List.{get_or_default, length-map, take_more, take_all}
 use Rattle.std.proofs.lemmas.List.FromFn.{length-enumerate_from}
 use Rattle.std.proofs.lemmas.List.Sums.{count_by-le-length, length-filter, sum_by-append, sum_by-cons, sum_by-take-le}
@@ -11,7 +13,8 @@ use Rattle.mg_dev.specs.PartCauses.{HasPartCause}
 use Rattle.mg_dev.specs.declared.part_err.PartErr.{PartErr}
 use Rattle.mg_dev.specs.declared.part_err.PartErr.TheVariants as part
 use Rattle.mg_defs.specs.Split.{documents}
-use Rattle.mg_defs.specs.Weights.{Hit, hits_over, has_term, score_over}
+use Rattle.mg_defs.specs.Weights.{Hit, by_score, hits, hits_over, has_term, score_over}
+use Rattle.mg_defs.proofs.FirstLaws.{hits_of_distinct}
 use Rattle.mg_layout.specs.Infos.{IsInfoOf}
 use Rattle.mg_layout.specs.declared.term_info.TermInfo.{TermInfo}
 use Rattle.mg_defs.specs.PageBounds.{list_pages, ranked_bound}
@@ -20,7 +23,7 @@ use Rattle.mg_post.specs.Cursor.{Cursoring, SameList, skip_pages}
 use Rattle.mg_post.specs.Finding.{entries_pages}
 use Rattle.mg_post.specs.TermLists.{ReadsLists}
 use Rattle.mg_rank.specs.declared.best.Kept.{Kept}
-use Rattle.mg_rank.specs.Ranked.{AnswersOr, AnswersTop, AreTold, IsNumbered, ReadsRanked, ReadsWeights, SumsFor, list_entries}
+use Rattle.mg_rank.specs.Ranked.{AnswersOr, AnswersTop, AreTold, IsNumbered, Ranking, ReadsRanked, ReadsWeights, SumsFor, list_entries}
 use Rattle.mg_rank.specs.Rows.{AreNumbered, hit_in, hits_in}
 use Rattle.mg_rank.specs.Sums.{AreWithin}
 use Rattle.mg_rank.proofs.HitLaws.{row_of, same_hits}
@@ -103,6 +106,16 @@ pub top_err : {A : Type 0} (e : PartErr) (f : A → Type 0) (collection : List �
 top_err part.Device f collection ts most got = tt
 top_err part.Memory f collection ts most got = tt
 top_err (part.Bad bad) f collection ts most got = absurd got
+
+-- the terms are distinct, so that their list is the query
+pub top_over : (collection : List ℕ) (ts : List (List ℕ)) (most : ℕ) (result : Result Ranking PartErr) → IsDistinct bytes_eq ts →
+    AnswersOr result (λ r. (r.rows ≡ take most (by_score (hits_over collection ts))) × (r.total ≡ length (hits_over collection ts))) → AnswersTop result collection ts most
+top_over collection ts most (Ok r) apart got =
+    let once : hits_over collection ts ≡ hits collection ts = sym (hits_of_distinct collection ts apart) in
+    (got.0 ∙ ap (λ hs. take most (by_score hs)) once, got.1 ∙ ap length once)
+top_over collection ts most (Err part.Device) apart got = tt
+top_over collection ts most (Err part.Memory) apart got = tt
+top_over collection ts most (Err (part.Bad bad)) apart got = absurd got
 
 -- a refusal that no device made
 pub calm_cause : {T : Type 0} (e : PartErr) {m n : ℕ} → e ≢ part.Device → m ≤ n → HasPartCause {T = T} m n (Err e)

@@ -23,7 +23,7 @@ use Rattle.mg_defs.specs.Weights.{weight}
 use Rattle.mg_post.specs.Answers.{AnswersList}
 use Rattle.mg_rank.specs.declared.best.Kept.{Kept}
 use Rattle.mg_rank.specs.Best.{TakesRow, kept_cmp}
-use Rattle.mg_rank.specs.Calls.{AreSums, FindsFirst}
+use Rattle.mg_rank.specs.Calls.{AreSums, FindsFirst, FindsIn}
 use Rattle.mg_rank.specs.Ranked.{AnswersOr, ForSums, ForWeight, ReadsWeights, SumsFor, WeightsStand}
 use Rattle.mg_rank.specs.Rows.{AreNumbered, hit_in, hits_in}
 use Rattle.mg_rank.specs.WeightReads.{weight_page}
@@ -79,10 +79,10 @@ rows_none {all = all} rows none zero = record {
 }
 
 -- the rows of the documents in so many places were offered
-pub record Under (base : List ℕ) (sums : List (ℕ × ℕ)) (all most k : ℕ) (weights : Paging) (best : List Kept) (files_before files_now : Option Files)
+pub record Under (name : List ℕ) (sums : List (ℕ × ℕ)) (all most k : ℕ) (weights : Paging) (best : List Kept) (files_before files_now : Option Files)
     (reads_before reads_now : Reads) (faults_before faults_now : ℕ) : Type 0 where
   pub fits : Fits weights files_now
-  pub name : weights.name ≡ full_name base part.Weights
+  pub name_is : weights.name ≡ name
   pub own : weights.part ≡ part.Weights
   pub files : files_now ≡ files_before
   pub reads : ReadsWeights reads_before reads_now
@@ -91,13 +91,14 @@ pub record Under (base : List ℕ) (sums : List (ℕ × ℕ)) (all most k : ℕ)
   pub heap : IsHeap kept_cmp best
   pub size : length best ≡ min most k
   pub numbered : AreNumbered all best
-  pub holds : ForSums base files_before all sums (λ collection ts. Holds most (map (row_of collection) (take k sums)) (hits_in best))
+  pub holds : (base : List ℕ) → name ≡ full_name base part.Weights →
+      ForSums base files_before all sums (λ collection ts. Holds most (map (row_of collection) (take k sums)) (hits_in best))
 
-pub under_start : {base : List ℕ} {sums : List (ℕ × ℕ)} {all most : ℕ} {weights : Paging} {best : List Kept} {f : Option Files} {r : Reads} {n : ℕ} → Fits weights f →
-    weights.name ≡ full_name base part.Weights → weights.part ≡ part.Weights → weights.held ≡ None → best ≡ [] → IsHeap kept_cmp best → Under base sums all most 0 weights best f f r r n n
-under_start {sums = sums} {all = all} {most = most} fits name own held none heap = record {
+pub under_start : {sums : List (ℕ × ℕ)} {all most : ℕ} {weights : Paging} {best : List Kept} {f : Option Files} {r : Reads} {n : ℕ} → Fits weights f →
+    weights.part ≡ part.Weights → weights.held ≡ None → best ≡ [] → IsHeap kept_cmp best → Under weights.name sums all most 0 weights best f f r r n n
+under_start {sums = sums} {all = all} {most = most} fits own held none heap = record {
   fits = fits;
-  name = name;
+  name_is = refl;
   own = own;
   files = refl;
   reads = record { later = λ p. omega arith; others = λ p o. refl };
@@ -106,28 +107,28 @@ under_start {sums = sums} {all = all} {most = most} fits name own held none heap
   heap = heap;
   size = omega (arith, ap length none);
   numbered = rw none (All-nil (numbered all));
-  holds = λ collection ts stand all_is of. rw none (hold_start most);
+  holds = λ base is collection ts stand all_is of. rw none (hold_start most);
 }
 
-module _ {base : List ℕ} {sums : List (ℕ × ℕ)} {all most k : ℕ} {weights : Paging} {best : List Kept} {f g h : Option Files} {r s t : Reads} {l m n : ℕ} {x : ℕ × ℕ}
-    (u : Under base sums all most k weights best f g r s l m) (a : EntryAt all k sums x) (looked : Looked weights.part g h s t m n)
+module _ {name : List ℕ} {sums : List (ℕ × ℕ)} {all most k : ℕ} {weights : Paging} {best : List Kept} {f g h : Option Files} {r s t : Reads} {l m n : ℕ} {x : ℕ × ℕ}
+    (u : Under name sums all most k weights best f g r s l m) (a : EntryAt all k sums x) (looked : Looked weights.part g h s t m n)
     (read : t weights.part ≤ s weights.part + lacks weights.held (weight_page x.0)) where
   own_read : t part.Weights ≤ s part.Weights + lacks weights.held (weight_page x.0)
   own_read = subst (λ p. t p ≤ s p + lacks weights.held (weight_page x.0)) u.own read
 
   -- where the parts stand, the weight that was read is the document's
-  weight_told : {claim : ℕ → Type 0} → (IsSome g → ForWeight weights g x.0 claim) → (collection : List ℕ) (ts : List (List ℕ)) → WeightsStand base f collection →
-      all ≡ length (documents collection) → SumsFor collection ts sums → claim (weight (document collection x.0))
-  weight_told told collection ts stand all_is of =
+  weight_told : {claim : ℕ → Type 0} → (IsSome g → ForWeight weights g x.0 claim) → (base : List ℕ) → name ≡ full_name base part.Weights → (collection : List ℕ) (ts : List (List ℕ)) →
+      WeightsStand base f collection → all ≡ length (documents collection) → SumsFor collection ts sums → claim (weight (document collection x.0))
+  weight_told told base is collection ts stand all_is of =
       let some = has_some collection ts x.0 x.1 (sym (of.each x.0 a.low) ∙ a.found) in
-      let bytes_are = ap (bytes_at g) u.name ∙ ap (λ fs. bytes_at fs (full_name base part.Weights)) u.files ∙ stand.weights in
+      let bytes_are = ap (bytes_at g) (u.name_is ∙ is) ∙ ap (λ fs. bytes_at fs (full_name base part.Weights)) u.files ∙ stand.weights in
       told (subst IsSome (sym u.files) stand.lists.told) (weight (document collection x.0)) (weight_some collection ts x.0 stand.lists.short some)
       (weight_small (document collection x.0)) (weight_stands collection _ x.0 bytes_are a.low (omega (arith, a.high, all_is)))
 
-  rows_err : (e : PartErr) → ForSums base f all sums (λ collection ts. AnswersOr {T = Vec Kept Global} (Err e) (λ rows. ⊥)) → HasPartCause {T = ℕ} m n (Err e) →
-      FindsFirst base sums all most (Err e) f h r t l n
-  rows_err e answer cause = record {
-    answer = λ collection ts stand all_is of. or_or e _ _ (answer collection ts stand all_is of);
+  rows_err : (e : PartErr) → ((base : List ℕ) → name ≡ full_name base part.Weights → ForSums base f all sums (λ collection ts. AnswersOr {T = Vec Kept Global} (Err e) (λ rows. ⊥))) →
+      HasPartCause {T = ℕ} m n (Err e) → FindsIn name sums all most (Err e) f h r t l n
+  rows_err e answer cause = λ base is. record {
+    answer = λ collection ts stand all_is of. or_or e _ _ (answer base is collection ts stand all_is of);
     range = tt;
     weights = read_refused all k _ _ _ sums (0, 0) x _ a.there a.is a.low a.high own_read u.weights_read;
     reads = reads_on u.own u.reads looked;
@@ -137,21 +138,21 @@ module _ {base : List ℕ} {sums : List (ℕ × ℕ)} {all most k : ℕ} {weight
 
   -- the weight was refused
   pub rows_refused : (e : PartErr) → (IsSome g → ForWeight weights g x.0 (λ w. AnswersList (Err e) (λ v. v ≡ w))) → HasPartCause {T = ℕ} m n (Err e) →
-      FindsFirst base sums all most (Err e) f h r t l n
+      FindsIn name sums all most (Err e) f h r t l n
   rows_refused e told cause =
-      rows_err e (λ collection ts stand all_is of. or_list {B = Vec Kept Global} e _ _ (weight_told told collection ts stand all_is of)) cause
+      rows_err e (λ base is collection ts stand all_is of. or_list {B = Vec Kept Global} e _ _ (weight_told told base is collection ts stand all_is of)) cause
 
   -- memory was wanting for a row more
-  pub rows_short : FindsFirst base sums all most (Err err.Memory) f h r t l n
-  rows_short = rows_err err.Memory (λ collection ts stand all_is of. tt) (record { later = looked.faults; device = tt })
+  pub rows_short : FindsIn name sums all most (Err err.Memory) f h r t l n
+  rows_short = rows_err err.Memory (λ base is collection ts stand all_is of. tt) (record { later = looked.faults; device = tt })
 
   -- a row was offered
   pub rows_next : {later : Paging} {w : ℕ} {row : Kept} {new : List Kept} → SameFile weights later → Fits later h → later.held ≡ Some (weight_page x.0) →
       (IsSome g → ForWeight weights g x.0 (λ v. w ≡ v)) → row.document ≡ x.0 → ((collection : List ℕ) → w ≡ weight (document collection x.0) → hit_in row ≡ row_of collection x) →
-      TakesRow most row best new → Under base sums all most (k + 1) later new f h r t l n
+      TakesRow most row best new → Under name sums all most (k + 1) later new f h r t l n
   rows_next {row = row} {new = new} same fits held told document_is hit_is taken = record {
     fits = fits;
-    name = same.name ∙ u.name;
+    name_is = same.name ∙ u.name_is;
     own = same.part ∙ u.own;
     files = looked.files ∙ u.files;
     reads = reads_on u.own u.reads looked;
@@ -160,19 +161,19 @@ module _ {base : List ℕ} {sums : List (ℕ × ℕ)} {all most k : ℕ} {weight
     heap = taken.heap;
     size = omega (arith, taken.len, u.size);
     numbered = numbered_more all row best new u.numbered (omega (arith, document_is, a.low), omega (arith, document_is, a.high)) taken.taken;
-    holds = λ collection ts stand all_is of.
-        let hit = hit_is collection (weight_told told collection ts stand all_is of) in
-        let more = hold_more most (map (row_of collection) (take k sums)) best new row (u.holds collection ts stand all_is of) taken.taken taken.len in
+    holds = λ base is collection ts stand all_is of.
+        let hit = hit_is collection (weight_told told base is collection ts stand all_is of) in
+        let more = hold_more most (map (row_of collection) (take k sums)) best new row (u.holds base is collection ts stand all_is of) taken.taken taken.len in
         subst (λ hits. Holds most hits (hits_in new)) (ap (λ last. map (row_of collection) (take k sums) ++ last ∷ []) hit ∙ sym (rows_more collection sums k (0, 0) x a.there a.is)) more;
   }
 
 -- the rows of all documents were offered
-pub rows_found : {base : List ℕ} {sums : List (ℕ × ℕ)} {all most k : ℕ} {weights : Paging} {best : List Kept} {f g : Option Files} {r s : Reads} {l m : ℕ} (rows : Vec Kept Global) →
-    AreSums all sums → Under base sums all most k weights best f g r s l m → length sums ≤ k → IsPermutation best rows.items → IsSorted kept_cmp rows.items →
-    FindsFirst base sums all most (Ok rows) f g r s l m
-rows_found {sums = sums} {all = all} {most = most} {k = k} {best = best} rows are u whole same sorted = record {
+pub rows_found : {name : List ℕ} {sums : List (ℕ × ℕ)} {all most k : ℕ} {weights : Paging} {best : List Kept} {f g : Option Files} {r s : Reads} {l m : ℕ} (rows : Vec Kept Global) →
+    AreSums all sums → Under name sums all most k weights best f g r s l m → length sums ≤ k → IsPermutation best rows.items → IsSorted kept_cmp rows.items →
+    FindsIn name sums all most (Ok rows) f g r s l m
+rows_found {sums = sums} {all = all} {most = most} {k = k} {best = best} rows are u whole same sorted = λ base is. record {
   answer = λ collection ts stand all_is of.
-      let holds = subst (λ some. Holds most (map (row_of collection) some) (hits_in best)) (take_all k sums whole) (u.holds collection ts stand all_is of) in
+      let holds = subst (λ some. Holds most (map (row_of collection) some) (hits_in best)) (take_all k sums whole) (u.holds base is collection ts stand all_is of) in
       are_first collection ts most (map (row_of collection) sums) best rows.items (same_hits collection ts all sums of are.within) holds (omega (arith, u.size)) same sorted;
   range = numbered_same all best rows.items u.numbered same;
   weights = read_most all k _ _ sums _ u.weights_read;

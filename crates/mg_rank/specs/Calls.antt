@@ -1,17 +1,21 @@
 -- What the calls promise that make a ranked answer, told of the two moments before and after.
-use Rattle.std.specs.Prelude.{◌≡◌, ℕ, ◌+◌, ◌*◌, ◌^◌, ◌≤◌, ◌<◌, List, length, sum_by, Vec, IfOk, OnOk}
+use Rattle.std.specs.Prelude.{◌≡◌, ℕ, ◌+◌, ◌*◌, ◌^◌, ◌≤◌, ◌<◌, List, [], length, sum_by, take, Vec, IfOk, OnOk}
 use Rattle.std.specs.List.{All}
 use Rattle.std.specs.declared.option.Option.{Option}
 use Rattle.std.specs.declared.result.Result.{Result}
 use Rattle.std.proofs.Common.{Global}
 use Rattle.mg_dev.specs.Files.{Files, Reads}
+use Rattle.mg_dev.specs.Moments.{StoreStep}
+use Rattle.mg_dev.specs.Names.{full_name}
 use Rattle.mg_dev.specs.PartCauses.{HasPartCause}
 use Rattle.mg_dev.specs.declared.part.Part.TheVariants as part
 use Rattle.mg_dev.specs.declared.part_err.PartErr.{PartErr}
 use Rattle.mg_defs.specs.PageBounds.{list_pages, ranked_bound}
+use Rattle.mg_defs.specs.Weights.{by_score, hits_over, weight_of_term}
 use Rattle.mg_layout.specs.declared.term_info.TermInfo.{TermInfo}
+use Rattle.mg_post.specs.Cursor.{Cursoring, count_behind, post_pages, skip_pages}
 use Rattle.mg_post.specs.PagesOnce.{span_pages}
-use Rattle.mg_post.specs.TermLists.{ReadsLists}
+use Rattle.mg_post.specs.TermLists.{CursorForInfo, IsOverInfo, ReadsLists}
 use Rattle.mg_rank.specs.Added.{AddedTo, AddsWhole, CountsWhole}
 use Rattle.mg_rank.specs.Ranked.{AddsTerm, AnswersOr, AnswersTop, ForRanked, ForSums, ForTerm, ForTerms, IsNumbered, Ranking, ReadsRanked, ReadsWeights, SumsFor, list_entries}
 use Rattle.mg_rank.specs.Rows.{AreFirst, AreNumbered}
@@ -53,6 +57,22 @@ pub record AddsList (base : List ℕ) (info : TermInfo) (all : ℕ) (old new : L
   -- a device's failure has a cause
   pub cause : HasPartCause faults_before faults_now result
 
+-- a cursor stands before the list of which the lexicon tells this, and has read nothing
+pub record IsBefore (base : List ℕ) (info : TermInfo) (all : ℕ) (c : Cursoring) : Type 0 where
+  pub over : IsOverInfo c base info all
+  pub term : CursorForInfo base info all c
+  -- all postings are left
+  pub held : c.held ≡ []
+  pub whole : count_behind c ≡ info.docs
+  pub post : post_pages c ≡ 0
+  pub skip : skip_pages c ≡ 0
+
+-- the list before which a cursor stands is gone over, by the weight of its term
+abbrev pub AddsBehind : Cursoring → ℕ → List (ℕ × ℕ) → List (ℕ × ℕ) → Result (Unit {0}) PartErr → StoreStep
+AddsBehind c weight old new result files_before files_now reads_before reads_now faults_before faults_now =
+    (base : List ℕ) (info : TermInfo) → IsBefore base info c.all c → weight ≡ weight_of_term info.docs c.all →
+    AddsList base info c.all old new result files_before files_now reads_before reads_now faults_before faults_now
+
 -- the lists of all terms are gone over, and the documents have their sums
 pub record SumsTerms (base : List ℕ) (terms : List TermInfo) (all : ℕ) (result : Result (List (ℕ × ℕ)) PartErr)
     (files_before files_now : Option Files) (reads_before reads_now : Reads) (faults_before faults_now : ℕ) : Type 0 where
@@ -86,6 +106,31 @@ pub record FindsFirst (base : List ℕ) (sums : List (ℕ × ℕ)) (all most : �
   pub range : IfOk result (λ rows. AreNumbered all rows.items)
   -- the pages of Weights are read at most once in each ascent of the documents
   pub weights : reads_now part.Weights ≤ reads_before part.Weights + ascents_in sums * weight_pages all
+  -- no other part is read
+  pub reads : ReadsWeights reads_before reads_now
+  -- nothing is written
+  pub files : files_now ≡ files_before
+  -- a device's failure has a cause
+  pub cause : HasPartCause faults_before faults_now result
+
+-- they are found by the weights in a file of this name
+abbrev pub FindsIn : List ℕ → List (ℕ × ℕ) → ℕ → ℕ → Result (Vec Kept Global) PartErr → StoreStep
+FindsIn name sums all most result files_before files_now reads_before reads_now faults_before faults_now =
+    (base : List ℕ) → name ≡ full_name base part.Weights →
+    FindsFirst base sums all most result files_before files_now reads_before reads_now faults_before faults_now
+
+-- the first documents with these sums are found, at most so many, and all with a sum are counted
+pub record RanksSums (base : List ℕ) (sums : List (ℕ × ℕ)) (all most : ℕ) (result : Result Ranking PartErr)
+    (files_before files_now : Option Files) (reads_before reads_now : Reads) (faults_before faults_now : ℕ) : Type 0 where
+  -- where the parts stand, they are the first of the documents with a term, and all of these are counted
+  pub answer : ForSums base files_before all sums (λ collection ts. AnswersOr result (λ r.
+      (r.rows ≡ take most (by_score (hits_over collection ts))) × (r.total ≡ length (hits_over collection ts))))
+  -- whatever the parts have, they are rows of documents, and the sums were counted
+  pub range : IfOk result (λ r. All (IsNumbered all) r.rows)
+  pub total : IfOk result (λ r. r.total ≡ length sums)
+  -- the pages of Weights are read at most once in each ascent of the documents, and none where no row is wanted
+  pub weights : reads_now part.Weights ≤ reads_before part.Weights + ascents_in sums * weight_pages all
+  pub none : most ≡ 0 → reads_now part.Weights ≡ reads_before part.Weights
   -- no other part is read
   pub reads : ReadsWeights reads_before reads_now
   -- nothing is written

@@ -2,7 +2,8 @@
 ghost use Rattle.std.specs.Prelude.{◌≡◌, ◌≢◌, ℕ, ◌*◌, ◌≤◌, ◌<◌, ◌^◌, Ok, Err, IfOk, OnOk, OnErr};
 ghost use Rattle.mg_dev.specs.Moments.{Between};
 ghost use Rattle.mg_defs.specs.Weights.{weight_of_term, weight_in_doc};
-ghost use Rattle.mg_rank.specs.Calls.{AddsList};
+ghost use Rattle.mg_post.specs.Cursor.{CursorFits};
+ghost use Rattle.mg_rank.specs.Calls.{AddsBehind, AddsList};
 ghost use Rattle.mg_rank.specs.Sums.{sum_of, with_more};
 
 use crate::sums::Sums;
@@ -64,8 +65,46 @@ fn add_posting(sums: &mut Sums, weight: u32, posting: Posting) -> Result<(), All
     sums.add(posting.doc, more)
 }
 
-/// Goes over the list of a term, and adds to the sum of each of its documents. Whatever the parts have,
-/// it is the whole list: one that ends before its last posting is no answer.
+/// Adds each posting of the list before which a cursor stands to the sum of its document. Whatever the
+/// parts have, it is the whole list: one that ends before its last posting is no answer.
+fn add_postings<S: Store>(
+    cursor: &mut Cursor<'_, S>,
+    store: &mut S,
+    weight: u32,
+    sums: &mut Sums,
+) -> Result<(), PartErr>
+    requires fits { CursorFits cursor.old (S.files store.old) }
+    requires small { (d : ℕ) → sum_of d sums.old ≤ 2 ^ 40 }
+    requires high { weight < 2 ^ 14 }
+    ensures { Between S.files S.reads S.faults store.old store.new
+        (AddsBehind cursor.old weight sums.old sums.new result) }
+{
+    cursor_pages_are_within();
+    each_page_is_read_once();
+    let mut last = 0;
+    while last < u32::MAX {
+        let posting = match cursor.next_behind(store, last) {
+            Ok(Some(posting)) => posting,
+            Ok(None) => return Ok(()),
+            Err(refusal) => return Err(refusal),
+        };
+        match add_posting(sums, weight, posting) {
+            Ok(()) => {}
+            Err(_lack) => return Err(PartErr::Memory),
+        }
+        last = posting.doc;
+    }
+    // No set has so many documents.
+    Err(PartErr::Bad(Bad {
+        part: Part::Post,
+        at: 0,
+        low: 0,
+        high: 4294967294,
+        found: u64::from(last),
+    }))
+}
+
+/// Goes over the list of a term, and adds to the sum of each of its documents.
 pub(crate) fn add_list<S: Store>(
     alloc: Global,
     store: &mut S,
@@ -91,27 +130,5 @@ pub(crate) fn add_list<S: Store>(
         Ok(cursor) => cursor,
         Err(_lack) => return Err(PartErr::Memory),
     };
-    cursor_pages_are_within();
-    each_page_is_read_once();
-    let mut last = 0;
-    while last < u32::MAX {
-        let posting = match cursor.next_behind(store, last) {
-            Ok(Some(posting)) => posting,
-            Ok(None) => return Ok(()),
-            Err(refusal) => return Err(refusal),
-        };
-        match add_posting(sums, weight, posting) {
-            Ok(()) => {}
-            Err(_lack) => return Err(PartErr::Memory),
-        }
-        last = posting.doc;
-    }
-    // No set has so many documents.
-    Err(PartErr::Bad(Bad {
-        part: Part::Post,
-        at: 0,
-        low: 0,
-        high: 4294967294,
-        found: u64::from(last),
-    }))
+    add_postings(&mut cursor, store, weight, sums)
 }

@@ -9,7 +9,7 @@ ghost use Rattle.mg_dev.specs.declared.part.Part.TheVariants as part;
 ghost use Rattle.mg_defs.specs.Weights.{Hit};
 ghost use Rattle.mg_defs.specs.PageBounds.{ranked_bound};
 ghost use Rattle.mg_post.specs.PagesOnce.{span_pages};
-ghost use Rattle.mg_rank.specs.Calls.{RanksTerms, SumsTerms};
+ghost use Rattle.mg_rank.specs.Calls.{AreSums, RanksSums, RanksTerms, SumsTerms};
 ghost use Rattle.mg_rank.specs.Ranked.{AnswersTop, IsNumbered, ReadsRanked, PostWithin, SkipWithin, ForTerms, ForRanked, list_entries};
 ghost use Rattle.mg_rank.specs.Added.{CountsWhole};
 ghost use Rattle.mg_rank.specs.WeightReads.{WeightsWithin, weight_pages};
@@ -140,7 +140,33 @@ fn count(sums: &Sums) -> Result<u32, PartErr>
     Ok(count as u32)
 }
 
-// The same, where the weights have their size.
+/// The first rows of the documents with these sums, and how many documents have one.
+fn rank_sums<S: Store>(
+    alloc: Global,
+    store: &mut S,
+    base: &str,
+    sums: &Sums,
+    all: u32,
+    most: u32,
+) -> Result<Ranked, PartErr>
+    requires { AreSums all sums.now }
+    ensures { Between S.files S.reads S.faults store.old store.new
+        (RanksSums base.now sums.now all most result) }
+{
+    let total = match count(sums) {
+        Ok(total) => total,
+        Err(refusal) => return Err(refusal),
+    };
+    match first_rows(alloc, store, base, sums, all, most as usize) {
+        Ok(rows) => Ok(Ranked {
+            rows: RankRows { rows },
+            total,
+        }),
+        Err(refusal) => Err(refusal),
+    }
+}
+
+/// A ranked answer, where the weights have their size.
 fn rank_sized<S: Store>(
     alloc: Global,
     store: &mut S,
@@ -153,19 +179,8 @@ fn rank_sized<S: Store>(
     ensures { Between S.files S.reads S.faults store.old store.new
         (RanksTerms base.now terms.now all most result) }
 {
-    let sums = match sum_lists(alloc, store, base, terms, all) {
-        Ok(sums) => sums,
-        Err(refusal) => return Err(refusal),
-    };
-    let total = match count(&sums) {
-        Ok(total) => total,
-        Err(refusal) => return Err(refusal),
-    };
-    match first_rows(alloc, store, base, &sums, all, most as usize) {
-        Ok(rows) => Ok(Ranked {
-            rows: RankRows { rows },
-            total,
-        }),
+    match sum_lists(alloc, store, base, terms, all) {
+        Ok(sums) => rank_sums(alloc, store, base, &sums, all, most),
         Err(refusal) => Err(refusal),
     }
 }
