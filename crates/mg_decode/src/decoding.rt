@@ -16,6 +16,7 @@ ghost use Rattle.mg_decode.specs.Decoded.{DecodesSet, WithinHead};
 ghost use Rattle.mg_decode.specs.Outcomes.{DecodeStops, DoneUnlessFails, LacksEarly, ShowsSet};
 
 use crate::documents::show_documents;
+use crate::loaded_text::LoadedText;
 use mg_dev::{Fault, PartErr, ShowErr, Sink, Store};
 use mg_layout::Head;
 use mg_text::{ShowBuffer, TextReader};
@@ -87,35 +88,36 @@ fn decode_files<S: Store, O: Sink>(
         Some(head) => head,
         None => return Err(Fault::NotBuilt),
     };
-    match show_set(alloc, store, base, &head, out) {
+    match show_set::<S, O, TextReader<'_, S>>(alloc, store, base, &head, out) {
         Ok(()) => Ok(()),
         Err(refusal) => Err(Fault::from(refusal)),
     }
 }
 
-// Writes the collection of a set with this head.
-fn show_set<S: Store, O: Sink>(
+// Writes the collection of a set with this head. What reads the text is a parameter, so that nothing is seen of it here
+// but what it promises.
+fn show_set<'a, S: Store, O: Sink, T: LoadedText<'a, S> + Drop>(
     alloc: Global,
     store: &mut S,
-    base: &str,
+    base: &'a str,
     head: &Head,
     out: &mut O,
 ) -> Result<(), ShowErr>
     requires words { head.now.words ≤ 2 ^ 22 }
     requires others { head.now.others ≤ 2 ^ 22 }
-    ensures { ShowsSet head.now base.now S.files S.reads S.faults store.old store.new O.written
-        O.faults O.lacks out.old out.new result }
+    ensures { ShowsSet head.now base.entry.now S.files S.reads S.faults store.old store.new
+        O.written O.faults O.lacks out.old out.new result }
 {
     let mut buffer = match ShowBuffer::new(alloc, head.collection) {
         Ok(buffer) => buffer,
         Err(_) => return Err(ShowErr::Part(PartErr::Memory)),
     };
-    let mut reader = match TextReader::load(alloc, store, base, head) {
-        Ok(reader) => reader,
+    let mut text = match T::load(alloc, store, base, head) {
+        Ok(text) => text,
         Err(refusal) => return Err(ShowErr::Part(refusal)),
     };
     show_documents(
-        &mut reader,
+        &mut text,
         store,
         head.documents,
         head.open_end,

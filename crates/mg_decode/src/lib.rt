@@ -6,5 +6,6 @@
 
 mod decoding;
 mod documents;
+mod loaded_text;
 
 pub use decoding::decode;

@@ -3,7 +3,7 @@ use Rattle.mg_defs.specs.Terms.{document}
 use Rattle.mg_text.specs.Decoding.{Gathers, Shown}
 use Rattle.mg_text.proofs.CallerLemmas.{adds_more}
 use Rattle.mg_decode.proofs.DocumentLaws.{byte_put, close_fits, doc_fits, doc_short, grew_close, with_close, without_close}
-use Rattle.mg_decode.proofs.documents.gather_closed.Goals as goal
+use Rattle.mg_decode.proofs.loaded_text.TextReaderLoadedText.gather_closed.Goals as goal
 
 pub returns-in-Err-clause-content : goal.returns-in-Err-clause-content
 returns-in-Err-clause-content g c = λ collection before bytes most stands shown fits.
