@@ -10,13 +10,20 @@ use Rattle.mg_defs.specs.declared.Posting.{Posting}
 use Rattle.mg_defs.specs.Lists.{bits_after, last_doc, Rises, doc_before, bits_before, block_of, block_pages}
 use Rattle.mg_defs.specs.PagesOf.{pages}
 use Rattle.mg_defs.proofs.ListLaws.{bits_append, rises_left, rises_right, rest_stands, block_last}
+use Rattle.mg_dev.specs.Files.{Files}
 use Rattle.mg_bits.specs.Feed.{Feeding, Device as Seen, Read, ReadsWithin, to_read}
+use Rattle.mg_bits.specs.Reading.{Reading}
+use Rattle.mg_post.specs.declared.enter.ListPlace.{ListPlace}
+use Rattle.mg_post.specs.declared.find.Found.{Found}
 use Rattle.mg_post.specs.declared.refusal.Refusal.{Refusal}
+use Rattle.mg_post.specs.Entering.{EntersFound}
+use Rattle.mg_post.specs.Reading.{ReadsFeed}
 use Rattle.mg_post.specs.PagesOnce.{ReadsOn}
 use Rattle.mg_post.specs.Stands.{BlockStands}
 use Rattle.mg_post.specs.Finding.{IsFoundAt}
 use Rattle.mg_post.specs.Cursor.{Entered, forward_to, head_of}
 use Rattle.mg_post.proofs.ForwardLaws.{forward_some}
+use Rattle.mg_post.proofs.ReadLaws.{any_refused}
 use Rattle.mg_post.specs.Answers.{OrDevice}
 
 parted : (b n : ℕ) (ps : List Posting) → bits_after b 0 ps ≡ bits_after b 0 (take n ps) ++ bits_after b (doc_before n ps) (drop n ps)
@@ -211,3 +218,27 @@ block_filled told all b at count before last place ps held result stands is answ
 pub filled_some : (told : Option (List ℕ)) (all b at count before last doc : ℕ) (ps : List Posting) → before < doc → doc ≤ last →
     BlockStands all b told at count before last ps → 0 < length (forward_to doc ps)
 filled_some told all b at count before last doc ps after within stands = forward_some all before doc ps stands.rises after (omega (arith, within, stands.last_is))
+
+-- what a refusal tells is told whatever postings are at hand
+pub refused_beside : {Fed Dev : Type 0} {agrees : Fed → Option Files → Type 0} {feeding : Fed → Feeding} {device : Dev → Seen} {old new : Reading Fed} {d e : Dev}
+    {list : ListPlace} {found : Found} {doc : ℕ} {held other : List Posting} {refusal : Refusal} →
+    ReadsFeed (EntersFound list found doc held) agrees feeding device old new d e (Err refusal) →
+    ReadsFeed (EntersFound list found doc other) agrees feeding device old new d e (Err refusal)
+refused_beside {refusal = refusal} s = record {
+  does = record {
+    sound = tt;
+    from = tt;
+    current = tt;
+    whole = λ is. tt;
+    shows = tt;
+    count = tt;
+    listed = λ ps blocks rises whole shows small there.
+        let got = s.does.listed ps blocks rises whole shows small there in
+        record { told = any_refused refusal _ _ got.told; most = got.most; once = got.once };
+    block = s.does.block;
+    lacks = s.does.lacks;
+  };
+  fits = s.fits;
+  calm = s.calm;
+  cause = s.cause;
+}

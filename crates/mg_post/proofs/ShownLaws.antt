@@ -147,7 +147,7 @@ pub shown_entered : {c v : Cursoring} {files : Option Files} {doc n blocks : ℕ
     SameList c v → v.ended ≡ false → v.reached ≡ f.block + 1 → v.last ≡ f.last →
     blocks ≡ block_count c.docs → WalksShown c files n → TellsFound (told_at files c.skip.name) c.skip_at c.reached c.last f → IsSound c.reached blocks c.all doc f →
     HoldsFound (told_at files c.post.name)
-    (record { post_at = c.post_at; docs = c.docs; parameter = record { value = c.parameter; some = some; small = small }; all = c.all }) doc f v.held → head_of v.held ≡ Some p →
+    (record { post_at = c.post_at; skip_at = c.skip_at; docs = c.docs; parameter = record { value = c.parameter; some = some; small = small }; all = c.all }) doc f v.held → head_of v.held ≡ Some p →
     AnswersShown c v files files doc (Some p)
 shown_entered {c} {v} {files} {doc} {n} {blocks} {f} {p} same on reached last count walks tells sound holds is =
     let block : ShowsBlock c files f.block f.before f.last holds.ps = record {

@@ -242,6 +242,7 @@ search_of c doc blocks = record { skip_at = c.skip_at; blocks = blocks; reached 
 abbrev pub list_of : (c : Cursoring) → 1 ≤ c.parameter → c.parameter < 2 ^ 48 → ListPlace
 list_of c some small = record {
   post_at = c.post_at;
+  skip_at = c.skip_at;
   docs = c.docs;
   parameter = record { value = c.parameter; some = some; small = small };
   all = c.all;

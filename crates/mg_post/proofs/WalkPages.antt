@@ -1,5 +1,5 @@
 -- Each page of Post is read once while a list is walked from its first block on.
-use Rattle.std.proofs.Common.{arith, ◌≡◌, ◌+◌, ◌*◌, ◌-◌, ◌≤◌, ◌<◌, ℕ, List, length, Some, inl, inr, ◌∙◌, refl, sym, subst}
+use Rattle.std.proofs.Common.{arith, ◌≡◌, ◌+◌, ◌*◌, ◌-◌, ◌≤◌, ◌<◌, ℕ, List, length, Some, inl, inr, ◌∙◌, refl, subst}
 use Rattle.std.specs.declared.option.Option.{Option}
 use Rattle.std.proofs.lemmas.Bool.{cases_lt}
 use Rattle.mg_dev.specs.declared.part.Part.{Part}

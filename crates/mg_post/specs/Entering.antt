@@ -1,6 +1,13 @@
 -- Where a block of a list is entered that was found for a document, and what is read for it.
-use Rattle.std.specs.Prelude.{◌≡◌, ℕ, ◌+◌, ◌-◌, ◌*◌, ◌^◌, ◌<◌, ◌≤◌, List, length, min, Option, Some, Result, IfOk, OnOk}
+use Rattle.std.specs.Prelude.{◌≡◌, ℕ, ◌+◌, ◌-◌, ◌*◌, ◌^◌, ◌<◌, ◌≤◌, List, [], length, min, Option, Some, None, Result, Ok, Err, IfOk, OnOk}
+use Rattle.mg_dev.specs.Files.{Files}
+use Rattle.mg_dev.specs.Names.{full_name}
+use Rattle.mg_dev.specs.declared.part.Part.{Part}
+use Rattle.mg_dev.specs.declared.part.Part.TheVariants.{Post}
+use Rattle.mg_layout.specs.declared.term_info.TermInfo.{TermInfo}
 use Rattle.mg_bits.specs.Feed.{Feeding}
+use Rattle.mg_bits.specs.Pages.{Fits, Paging}
+use Rattle.mg_defs.specs.Codes.{golomb_parameter}
 use Rattle.mg_defs.specs.Bits.{Shows}
 use Rattle.mg_defs.specs.declared.Posting.{Posting}
 use Rattle.mg_defs.specs.Lists.{bits_after, bits_before, Rises, block_pages}
@@ -14,6 +21,33 @@ use Rattle.mg_post.specs.declared.enter.Inside.{Inside}
 use Rattle.mg_post.specs.declared.enter.ListPlace.{ListPlace}
 use Rattle.mg_post.specs.declared.find.Found.{Found}
 use Rattle.mg_post.specs.declared.refusal.Refusal.{Refusal}
+
+-- a list that the lexicon tells of, in a set with so many documents
+pub record IsListTold (info : TermInfo) (all : ℕ) (list : ListPlace) : Type 0 where
+  pub post_at : list.post_at ≡ info.post_at
+  pub skip_at : list.skip_at ≡ info.skip_at
+  pub docs : list.docs ≡ info.docs
+  pub all_is : list.all ≡ all
+  pub parameter : 1 ≤ info.docs → list.parameter.value ≡ golomb_parameter all info.docs
+
+-- a feed over a part of a base that has read nothing
+pub record IsUnread (base : List ℕ) (own : Part) (feed : Paging) : Type 0 where
+  pub name : feed.name ≡ full_name base own
+  pub part : feed.part ≡ own
+  pub held : feed.held ≡ None
+  pub count : feed.count ≡ 0
+  pub fits : (files : Option Files) → Fits feed files
+
+-- a feed over Post of a base has read nothing, and no block was entered
+pub record BeginsBlocks (base : List ℕ) (feed : Paging) (held : List Posting) (entered : ℕ) : Type 0 where
+  pub unread : IsUnread base Post feed
+  pub nothing : held ≡ []
+  pub none : entered ≡ 0
+
+-- the pages of a block that was entered were counted; of one whose reading was refused, those that were read
+abbrev pub CountsPages : Result Inside Refusal → Paging → Paging → ℕ → ℕ → Type 0
+CountsPages (Ok inside) old new before now = now ≡ min (before + inside.pages) (2 ^ 64 - 1)
+CountsPages (Err refusal) old new before now = now ≡ min (before + (new.count - old.count)) (2 ^ 64 - 1)
 
 -- a fact on a list that stands from a byte of Post on, and of which this block was found for a document
 abbrev pub WhereFound : Option (List ℕ) → ListPlace → ℕ → Found → (List Posting → Type 0) → Type 0

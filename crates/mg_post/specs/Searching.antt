@@ -2,14 +2,27 @@
 use Rattle.std.specs.Prelude.{◌≡◌, ℕ, ◌+◌, ◌/◌, ◌^◌, ◌<◌, ◌≤◌, List, Option, Some, Result, IfOk, IfSome, OnOk}
 use Rattle.mg_bits.specs.Feed.{Feeding, lacks}
 use Rattle.mg_defs.specs.Bits.{Begins, FromPlace, Shows, digits}
-use Rattle.mg_defs.specs.Lists.{SkipEntry}
+use Rattle.mg_defs.specs.Lists.{SkipEntry, block_count}
 use Rattle.mg_post.specs.Answers.{AnswersThis, IfDamaged}
 use Rattle.mg_post.specs.Finding.{EndsBefore, FindsBlock, FindsNext, FindsOnPage, IsSound, LacksAnEntry, LacksBits, LacksLast, LacksNumber, SkipReads, TellsBits, TellsFound, TellsLast, TellsOnPage, blocks_after, entries_pages, entry_page}
 use Rattle.mg_post.specs.Stands.{ShowsEntry}
+use Rattle.mg_post.specs.declared.enter.ListPlace.{ListPlace}
 use Rattle.mg_post.specs.declared.find.Found.{Found}
 use Rattle.mg_post.specs.declared.find.PageBlocks.{PageBlocks}
 use Rattle.mg_post.specs.declared.find.SkipSearch.{SkipSearch}
+use Rattle.mg_post.specs.declared.progress.Progress.{Progress}
 use Rattle.mg_post.specs.declared.refusal.Refusal.{Refusal}
+
+-- the search for the block of a document among those of a list that were not reached
+abbrev pub search_in : ListPlace → Progress → ℕ → SkipSearch
+search_in list progress doc = record {
+  skip_at = list.skip_at;
+  blocks = block_count list.docs;
+  reached = progress.reached;
+  last = progress.last;
+  all = list.all;
+  doc = doc;
+}
 
 -- no page but this one is read, and it only where it is not held; where it was not refused, it is held
 pub record HoldsPage {T : Type 0} (page : ℕ) (result : Result T Refusal) (old new : Feeding) : Type 0 where

@@ -16,18 +16,17 @@ ghost use Rattle.mg_post.specs.Shown.{AnswersShown, StandsShown};
 ghost use Rattle.mg_post.specs.TermLists.{AnswersForTerm, ReadsLists, CursorForInfo, TermPages, IsOverInfo, ForTerm, TermOnce};
 ghost use Rattle.mg_post.specs.WholeLists.{WalkStep};
 
-use crate::block::Block;
-use crate::enter::{ListPlace, enter};
-use crate::find::{SkipSearch, find_block};
-use crate::parameter::{Parameter, parameter_for};
+use crate::block_reader::{BlockReader, part_reader};
+use crate::enter::{ListPlace, list_told};
+use crate::find::find_block;
+use crate::progress::{Progress, search_from};
 use crate::refusal::refused_part;
 use mg_bits::{BitReader, PageFeed};
 use mg_defs::Posting;
-use mg_dev::{FileRef, Part, PartErr, Store};
+use mg_dev::{Part, PartErr, Store};
 use mg_layout::TermInfo;
 use std::alloc::{AllocError, Global};
 use std::marker::Model;
-use std::mem::swap;
 
 /// Goes over the postings of a list in rising order of their documents, and skips.
 ///
@@ -56,19 +55,10 @@ use std::mem::swap;
 /// | Post | a block that ends with the document that its entry tells | the first of the block |
 #[derive(Drop)]
 pub struct Cursor<'a, S: Store> {
-    post: BitReader<PageFeed<'a, S>>,
+    list: ListPlace,
+    post: BlockReader<'a, S>,
     skip: BitReader<PageFeed<'a, S>>,
-    post_at: u64,
-    skip_at: u32,
-    docs: u32,
-    all: u32,
-    parameter: Parameter,
-    reached: u32,
-    last: u32,
-    block: Block,
-    spare: Block,
-    ended: bool,
-    entered: u64,
+    progress: Progress,
 }
 
 impl<'a, S: Store> Model for Cursor<'a, S> {
@@ -80,30 +70,25 @@ impl<'a, S: Store> Model for Cursor<'a, S> {
     ghost Value = { Cursoring };
 
     ghost view = { λ c. record {
-      post = c.post.feed;
+      post = c.post.reader.feed;
       skip = c.skip.feed;
-      post_at = c.post_at;
-      skip_at = c.skip_at;
-      docs = c.docs;
-      all = c.all;
-      parameter = c.parameter.value;
-      reached = c.reached;
-      last = c.last;
-      held = c.block;
-      ended = c.ended;
-      entered = c.entered;
+      post_at = c.list.post_at;
+      skip_at = c.list.skip_at;
+      docs = c.list.docs;
+      all = c.list.all;
+      parameter = c.list.parameter.value;
+      reached = c.progress.reached;
+      last = c.progress.last;
+      held = c.post.block;
+      ended = c.progress.ended;
+      entered = c.post.entered;
     } };
 
-    ghost invariant = { λ c. (c.last ≤ c.all) × (c.reached ≤ block_count c.docs) × (c.post.feed.part ≡ part.Post) ×
-        (c.skip.feed.part ≡ part.Skip) × (c.entered < 2 ^ 64) × (c.ended ≡ true → c.block ≡ []) × HeldRises c.all c.last c.block ×
-        (min c.post.feed.count (2 ^ 64 - 1) ≤ c.entered) × HeldNone c.docs c.reached c.last c.block c.ended × (c.docs < 2 ^ 32) };
-}
-
-/// How many blocks so many postings have.
-fn count_blocks(docs: u32) -> u32
-    ensures { result ≡ block_count docs }
-{
-    ((u64::from(docs) + 63) / 64) as u32
+    ghost invariant = { λ c. (c.progress.last ≤ c.list.all) × (c.progress.reached ≤ block_count c.list.docs) ×
+        (c.post.reader.feed.part ≡ part.Post) × (c.skip.feed.part ≡ part.Skip) × (c.post.entered < 2 ^ 64) ×
+        (c.progress.ended ≡ true → c.post.block ≡ []) × HeldRises c.list.all c.progress.last c.post.block ×
+        (min c.post.reader.feed.count (2 ^ 64 - 1) ≤ c.post.entered) ×
+        HeldNone c.list.docs c.progress.reached c.progress.last c.post.block c.progress.ended × (c.list.docs < 2 ^ 32) };
 }
 
 /// The number behind a document's, which may be more than a document can have.
@@ -135,40 +120,30 @@ impl<'a, S: Store> Cursor<'a, S> {
         ensures nothing { IfOk result
             (λ c. (post_pages c ≡ 0) × (entered_pages c ≡ 0) × (skip_pages c ≡ 0)) }
     {
-        let post_file = FileRef {
-            base,
-            part: Part::Post,
+        let post = match BlockReader::start(alloc, base) {
+            Ok(post) => post,
+            Err(lack) => return Err(lack),
         };
-        let skip_file = FileRef {
-            base,
-            part: Part::Skip,
-        };
-        let post = PageFeed::new(alloc, post_file)?;
-        let skip = PageFeed::new(alloc, skip_file)?;
-        let block = Block::new(alloc)?;
-        let spare = Block::new(alloc)?;
-        Ok(Cursor {
-            post: BitReader::new(post, 0),
-            skip: BitReader::new(skip, 0),
-            post_at: info.post_at,
-            skip_at: info.skip_at,
-            docs: info.docs,
-            all,
-            parameter: parameter_for(all, info.docs),
-            reached: 0,
-            last: 0,
-            block,
-            spare,
-            ended: false,
-            entered: 0,
-        })
+        match part_reader(alloc, base, Part::Skip) {
+            Ok(skip) => Ok(Cursor {
+                list: list_told(info, all),
+                post,
+                skip,
+                progress: Progress {
+                    reached: 0,
+                    last: 0,
+                    ended: false,
+                },
+            }),
+            Err(lack) => Err(lack),
+        }
     }
 
     /// The posting that it stands on: none before the first one and after the last.
     pub fn current(&self) -> Option<Posting>
         ensures { result ≡ head_of self.now.held }
     {
-        self.block.current()
+        self.post.block.current()
     }
 
     /// Goes to the first posting, not before the current one, whose document is at least `doc`,
@@ -186,12 +161,12 @@ impl<'a, S: Store> Cursor<'a, S> {
         ensures stays { (p : Posting) → head_of self.old.held ≡ Some p → doc ≤ p.doc →
             (result ≡ Ok (Some p)) × SamePlace self.old self.new }
     {
-        if self.ended {
+        if self.progress.ended {
             return Ok(None);
         }
-        if doc <= self.last {
-            self.block.forward(doc);
-            return Ok(self.block.current());
+        if doc <= self.progress.last {
+            self.post.block.forward(doc);
+            return Ok(self.post.block.current());
         }
         self.enter_next(store, u64::from(doc))
     }
@@ -206,53 +181,23 @@ impl<'a, S: Store> Cursor<'a, S> {
         ensures { Between S.files S.reads S.faults store.old store.new
             (CursorStep self.old self.new doc doc (from_doc doc) result) }
     {
-        let blocks = count_blocks(self.docs);
-        let search = SkipSearch {
-            skip_at: self.skip_at,
-            blocks,
-            reached: self.reached,
-            last: self.last,
-            all: self.all,
-            doc,
-        };
+        let search = search_from(&self.list, &self.progress, doc);
         match find_block(&mut self.skip, store, &search) {
             Err(refusal) => Err(refused_part(refusal, Part::Skip)),
             Ok(None) => {
-                self.block.clear();
-                self.reached = blocks;
-                self.ended = true;
+                self.post.block.clear();
+                self.progress.reached = search.blocks;
+                self.progress.ended = true;
                 Ok(None)
             }
-            Ok(Some(found)) => {
-                let before = self.post.feed().reads();
-                let list = ListPlace {
-                    post_at: self.post_at,
-                    docs: self.docs,
-                    parameter: self.parameter,
-                    all: self.all,
-                };
-                match enter(
-                    &mut self.post,
-                    store,
-                    &mut self.spare,
-                    &list,
-                    found,
-                    doc as u32,
-                ) {
-                    Err(refusal) => {
-                        let read = self.post.feed().reads() - before;
-                        self.entered = self.entered.saturating_add(read);
-                        Err(refused_part(refusal, Part::Post))
-                    }
-                    Ok(inside) => {
-                        swap(&mut self.block, &mut self.spare);
-                        self.reached = found.block + 1;
-                        self.last = found.last;
-                        self.entered = self.entered.saturating_add(inside.pages);
-                        Ok(Some(inside.posting))
-                    }
+            Ok(Some(found)) => match self.post.enter(store, &self.list, found, doc as u32) {
+                Err(refusal) => Err(refused_part(refusal, Part::Post)),
+                Ok(inside) => {
+                    self.progress.reached = found.block + 1;
+                    self.progress.last = found.last;
+                    Ok(Some(inside.posting))
                 }
-            }
+            },
         }
     }
 
@@ -267,13 +212,13 @@ impl<'a, S: Store> Cursor<'a, S> {
         ensures ended { self.old.ended ≡ true →
             (result ≡ Ok None) × (self.new ≡ self.old) × (store.new ≡ store.old) }
     {
-        if self.ended {
+        if self.progress.ended {
             return Ok(None);
         }
-        match self.block.step() {
+        match self.post.block.step() {
             Some(posting) => Ok(Some(posting)),
             None => {
-                let last = self.last;
+                let last = self.progress.last;
                 self.enter_next(store, number_behind(last))
             }
         }

@@ -3,15 +3,16 @@ ghost use Rattle.std.specs.Prelude.{◌≡◌, ◌+◌, ◌-◌, ◌*◌, ◌<�
 ghost use Rattle.mg_defs.specs.PagesOf.{pages};
 ghost use Rattle.mg_post.specs.Cursor.{IsPlace};
 ghost use Rattle.mg_post.specs.Reading.{FeedsPages, ReadsFeed};
-ghost use Rattle.mg_post.specs.Entering.{EntersFound};
+ghost use Rattle.mg_post.specs.Entering.{EntersFound, IsListTold};
 
 use crate::block::Block;
 use crate::bounds::DocBounds;
 use crate::find::Found;
-use crate::parameter::Parameter;
+use crate::parameter::{Parameter, parameter_for};
 use crate::refusal::Refusal;
 use mg_bits::{BitReader, Feed};
 use mg_defs::Posting;
+use mg_layout::TermInfo;
 
 /// The posting where a block was entered, and the pages of the block.
 #[derive(Clone, Copy, Debug, PartialEq, Eq)]
@@ -20,14 +21,28 @@ pub struct Inside {
     pub pages: u64,
 }
 
-/// A list in Post: the byte where it begins, how many postings it has, its parameter, and the number
-/// of documents.
+/// A list: the byte of Post where it begins, the number of its first skip entry, how many postings it
+/// has, its parameter, and the number of documents.
 #[derive(Clone, Copy)]
 pub struct ListPlace {
     pub post_at: u64,
+    pub skip_at: u32,
     pub docs: u32,
     pub parameter: Parameter,
     pub all: u32,
+}
+
+/// The list that the lexicon tells of, in a set with so many documents.
+pub fn list_told(info: &TermInfo, all: u32) -> ListPlace
+    ensures { IsListTold info.now all result }
+{
+    ListPlace {
+        post_at: info.post_at,
+        skip_at: info.skip_at,
+        docs: info.docs,
+        parameter: parameter_for(all, info.docs),
+        all,
+    }
 }
 
 /// How many pages of 4,096 bytes have a bit of a range.

@@ -11,6 +11,7 @@
 
 mod ahead;
 mod block;
+mod block_reader;
 mod bounds;
 mod cursor;
 mod enter;
@@ -18,6 +19,7 @@ mod find;
 mod laws;
 mod list_reader;
 mod parameter;
+mod progress;
 mod put;
 mod read;
 mod refusal;

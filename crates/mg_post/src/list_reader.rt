@@ -8,13 +8,14 @@ ghost use Rattle.mg_bits.specs.Pages.{Fits};
 ghost use Rattle.mg_post.specs.ListReading.{OpensList, ReadStep};
 
 use crate::block::Block;
+use crate::block_reader::part_reader;
 use crate::bounds::DocBounds;
 use crate::enter::place_or_most;
 use crate::parameter::{Parameter, parameter_for};
 use crate::refusal::refused_part;
 use mg_bits::{BitReader, PageFeed};
 use mg_defs::Posting;
-use mg_dev::{FileRef, Part, PartErr, Store};
+use mg_dev::{Part, PartErr, Store};
 use mg_layout::TermInfo;
 use std::alloc::{AllocError, Global};
 use std::marker::Model;
@@ -69,14 +70,10 @@ impl<'a, S: Store> ListReader<'a, S> {
         ensures all { IfOk result (λ r. r.all ≡ all) }
         ensures fits { IfOk result (λ r. (files : Option Files) → Fits r.post files) }
     {
-        let file = FileRef {
-            base,
-            part: Part::Post,
-        };
-        let post = PageFeed::new(alloc, file)?;
+        let post = part_reader(alloc, base, Part::Post)?;
         let block = Block::new(alloc)?;
         Ok(ListReader {
-            post: BitReader::new(post, 0),
+            post,
             docs: 0,
             parameter: parameter_for(all, 0),
             all,

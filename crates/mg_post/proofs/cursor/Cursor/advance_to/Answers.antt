@@ -28,9 +28,10 @@ invariant_of-self g c =
       i.3,
       i.4,
       λ e. absurd (false≢true (sym c.if-self.false ∙ e)),
-      forward_held c.self.inside.all c.self.inside.last c.args.doc c.self.inside.block c.forward.new.self i.6 c.forward.ensures,
+      forward_held c.self.inside.list.all c.self.inside.progress.last c.args.doc c.self.inside.post.block c.forward.new.self i.6 c.forward.ensures,
       i.7,
-      forward_none c.self.inside.all c.self.inside.last c.args.doc c.self.inside.docs c.self.inside.reached c.self.inside.block c.forward.new.self c.self.inside.ended i.6 i.8 c.if-self.false
+      forward_none c.self.inside.list.all c.self.inside.progress.last c.args.doc c.self.inside.list.docs c.self.inside.progress.reached c.self.inside.post.block c.forward.new.self
+          c.self.inside.progress.ended i.6 i.8 c.if-self.false
           c.requires.some c.if-doc-self.true c.forward.ensures,
       i.9,
     )
@@ -39,9 +40,9 @@ pub returns-then-doc-self-clause-stays : goal.returns-then-doc-self-clause-stays
 returns-then-doc-self-clause-stays g c =
     rw (← c.self.view_is)
     (λ p is le.
-    let s = stays_here c.args.doc c.self.inside.block c.forward.new.self c.current.result p is le c.forward.ensures c.current.ensures in
+    let s = stays_here c.args.doc c.self.inside.post.block c.forward.new.self c.current.result p is le c.forward.ensures c.current.ensures in
     (ap Ok s.0, record { reached = refl; last = refl; held = s.1; ended = refl }))
 
 pub returns-clause-stays : goal.returns-clause-stays
 returns-clause-stays g c =
-    rw (← c.self.view_is) (λ p is le. absurd (omega (arith, current_low c.self.inside.all c.self.inside.last c.self.inside.block p c.self.invariant.6 is, le, c.if-doc-self.false)))
+    rw (← c.self.view_is) (λ p is le. absurd (omega (arith, current_low c.self.inside.list.all c.self.inside.progress.last c.self.inside.post.block p c.self.invariant.6 is, le, c.if-doc-self.false)))

@@ -9,7 +9,7 @@ pub returns-then-self-clause-step : goal.returns-then-self-clause-step
 returns-then-self-clause-step g c =
     let i = c.self.invariant in
     let fits = rw (← c.self.view_is) at c.requires.fits in
-    rw (← c.self.view_is) (step_ended _ _ _ (after c.self.inside.block) _ _ _ fits i.7 i.1 c.if-self.true (i.5 c.if-self.true) i.8 (after_nothing c.self.inside.block))
+    rw (← c.self.view_is) (step_ended _ _ _ (after c.self.inside.post.block) _ _ _ fits i.7 i.1 c.if-self.true (i.5 c.if-self.true) i.8 (after_nothing c.self.inside.post.block))
 
 pub returns-in-Some-clause-step : goal.returns-in-Some-clause-step
 returns-in-Some-clause-step g c =
@@ -33,8 +33,9 @@ invariant_of-self g c =
       i.3,
       i.4,
       λ e. absurd (false≢true (sym c.if-self.false ∙ e)),
-      step_rises c.self.inside.all c.self.inside.last c.step.result c.self.inside.block c.step.new.self c.step.ensures i.6,
+      step_rises c.self.inside.list.all c.self.inside.progress.last c.step.result c.self.inside.post.block c.step.new.self c.step.ensures i.6,
       i.7,
-      step_none c.self.inside.docs c.self.inside.reached c.self.inside.last c.step.result c.self.inside.block c.step.new.self c.self.inside.ended c.step.ensures i.8,
+      step_none c.self.inside.list.docs c.self.inside.progress.reached c.self.inside.progress.last c.step.result c.self.inside.post.block c.step.new.self
+          c.self.inside.progress.ended c.step.ensures i.8,
       i.9,
     )

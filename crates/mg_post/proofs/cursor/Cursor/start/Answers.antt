@@ -1,6 +1,5 @@
-use Rattle.std.proofs.Common.{arith, false, length, refl, ap, ◌∙◌}
+use Rattle.std.proofs.Common.{arith, false, length, refl, ap}
 use Rattle.std.proofs.lemmas.Bool.{false≢true}
-use Rattle.mg_bits.specs.Pages.{Paging}
 use Rattle.mg_post.specs.Cursor.{Cursoring}
 use Rattle.mg_post.proofs.CursorLaws.{starts}
 use Rattle.mg_post.proofs.PagesOnceLaws.{starts_once}
@@ -9,62 +8,74 @@ use Rattle.mg_post.proofs.SoundLaws.{nothing_held}
 use Rattle.mg_post.proofs.TermLaws.{term_starts}
 use Rattle.mg_post.proofs.cursor.Cursor.start.Goals as goal
 
-pub returns-clause-at : goal.returns-clause-at
-returns-clause-at g c = λ ps. record { on = rw c.in_ok-block.ensures (starts ps) }
+pub returns-in-Ok-part_reader-clause-over : goal.returns-in-Ok-part_reader-clause-over
+returns-in-Ok-part_reader-clause-over g c =
+    let list = c.list_told.ensures in
+    record {
+      post_is = c.in-Ok.ensures.unread.name;
+      skip_is = c.in-Ok-part_reader.ensures.name;
+      post_at_is = list.post_at;
+      skip_at_is = list.skip_at;
+      docs_is = list.docs;
+      all_is = list.all_is;
+    }
 
-pub returns-clause-once : goal.returns-clause-once
-returns-clause-once g c = λ ps.
-    starts_once _ _ ps _ _ (ap (λ (p : Paging). p.held) c.new-5.ensures.feed ∙ c.in_ok-post.ensures.held)
-    (ap (λ (p : Paging). p.count) c.new-5.ensures.feed ∙ c.in_ok-post.ensures.count)
+pub returns-in-Ok-part_reader-clause-at : goal.returns-in-Ok-part_reader-clause-at
+returns-in-Ok-part_reader-clause-at g c = λ ps. record { on = rw c.in-Ok.ensures.nothing (starts ps) }
 
-pub returns-clause-term : goal.returns-clause-term
-returns-clause-term g c = λ collection asked t n told all.
+pub returns-in-Ok-part_reader-clause-once : goal.returns-in-Ok-part_reader-clause-once
+returns-in-Ok-part_reader-clause-once g c = λ ps. starts_once _ _ ps _ _ c.in-Ok.ensures.unread.held c.in-Ok.ensures.unread.count
+
+pub returns-in-Ok-part_reader-clause-term : goal.returns-in-Ok-part_reader-clause-term
+returns-in-Ok-part_reader-clause-term g c = λ collection asked t n told all.
+    let list = c.list_told.ensures in
+    let post = c.in-Ok.ensures in
     let made : Cursoring = record {
-      post = c.new-5.result.feed;
-      skip = c.new-6.result.feed;
-      post_at = c.args.info.now.post_at;
-      skip_at = c.args.info.now.skip_at;
-      docs = c.args.info.now.docs;
-      all = c.args.all;
-      parameter = c.parameter_for.result.value;
+      post = c.in-Ok.post.reader.feed;
+      skip = c.in-Ok-part_reader.skip.feed;
+      post_at = c.list_told.result.post_at;
+      skip_at = c.list_told.result.skip_at;
+      docs = c.list_told.result.docs;
+      all = c.list_told.result.all;
+      parameter = c.list_told.result.parameter.value;
       reached = 0;
       last = 0;
-      held = c.in_ok-block.block;
+      held = c.in-Ok.post.block;
       ended = false;
-      entered = 0;
+      entered = c.in-Ok.post.entered;
     } in
     term_starts c.args.base.now collection asked t n c.args.all c.args.info.now made told all
     (record {
-      post_is = ap (λ (p : Paging). p.name) c.new-5.ensures.feed ∙ c.in_ok-post.ensures.name;
-      skip_is = ap (λ (p : Paging). p.name) c.new-6.ensures.feed ∙ c.in_ok-skip.ensures.name;
-      post_at_is = refl;
-      skip_at_is = refl;
-      docs_is = refl;
-      all_is = refl;
+      post_is = post.unread.name;
+      skip_is = c.in-Ok-part_reader.ensures.name;
+      post_at_is = list.post_at;
+      skip_at_is = list.skip_at;
+      docs_is = list.docs;
+      all_is = list.all_is;
     })
-    c.parameter_for.ensures
-    (λ ps. record { on = rw c.in_ok-block.ensures (starts ps) })
-    refl
-    (omega (arith, ap (λ (p : Paging). p.count) c.new-5.ensures.feed, c.in_ok-post.ensures.count))
-    (λ ps. starts_once _ _ ps _ _ (ap (λ (p : Paging). p.held) c.new-5.ensures.feed ∙ c.in_ok-post.ensures.held)
-    (ap (λ (p : Paging). p.count) c.new-5.ensures.feed ∙ c.in_ok-post.ensures.count))
+    list.parameter
+    (λ ps. record { on = rw post.nothing (starts ps) })
+    post.none
+    (omega (arith, post.unread.count))
+    (λ ps. starts_once _ _ ps _ _ post.unread.held post.unread.count)
 
-pub returns-clause-shown : goal.returns-clause-shown
-returns-clause-shown g c = shown_start refl refl refl c.in_ok-block.ensures
+pub returns-in-Ok-part_reader-clause-shown : goal.returns-in-Ok-part_reader-clause-shown
+returns-in-Ok-part_reader-clause-shown g c = shown_start refl refl refl c.in-Ok.ensures.nothing
 
-pub returns-clause-whole : goal.returns-clause-whole
-returns-clause-whole g c = omega (arith, ap length c.in_ok-block.ensures)
+pub returns-in-Ok-part_reader-clause-whole : goal.returns-in-Ok-part_reader-clause-whole
+returns-in-Ok-part_reader-clause-whole g c = omega (arith, ap length c.in-Ok.ensures.nothing, c.list_told.ensures.docs)
 
 pub invariant_of-result : goal.invariant_of-result
-invariant_of-result g c = (
-  omega arith,
-  omega arith,
-  ap (λ (p : Paging). p.part) c.new-5.ensures.feed ∙ c.in_ok-post.ensures.part,
-  ap (λ (p : Paging). p.part) c.new-6.ensures.feed ∙ c.in_ok-skip.ensures.part,
-  omega arith,
-  λ e. absurd (false≢true e),
-  nothing_held c.args.all 0 c.in_ok-block.block c.in_ok-block.ensures,
-  omega (arith, ap (λ (p : Paging). p.count) c.new-5.ensures.feed, c.in_ok-post.ensures.count),
-  record { first = λ on none. (refl, refl); all = λ off. absurd (false≢true off) },
-  omega arith,
-)
+invariant_of-result g c =
+    let post = c.in-Ok.ensures in (
+      omega arith,
+      omega arith,
+      post.unread.part,
+      c.in-Ok-part_reader.ensures.part,
+      omega (arith, post.none),
+      λ e. absurd (false≢true e),
+      nothing_held c.list_told.result.all 0 c.in-Ok.post.block post.nothing,
+      omega (arith, post.unread.count),
+      record { first = λ on none. (refl, refl); all = λ off. absurd (false≢true off) },
+      omega arith,
+    )

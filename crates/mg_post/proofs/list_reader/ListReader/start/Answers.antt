@@ -1,5 +1,4 @@
-use Rattle.std.proofs.Common.{arith, ap, ◌∙◌}
-use Rattle.mg_bits.specs.Pages.{Paging}
+use Rattle.std.proofs.Common.{arith}
 use Rattle.mg_post.proofs.SoundLaws.{nothing_held}
 use Rattle.mg_post.proofs.list_reader.ListReader.start.Goals as goal
 
@@ -7,6 +6,6 @@ pub invariant_of-result : goal.invariant_of-result
 invariant_of-result g c = (
   omega arith,
   omega arith,
-  ap (λ (p : Paging). p.part) c.new-3.ensures.feed ∙ c.in_ok-post.ensures.part,
+  c.in_ok-post.ensures.part,
   nothing_held c.args.all 0 c.in_ok-block.block c.in_ok-block.ensures,
 )
