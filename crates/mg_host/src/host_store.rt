@@ -213,6 +213,18 @@ impl<R: Files + Drop> HostStore<R> {
         )
     }
 
+    /// Opens a file to be added to, and keeps it open; answers its place.
+    fn keep_to_append(&mut self, file: &FileRef<'_>) -> Result<io::Result<usize>, AllocError>
+        ensures within { IfOk result (λ kept. IfOk kept (λ i. i < vec_len self.new.kept)) }
+        ensures faults { self.new.faults ≡ self.old.faults }
+        ensures reads { self.new.reads ≡ self.old.reads }
+    {
+        match self.open_to_append(file)? {
+            Ok(opened) => Ok(Ok(self.keep(file, true, opened)?)),
+            Err(e) => Ok(Err(e)),
+        }
+    }
+
     /// The place of the file that is open to be added to.
     fn opened_to_append(&mut self, file: &FileRef<'_>) -> Result<usize, PutErr>
         ensures within { IfOk result (λ i. i < vec_len self.new.kept) }
@@ -222,8 +234,8 @@ impl<R: Files + Drop> HostStore<R> {
         if let Some(i) = self.find(file, true) {
             return Ok(i);
         }
-        match self.open_to_append(file)? {
-            Ok(opened) => Ok(self.keep(file, true, opened)?),
+        match self.keep_to_append(file)? {
+            Ok(i) => Ok(i),
             Err(_) => Err(self.failed().into()),
         }
     }
