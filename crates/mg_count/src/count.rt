@@ -148,14 +148,31 @@ impl Count {
         ensures refused { IfErr result (λ fault. (fed : List ℕ) → HasCounted self fed →
             EndStops fed fault) }
     {
+        let mut given = self;
+        match given.take_end() {
+            Ok(open_end) => {
+                let Count { counts, .. } = given;
+                Ok((counts, open_end))
+            }
+            Err(refusal) => Err(refusal),
+        }
+    }
+
+    /// Takes the end of the collection; answers whether a document is open there.
+    fn take_end(&mut self) -> Result<bool, Fault>
+        requires given { (fed : List ℕ) × HasCounted self.old fed × (length fed < 2 ^ 32) }
+        ensures counted { (fed : List ℕ) → HasCounted self.old fed → length fed < 2 ^ 32 →
+            IfOk result (λ open_end. IsCountOf self.new.counting open_end fed) }
+        ensures refused { IfErr result (λ fault. (fed : List ℕ) → HasCounted self.old fed →
+            EndStops fed fault) }
+    {
         few_are_met();
-        let Count {
-            mut scanner,
-            mut counts,
-        } = self;
-        let open_end = scanner.is_open();
-        scanner.finish();
-        counts.take(scanner.met())?;
-        Ok((counts, open_end))
+        let open_end = self.scanner.is_open();
+        self.scanner.finish();
+        match self.counts.take(self.scanner.met()) {
+            Ok(()) => {}
+            Err(refusal) => return Err(refusal),
+        }
+        Ok(open_end)
     }
 }
