@@ -1,6 +1,6 @@
 -- What the steps of a trial answer, and what the trial is then.
 use Rattle.std.proofs.Common.{◌≡◌, ◌∙◌, ◌⊎◌, ◌<◌, ◌≤◌, ◌++◌, ℕ, Bool, true, List, [], length, get_or, unwrap_or, Some, Ok, Err, IsSome, Option, refl, sym, ap, subst, inl, inr, arith}
-use Rattle.std.specs.Prelude.{Result}
+use Rattle.std.specs.Prelude.{Result, IfErr}
 use Rattle.mg_dev.specs.Causes.{Rose}
 use Rattle.mg_dev.specs.Files.{Files, file_at, bytes_at, grown, no_files}
 use Rattle.mg_dev.specs.Laws.{file_at-written}
@@ -187,6 +187,10 @@ stops_wider s t o p collection (NameClash q) store output cause = cause
 stops_wider s t o p collection InputTooLong store output cause = cause
 stops_wider s t o p collection SameName store output cause = cause
 stops_wider s t o p collection (TooManyRotations count) store output cause = cause
+
+pub answer_wider : {T : Type 0} (s t o p : Type 0) (collection : List ℕ) (r : Result T Fault) → (s → t) → (o → p) → IfErr r (TrialStops s o collection) → IfErr r (TrialStops t p collection)
+answer_wider s t o p collection (Ok value) store output cause = tt
+answer_wider s t o p collection (Err f) store output cause = stops_wider s t o p collection f store output cause
 
 module _ (budget : ℕ) (store store_now : StoreAt) (collection : List ℕ) (there : file_at store.files text_name ≡ Some collection) (told : IsSome store.files)
     (few : length collection ≤ held_bytes) where

@@ -1,6 +1,8 @@
 -- The run of a tool, by what the types of its devices tell.
-use Rattle.mg_dev.specs.Moments.{SourceAt, StoreAt, sink_at, source_at, store_at}
-use Rattle.mg_dev.specs.Runs.{Run}
+use Rattle.std.specs.declared.result.Result.{Result}
+use Rattle.mg_dev.specs.Moments.{SinkAt, SourceAt, StoreAt, sink_at, source_at, store_at}
+use Rattle.mg_dev.specs.Runs.{Run, status_of}
+use Rattle.mg_dev.specs.declared.fault.Fault.{Fault}
 use Rattle.mg_dev.specs.declared.sink.Sink as sinks
 use Rattle.mg_dev.specs.declared.source.Source as sources
 use Rattle.mg_dev.specs.declared.status.Status.{Status}
@@ -22,10 +24,10 @@ RunsBy of_store of_input of_out of_err store store_now input input_now out out_n
       status = result;
     })
 
--- a run over no input: so it is whatever the input is, which is not read
-abbrev pub RunsByStore : {X Z W : Type 0} → stores.Ghosts X → sinks.Ghosts Z → sinks.Ghosts W → X → X → Z → Z → W → W →
-    Status → (Run → Type 0) → Type 0
-RunsByStore of_store of_out of_err store store_now out out_now err err_now result holds = (input : SourceAt) →
+-- the run of a call over a store and an output: so it is whatever the input is, which is not read, and whatever the error output is
+abbrev pub RunsByStore : {X Z T : Type 0} → stores.Ghosts X → sinks.Ghosts Z → X → X → Z → Z → Result T Fault →
+    (Run → Type 0) → Type 0
+RunsByStore of_store of_out store store_now out out_now result holds = (input : SourceAt) (err err_now : SinkAt) →
     holds (record {
       store = store_at of_store.files of_store.reads of_store.faults store;
       store_now = store_at of_store.files of_store.reads of_store.faults store_now;
@@ -33,22 +35,21 @@ RunsByStore of_store of_out of_err store store_now out out_now err err_now resul
       input_now = input;
       out = sink_at of_out.written of_out.faults of_out.lacks out;
       out_now = sink_at of_out.written of_out.faults of_out.lacks out_now;
-      err = sink_at of_err.written of_err.faults of_err.lacks err;
-      err_now = sink_at of_err.written of_err.faults of_err.lacks err_now;
-      status = result;
+      err = err;
+      err_now = err_now;
+      status = status_of result;
     })
 
--- a run over no store and no input: so it is whatever they are, which are not touched
-abbrev pub RunsAlone : {Z W : Type 0} → sinks.Ghosts Z → sinks.Ghosts W → Z → Z → W → W → Status → (Run → Type 0) →
-    Type 0
-RunsAlone of_out of_err out out_now err err_now result holds = (store : StoreAt) (input : SourceAt) → holds (record {
+-- the run of a call over an output: so it is whatever the store and the input are, which are not touched, and whatever the error output is
+abbrev pub RunsAlone : {Z T : Type 0} → sinks.Ghosts Z → Z → Z → Result T Fault → (Run → Type 0) → Type 0
+RunsAlone of_out out out_now result holds = (store : StoreAt) (input : SourceAt) (err err_now : SinkAt) → holds (record {
   store = store;
   store_now = store;
   input = input;
   input_now = input;
   out = sink_at of_out.written of_out.faults of_out.lacks out;
   out_now = sink_at of_out.written of_out.faults of_out.lacks out_now;
-  err = sink_at of_err.written of_err.faults of_err.lacks err;
-  err_now = sink_at of_err.written of_err.faults of_err.lacks err_now;
-  status = result;
+  err = err;
+  err_now = err_now;
+  status = status_of result;
 })

@@ -10,9 +10,9 @@
 #![tactic(auto)]
 
 mod comparing;
+mod ending;
 mod laws;
 mod lines;
-mod stopping;
 mod tool_build;
 mod tool_check;
 mod tool_decode;

@@ -1,9 +1,11 @@
 //! The words of a command line are carried out.
-ghost use Rattle.std.specs.Prelude.{Some, None};
-ghost use Rattle.mg_top.specs.Running.{RunsBy};
-ghost use Rattle.mg_top.specs.Does.{RanFor};
+ghost use Rattle.std.specs.Prelude.{Some};
+ghost use Rattle.mg_args.specs.Tasks.{as_task, IsWithin};
+ghost use Rattle.mg_reply.specs.Printed.{Runs};
+ghost use Rattle.mg_top.specs.Running.{RunsBy, RunsByStore};
+ghost use Rattle.mg_top.specs.Does.{Does, RanFor, RanOnceTold, ReadsNoInput};
 
-use crate::stopping::stopped;
+use crate::ending::ended;
 use crate::tool_build::run_build;
 use crate::tool_check::run_check;
 use crate::tool_decode::run_decode;
@@ -49,30 +51,72 @@ pub fn run<S: Store, I: Source, O: Sink, E: Sink>(
     ensures { RunsBy S.Store I.Source O.Sink E.Sink store.old store.new input.old input.new out.old
         out.new err.old err.new result (RanFor words.now) }
 {
+    let answer = run_words(alloc, words, store, input, out);
+    ended(answer, err)
+}
+
+// Reads the words and carries them out, whatever the error output is.
+fn run_words<S: Store, I: Source, O: Sink>(
+    alloc: Global,
+    words: &[String],
+    store: &mut S,
+    input: &mut I,
+    out: &mut O,
+) -> Result<(), Fault>
+    ensures { Runs S.Store I.Source O.Sink store.old store.new input.old input.new out.old out.new
+        result (RanOnceTold words.now) }
+{
     match read_words(alloc, words) {
-        Ok(
-            Some(
-                Task::Build {
-                    collection,
-                    name,
-                    budget,
-                },
-            ),
-        ) => run_build(alloc, collection, name, budget, store, out, err),
-        Ok(Some(Task::Query { name })) => run_query(alloc, name, store, input, out, err),
-        Ok(Some(Task::Decode { name })) => run_decode(alloc, name, store, out, err),
-        Ok(Some(Task::Scan { collection })) => {
-            run_scan(alloc, collection, store, input, out, err)
-        }
-        Ok(Some(Task::Migrate { name, new })) => run_migrate(alloc, name, new, store, out, err),
-        Ok(Some(Task::Merge { first, second, new })) => {
-            run_merge(alloc, first, second, new, store, out, err)
-        }
-        Ok(Some(Task::Trial { seed, docs })) => run_trial(alloc, seed, docs, out, err),
-        Ok(Some(Task::Check { name })) => run_check(alloc, name, store, out, err),
-        Ok(Some(Task::Phrase { name })) => run_phrase(alloc, name, store, input, out, err),
-        Ok(Some(Task::Wild { name })) => run_wild(alloc, name, store, input, out, err),
-        Ok(None) => stopped(Fault::Usage, err),
-        Err(AllocError) => stopped(Fault::Memory, err),
+        Ok(Some(task)) => run_task(alloc, task, store, input, out),
+        Ok(None) => Err(Fault::Usage),
+        Err(AllocError) => Err(Fault::Memory),
+    }
+}
+
+// Carries out a task.
+fn run_task<S: Store, I: Source, O: Sink>(
+    alloc: Global,
+    task: Task<'_>,
+    store: &mut S,
+    input: &mut I,
+    out: &mut O,
+) -> Result<(), Fault>
+    requires { IsWithin (as_task task) }
+    ensures { Runs S.Store I.Source O.Sink store.old store.new input.old input.new out.old out.new
+        result (Does (Some (as_task task.entry))) }
+{
+    match task {
+        Task::Query { name } => run_query(alloc, name, store, input, out),
+        Task::Scan { collection } => run_scan(alloc, collection, store, input, out),
+        Task::Phrase { name } => run_phrase(alloc, name, store, input, out),
+        Task::Wild { name } => run_wild(alloc, name, store, input, out),
+        other => run_unasked(alloc, other, store, out),
+    }
+}
+
+// Carries out a task that asks nothing of the input.
+fn run_unasked<S: Store, O: Sink>(
+    alloc: Global,
+    task: Task<'_>,
+    store: &mut S,
+    out: &mut O,
+) -> Result<(), Fault>
+    requires within { IsWithin (as_task task) }
+    requires unasked { ReadsNoInput (as_task task) }
+    ensures { RunsByStore S.Store O.Sink store.old store.new out.old out.new result
+        (Does (Some (as_task task.entry))) }
+{
+    match task {
+        Task::Build {
+            collection,
+            name,
+            budget,
+        } => run_build(alloc, collection, name, budget, store, out),
+        Task::Decode { name } => run_decode(alloc, name, store, out),
+        Task::Migrate { name, new } => run_migrate(alloc, name, new, store, out),
+        Task::Check { name } => run_check(alloc, name, store, out),
+        Task::Merge { first, second, new } => run_merge(alloc, first, second, new, store, out),
+        Task::Trial { seed, docs } => run_trial(alloc, seed, docs, out),
+        _ => unreachable!(),
     }
 }

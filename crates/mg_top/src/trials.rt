@@ -57,24 +57,21 @@ fn put_text<S: Store>(store: &mut S, text: &[u8]) -> Result<(), Fault>
     }
 }
 
-/// Does the work of a trial, and tells what it found; nothing is printed.
-fn try_all<S: Store>(
+/// Does the work of a trial on this collection, and tells what it found; nothing is printed.
+fn try_text<S: Store>(
     alloc: Global,
     store: &mut S,
     seed: u64,
     docs: u32,
+    text: &[u8],
 ) -> Result<TrialSummary, Fault>
     requires none { S.files store.old ≡ Some no_files }
+    requires made { text.now ≡ made_collection seed docs }
     ensures ends { WorkEnds (Rose (S.faults store.old) (S.faults store.new)) docs
         (made_collection seed docs) (made_session seed) result }
     ensures built { OnOk result (IsBuilt (S.files store.new) (made_collection seed docs)) }
     ensures later { S.faults store.old ≤ S.faults store.new }
 {
-    let made = match made_text(alloc, seed, docs) {
-        Ok(made) => made,
-        Err(fault) => return Err(fault),
-    };
-    let text = made.bytes();
     let bytes = text.len() as u64;
     if bytes > HELD_BYTES {
         return Err(Fault::TooLarge {
@@ -107,6 +104,26 @@ fn try_all<S: Store>(
         is_decoded: decoded,
         is_answered: replies.are_same,
     })
+}
+
+/// Makes the collection of a trial, and does the work on it.
+fn try_all<S: Store>(
+    alloc: Global,
+    store: &mut S,
+    seed: u64,
+    docs: u32,
+) -> Result<TrialSummary, Fault>
+    requires none { S.files store.old ≡ Some no_files }
+    ensures ends { WorkEnds (Rose (S.faults store.old) (S.faults store.new)) docs
+        (made_collection seed docs) (made_session seed) result }
+    ensures built { OnOk result (IsBuilt (S.files store.new) (made_collection seed docs)) }
+    ensures later { S.faults store.old ≤ S.faults store.new }
+{
+    let made = match made_text(alloc, seed, docs) {
+        Ok(made) => made,
+        Err(fault) => return Err(fault),
+    };
+    try_text(alloc, store, seed, docs, made.bytes())
 }
 
 /// Tries the whole work on a collection of so many documents, from 1 to 20,000, that is made from

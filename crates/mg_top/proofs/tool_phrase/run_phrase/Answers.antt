@@ -1,7 +1,7 @@
 use Rattle.mg_top.proofs.tool_phrase.run_phrase.Goals as goal
 
-pub returns-in-Ok-clause-does : goal.returns-in-Ok-clause-does
-returns-in-Ok-clause-does g c = c.in-Ok.ensures.phrased _ _
+pub returns-in-Ok : goal.returns-in-Ok
+returns-in-Ok g c = record { does = c.in-Ok.ensures.phrased }
 
-pub returns-in-Err-clause-does : goal.returns-in-Err-clause-does
-returns-in-Err-clause-does g c = rw c.stopped.ensures.status (c.in-Err.ensures.phrased _ _)
+pub returns-in-Err : goal.returns-in-Err
+returns-in-Err g c = record { does = c.in-Err.ensures.phrased }
