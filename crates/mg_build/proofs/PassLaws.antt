@@ -192,6 +192,16 @@ pub plan_with : {R : Type 0} {files : Option Files} {name : List ℕ} {size : �
 plan_with (Ok made) fed are planned = (fed, are, planned)
 plan_with (Err fault) fed are planned = tt
 
+-- and that of the file, where all of it was read
+pub plan_of_file : {R : Type 0} {files : Option Files} {name : List ℕ} {size : ℕ} (r : Result (Plan × R) Fault) (fed : List ℕ) → AreRead files name size fed →
+    IfOk r (λ made. IsPlanOf made.0 fed) → IsSome files → length (bytes_at files name) ≡ size → IfOk r (λ made. IsPlanFor made.0 files name size)
+plan_of_file {files = files} {name} {size} (Ok made) fed are planned told whole = record {
+  told = told;
+  whole = whole;
+  counted = subst (λ bytes. IsPlanOf made.0 bytes) (read_all files name size fed are told whole) planned;
+}
+plan_of_file (Err fault) fed are planned told whole = tt
+
 -- ---- the second pass
 
 -- a byte that is not read

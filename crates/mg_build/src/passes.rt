@@ -46,6 +46,22 @@ fn count_bytes<S: Store>(
     Ok(())
 }
 
+// What is counted in all bytes of a collection.
+fn counted<S: Store>(
+    alloc: Global,
+    store: &mut S,
+    source: &mut Source<'_, S>,
+) -> Result<Count, Fault>
+    requires fits { Fits source.old.feed (S.files store.old) }
+    ensures counted { IfOk result (λ count. (fed : List ℕ) × AreRead (S.files store.old)
+        source.old.feed.name source.old.size fed × HasCounted count fed) }
+    ensures counts { BetweenMoments S.files S.reads S.faults store.old store.new
+        (λ before now. CountsSource source.old source.new before now result) }
+{
+    let mut count = Count::new(alloc);
+    count_bytes(store, source, &mut count).and(Ok(count))
+}
+
 /// Counts a collection, and makes all that the second pass takes of memory, with a pool of so many bytes.
 pub(crate) fn count_all<S: Store>(
     alloc: Global,
@@ -65,12 +81,10 @@ pub(crate) fn count_all<S: Store>(
     ensures counts { BetweenMoments S.files S.reads S.faults store.old store.new
         (λ before now. CountsSource source.old source.new before now result) }
 {
-    let mut count = Count::new(alloc);
-    match count_bytes(store, source, &mut count) {
-        Ok(()) => {}
-        Err(refusal) => return Err(refusal),
+    match counted(alloc, store, source) {
+        Ok(count) => count.finish(alloc, budget),
+        Err(refusal) => Err(refusal),
     }
-    count.finish(alloc, budget)
 }
 
 // Gives the bytes of a collection to the writer of its set, a page after another.
