@@ -5,10 +5,10 @@ use Rattle.mg_dev.specs.Causes.{HasPutCause}
 use Rattle.mg_dev.specs.Files.{AfterAppend, Files, GrewInPart, Reads, SameReads, bytes_at, grown, written}
 use Rattle.mg_dev.specs.Laws.{file_at-written, append-others, append-told}
 use Rattle.mg_dev.specs.declared.device.PutErr.{PutErr}
-use Rattle.mg_defs.specs.Bits.{Bits, bits_of, digits}
+use Rattle.mg_defs.specs.Bits.{Bits, bits_of, digits, to_byte}
 use Rattle.mg_defs.proofs.BitLaws.{length_digits}
 use Rattle.mg_bits.specs.Writer.{Appends, AreBytes, KeepsBytes, PutsBytes, SendsBytes, WroteTo, Writing, Wrote, put_to}
-use Rattle.mg_bits.specs.BitWriting.{BitWriting, Holds, PutsBits, WritesBits, WroteBits, bits_put}
+use Rattle.mg_bits.specs.BitWriting.{BitWriting, EndsFile, FillsByte, Holds, PutsBits, WritesBits, WroteBits, bits_put}
 use Rattle.mg_bits.proofs.BitsWritten.{bits_more, bits_none, flushed, holds_kept, to_more, to_none, wrote_kept, wrote_sent}
 use Rattle.mg_bits.proofs.ByteLaws.{append_keeps, keeps_more, same_keeps}
 use Rattle.mg_bits.proofs.Growing.{bits_front, bits_through, by_byte, by_bytes, by_none, grew_all, grew_part, grew_then, held_few}
@@ -248,6 +248,22 @@ puts_out {a} {b} {piece} {result} {f} {g} put none told = by_case result none pu
         ap (λ n. bits_of (bytes_at g n)) (sym wrote.name) ∙ sym (append-nil (bits_of (bytes_at g b.name)))
         ∙ ap (λ l. bits_of (bytes_at g b.name) ++ l) (sym none) ∙ wrote.told told
     by_case (Err e) none refused = tt
+
+module _ {a b : BitWriting} {result : Result (Unit {0}) PutErr} {f g : Option Files} {r s : Reads} {l m : ℕ} (holds : Holds a f) where
+  -- so many zero-bits as the byte lacks
+  pub fills : {size : ℕ} → size ≡ to_byte a.place → PutsBits a b (digits size 0) result f g r s l m → FillsByte a b result f g r s l m
+  fills is put = record {
+    writes = writes holds (subst (λ k. PutsBits a b (digits k 0) result f g r s l m) is put);
+    whole = puts_whole is put;
+  }
+
+  -- and then nothing is held
+  pub ends : PutsBits a b (digits (to_byte a.place) 0) result f g r s l m → OnOk result (b.buffered ≡ []) → EndsFile a b result f g r s l m
+  ends put nothing = record {
+    writes = writes holds put;
+    file = puts_out put nothing;
+    nothing = nothing;
+  }
 
 -- the bits of a writer of bytes, and those of a byte that isn't full
 abbrev pub bits_in : Writing → ℕ → ℕ → ℕ → BitWriting

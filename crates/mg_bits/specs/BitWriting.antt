@@ -1,5 +1,5 @@
 -- What contracts see of a bit writer, and what its calls do.
-use Rattle.std.specs.Prelude.{◌≡◌, ◌+◌, ◌≤◌, ◌<◌, ◌++◌, ℕ, List, length, take, OnOk}
+use Rattle.std.specs.Prelude.{◌≡◌, ◌+◌, ◌%◌, ◌≤◌, ◌<◌, ◌++◌, ℕ, List, [], length, take, OnOk}
 use Rattle.std.specs.Option.{IsSome}
 use Rattle.std.specs.declared.option.Option.{Option}
 use Rattle.std.specs.declared.result.Result.{Result}
@@ -82,3 +82,27 @@ pub record WritesBits (old new : BitWriting) (piece : Bits) (result : Result (Un
     pub wrote : WroteTo old.name files_before files_now reads_before reads_now
     -- a device's failure has a cause
     pub cause : HasPutCause faults_before faults_now result
+
+-- zero-bits are put to the next byte
+pub record FillsByte (old new : BitWriting) (result : Result (Unit {0}) PutErr) (files_before files_now : Option Files)
+    (reads_before reads_now : Reads) (faults_before faults_now : ℕ) : Type 0
+  where
+    -- they are put as other bits are
+    pub writes : WritesBits old new (digits (to_byte old.place) 0) result files_before files_now reads_before reads_now
+        faults_before faults_now
+    pub open writes use *
+    -- where the call is not refused, whole bytes were written
+    pub whole : OnOk result (new.place % 8 ≡ 0)
+
+-- zero-bits are put to the next byte, and all that is held goes out
+pub record EndsFile (old new : BitWriting) (result : Result (Unit {0}) PutErr) (files_before files_now : Option Files)
+    (reads_before reads_now : Reads) (faults_before faults_now : ℕ) : Type 0
+  where
+    -- they are put as other bits are
+    pub writes : WritesBits old new (digits (to_byte old.place) 0) result files_before files_now reads_before reads_now
+        faults_before faults_now
+    pub open writes use *
+    -- where the call is not refused, the file holds the bits that were written
+    pub file : IsSome files_before → OnOk result (bits_of (bytes_at files_now old.name) ≡ bits_filled old files_before)
+    -- and no bits are held
+    pub nothing : OnOk result (new.buffered ≡ [])

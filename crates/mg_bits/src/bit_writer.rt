@@ -1,12 +1,12 @@
 //! Bits into a file.
-ghost use Rattle.std.specs.Prelude.{◌≡◌, ◌+◌, ◌*◌, ◌/◌, ◌%◌, ◌≤◌, ◌<◌, ◌^◌, ◌++◌, [], IfOk, OnOk, IsSome, length};
+ghost use Rattle.std.specs.Prelude.{◌≡◌, ◌+◌, ◌*◌, ◌/◌, ◌%◌, ◌≤◌, ◌<◌, ◌^◌, [], IfOk, OnOk, IsSome, length};
 ghost use Rattle.mg_dev.specs.Names.{full_name};
-ghost use Rattle.mg_dev.specs.Files.{AfterReset, bytes_at};
+ghost use Rattle.mg_dev.specs.Files.{AfterReset};
 ghost use Rattle.mg_dev.specs.Causes.{HasPutCause};
 ghost use Rattle.mg_dev.specs.Moments.{Between};
-ghost use Rattle.mg_defs.specs.Bits.{digits, bits_of, to_byte};
+ghost use Rattle.mg_defs.specs.Bits.{digits, to_byte};
 ghost use Rattle.mg_bits.specs.Writer.{WroteTo};
-ghost use Rattle.mg_bits.specs.BitWriting.{GrewBits, Holds, PutsBits, WritesBits, WroteBits, bits_put, bits_filled};
+ghost use Rattle.mg_bits.specs.BitWriting.{EndsFile, FillsByte, Holds, PutsBits, WritesBits, bits_put};
 
 use crate::PageWriter;
 use mg_dev::{FileRef, PutErr, Store};
@@ -97,17 +97,8 @@ impl<'a> BitWriter<'a> {
     pub fn align<S: Store>(&mut self, store: &mut S) -> Result<(), PutErr>
         requires holds { Holds self.old (S.files store.old) }
         requires place { self.old.place ≤ 2 ^ 63 + 2 ^ 62 }
-        ensures holds { OnOk result (Holds self.new (S.files store.new)) }
-        ensures bits { OnOk result (WroteBits self.old self.new (S.files store.old)
-            (S.files store.new) (digits (to_byte self.old.place) 0)) }
-        ensures grew { GrewBits self.old.name (S.files store.old) (S.files store.new)
-            (self.old.buffered ++ digits (to_byte self.old.place) 0) }
-        ensures held { length self.new.buffered < 32768 }
-        ensures whole { OnOk result (self.new.place % 8 ≡ 0) }
-        ensures name { self.new.name ≡ self.old.name }
-        ensures wrote { WroteTo self.old.name (S.files store.old) (S.files store.new)
-            (S.reads store.old) (S.reads store.new) }
-        ensures cause { HasPutCause (S.faults store.old) (S.faults store.new) result }
+        ensures { Between S.files S.reads S.faults store.old store.new
+            (FillsByte self.old self.new result) }
     {
         let size = self.bits_to_byte();
         self.put_piece(store, 0, size)
@@ -125,20 +116,8 @@ impl<'a> BitWriter<'a> {
     pub fn finish<S: Store>(&mut self, store: &mut S) -> Result<(), PutErr>
         requires holds { Holds self.old (S.files store.old) }
         requires place { self.old.place ≤ 2 ^ 63 + 2 ^ 62 }
-        ensures holds { OnOk result (Holds self.new (S.files store.new)) }
-        ensures bits { OnOk result (WroteBits self.old self.new (S.files store.old)
-            (S.files store.new) (digits (to_byte self.old.place) 0)) }
-        ensures grew { GrewBits self.old.name (S.files store.old) (S.files store.new)
-            (self.old.buffered ++ digits (to_byte self.old.place) 0) }
-        ensures held { length self.new.buffered < 32768 }
-        ensures file { IsSome (S.files store.old) →
-            OnOk result (bits_of (bytes_at (S.files store.new) self.old.name)
-            ≡ bits_filled self.old (S.files store.old)) }
-        ensures nothing { OnOk result (self.new.buffered ≡ []) }
-        ensures name { self.new.name ≡ self.old.name }
-        ensures wrote { WroteTo self.old.name (S.files store.old) (S.files store.new)
-            (S.reads store.old) (S.reads store.new) }
-        ensures cause { HasPutCause (S.faults store.old) (S.faults store.new) result }
+        ensures { Between S.files S.reads S.faults store.old store.new
+            (EndsFile self.old self.new result) }
     {
         let size = self.bits_to_byte();
         match self.put_piece(store, 0, size) {

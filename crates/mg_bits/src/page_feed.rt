@@ -91,7 +91,6 @@ impl<'a, S: Store> PageFeed<'a, S> {
             &file,
             &mut self.page,
             &mut window,
-            at,
             at / 4096,
             (at % 4096) as usize,
         );

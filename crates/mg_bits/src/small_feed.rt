@@ -55,15 +55,7 @@ impl<'a, 'b, S: Store> Feed for SmallFeed<'a, 'b, S> {
         let file = self.file;
         let mut window = self.window;
         let slot = &mut *self.slot;
-        let answer = window_byte(
-            dev,
-            &file,
-            slot,
-            &mut window,
-            at,
-            at / 64,
-            (at % 64) as usize,
-        );
+        let answer = window_byte(dev, &file, slot, &mut window, at / 64, (at % 64) as usize);
         self.window = window;
         answer
     }

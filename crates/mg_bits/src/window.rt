@@ -1,5 +1,5 @@
 //! One page of a file, kept in a buffer.
-ghost use Rattle.std.specs.Prelude.{◌≡◌, ◌+◌, ◌-◌, ◌*◌, ◌/◌, ◌%◌, ◌≤◌, ◌<◌, ◌^◌, Some, None, IfSome, slice_get, length, IsSome};
+ghost use Rattle.std.specs.Prelude.{◌≡◌, ◌+◌, ◌-◌, ◌*◌, ◌≤◌, ◌<◌, ◌^◌, Some, None, IfSome, slice_get, length, IsSome};
 ghost use Rattle.std.specs.Bool.{OnTrue, OnFalse};
 ghost use Rattle.mg_defs.specs.Bits.{bits_of, digits};
 ghost use Rattle.mg_bits.specs.ByteReads.{ReadsByte, TurnsTo};
@@ -127,24 +127,23 @@ fn word_of(eight: &[u8; 8]) -> u64
     u64::from_be_bytes(*eight)
 }
 
-/// The byte at a place of a file, which is that at `offset` of the page `number`. The caller
-/// divides, since it knows the length of its pages when it is compiled.
+/// The byte at `offset` of the page `number` of a file. The caller divides a place by the length of
+/// its pages, since it knows that length when it is compiled.
 pub fn window_byte<S: Store>(
     store: &mut S,
     file: &FileRef<'_>,
     page: &mut [u8],
     window: &mut Window,
-    at: u64,
     number: u64,
     offset: usize,
 ) -> Result<Option<u8>, Failed>
-    requires number { number ≡ at / length page.old }
-    requires offset { offset ≡ at % length page.old }
-    requires some { 0 < length page.old }
+    requires offset { offset < length page.old }
+    requires place { number * length page.old + offset < 2 ^ 64 }
     requires window { IsWindow file.now window.old page.old (S.files store.old) }
     ensures window { IsWindow file.now window.new page.new (S.files store.new) }
     ensures byte { AsWindow S.files S.reads S.faults file.now page.old window.old window.new
-        store.old store.new (ReadsByte file.now.part at result) }
+        store.old store.new
+        (ReadsByte file.now.part (number * length page.old + offset) result) }
 {
     match load(store, file, page, window, number) {
         Ok(()) => Ok(byte_in(&page[..window.count], offset)),
