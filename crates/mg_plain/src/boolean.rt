@@ -7,14 +7,15 @@ ghost use Rattle.mg_defs.specs.ShownAnswers.{satisfying, answer_text};
 ghost use Rattle.mg_defs.specs.Replies.{boolean_reply};
 ghost use Rattle.mg_defs.specs.Read.{boolean};
 ghost use Rattle.mg_query.specs.QueryOf.{query_of};
-ghost use Rattle.mg_plain.specs.Printing.{PutsText, WritesReply};
+ghost use Rattle.mg_reply.specs.Pending.{PutsText};
+ghost use Rattle.mg_plain.specs.Printing.{WritesReply};
 
 use crate::counts::{count_terms, mark_counted};
 use crate::docs::Docs;
 use mg_defs::Settings;
 use mg_dev::{PutErr, ShowErr, Sink};
 use mg_query::{Query, Terms, parse_boolean};
-use mg_reply::{Pending, answer_refused, pass_hit};
+use mg_reply::{Pending, Shown, answer_refused, pass_hit};
 use std::alloc::{AllocError, Global};
 
 /// What is counted of a document: how often it has each term of a query, and which it has.
@@ -64,9 +65,8 @@ fn put_found<O: Sink>(
     requires terms { terms.now ≡ query_terms (query_of query.now) }
     requires counts { vec_len counted.old.counts ≡ length (query_terms (query_of query.now)) }
     requires there { vec_len counted.old.there ≡ length (query_terms (query_of query.now)) }
-    ensures puts { PutsText
-        (answer_text bytes.now now.now (satisfying bytes.now (query_of query.now))) result O.Sink
-        out.old out.new }
+    ensures puts { PutsText O.Sink out.old out.new result
+        (answer_text bytes.now now.now (satisfying bytes.now (query_of query.now))) }
 {
     let mut pending = Pending::new();
     let mut docs = Docs::new(bytes);
@@ -77,7 +77,11 @@ fn put_found<O: Sink>(
         if !is_satisfied(query, doc, terms, counted) {
             continue;
         }
-        match pass_hit(&mut pending, out, now, total, number, None, doc) {
+        let shown = Shown {
+            number,
+            score: None,
+        };
+        match pass_hit(&mut pending, out, now, total, shown, doc) {
             Ok(()) => {}
             Err(error) => return Err(error),
         }

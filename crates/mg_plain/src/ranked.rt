@@ -7,7 +7,8 @@ ghost use Rattle.mg_defs.specs.Read.{ranked};
 ghost use Rattle.mg_defs.specs.ShownAnswers.{ranked_as, answer_text, shown};
 ghost use Rattle.mg_defs.specs.Replies.{ranked_reply};
 ghost use Rattle.mg_plain.specs.Inside.{is_inside};
-ghost use Rattle.mg_plain.specs.Printing.{PassesText, PutsText, WritesReply};
+ghost use Rattle.mg_reply.specs.Pending.{PassesText, PutsText};
+ghost use Rattle.mg_plain.specs.Printing.{WritesReply};
 ghost use Rattle.mg_plain.specs.RankedRows.{IsPlaced, shown_of, shown_rows, rows_text};
 
 use crate::docs::doc_len;
@@ -16,7 +17,7 @@ use crate::rows::rows_of;
 use mg_defs::{Mode, Settings};
 use mg_dev::{PutErr, ShowErr, Sink};
 use mg_query::{Terms, parse_ranked};
-use mg_reply::{Pending, answer_refused, pass_shown};
+use mg_reply::{Pending, Shown, answer_refused, pass_shown};
 use std::alloc::Global;
 
 /// The document that begins at a place.
@@ -38,15 +39,19 @@ fn put_row<O: Sink>(
     row: Row,
 ) -> Result<(), PutErr>
     requires { IsPlaced bytes.now row }
-    ensures passes { PassesText pending.old pending.new (shown bytes.now mode (shown_of row))
-        result O.Sink out.old out.new }
+    ensures passes { PassesText O.Sink out.old out.new pending.old pending.new result
+        (shown bytes.now mode (shown_of row)) }
 {
     let doc = match mode {
         Mode::Text => document_at(bytes, row.place),
         Mode::Docnums => &[],
         Mode::Count => &[],
     };
-    pass_shown(pending, out, mode, row.number, Some(row.score), doc)
+    let shown = Shown {
+        number: row.number,
+        score: Some(row.score),
+    };
+    pass_shown(pending, out, mode, shown, doc)
 }
 
 /// Passes on what a reply shows of rows, one after another.
@@ -58,8 +63,8 @@ fn put_rows<O: Sink>(
     rows: &[Row],
 ) -> Result<(), PutErr>
     requires { All (IsPlaced bytes.now) rows.now }
-    ensures passes { PassesText pending.old pending.new (rows_text bytes.now mode rows.now) result
-        O.Sink out.old out.new }
+    ensures passes { PassesText O.Sink out.old out.new pending.old pending.new result
+        (rows_text bytes.now mode rows.now) }
 {
     for row in rows {
         match put_row(pending, out, bytes, mode, *row) {
@@ -89,8 +94,8 @@ fn put_answer<O: Sink>(
 ) -> Result<(), PutErr>
     requires few { length rows.now ≤ held_bytes }
     requires placed { All (IsPlaced bytes.now) rows.now }
-    ensures puts { PutsText (answer_text bytes.now now.now (shown_rows rows.now)) result O.Sink
-        out.old out.new }
+    ensures puts { PutsText O.Sink out.old out.new result
+        (answer_text bytes.now now.now (shown_rows rows.now)) }
 {
     let mut pending = Pending::new();
     let shown = first_rows(rows, now.most);

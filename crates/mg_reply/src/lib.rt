@@ -22,7 +22,7 @@ mod serve;
 mod text;
 
 pub use command::read_command;
-pub use hit::{pass_hit, pass_shown, shows};
+pub use hit::{Shown, pass_hit, pass_shown, shows};
 pub use mg_defs::{Command, Hearing, Mode, Settings};
 pub use pending::Pending;
 pub use reader::{LineErr, LineEvent, LineReader};

@@ -1,9 +1,7 @@
 //! Bytes on the way to a sink.
 ghost use Rattle.std.specs.Prelude.{◌≡◌, ◌+◌, ◌≤◌, List, [], ◌++◌, length, take, OnOk, decimal, codes, None};
-ghost use Rattle.mg_dev.specs.Causes.{HasPutCause, HasLack};
-ghost use Rattle.mg_dev.specs.Streams.{AfterPut};
 ghost use Rattle.mg_defs.specs.Texts.{numbered as numbered_text, row as row_text, header as header_text, close as close_text, count as count_text};
-ghost use Rattle.mg_reply.specs.Pending.{AfterPass};
+ghost use Rattle.mg_reply.specs.Pending.{PassesText, PutsText};
 
 use itoa::Buffer;
 use mg_dev::{PutErr, Sink};
@@ -45,10 +43,8 @@ impl Pending {
 
     /// Hands over all that waits.
     pub fn flush<O: Sink>(&mut self, out: &mut O) -> Result<(), PutErr>
-        ensures content { AfterPut (O.written out.old) (O.written out.new) self.old result }
+        ensures put { PutsText O.Sink out.old out.new result self.old }
         ensures empty { OnOk result (self.new ≡ []) }
-        ensures cause { HasPutCause (O.faults out.old) (O.faults out.new) result }
-        ensures lack { HasLack (O.lacks out.old) (O.lacks out.new) result }
     {
         let len = self.len;
         self.len = 0;
@@ -73,10 +69,7 @@ impl Pending {
 
     /// Passes the bytes on, after those that wait.
     pub fn put<O: Sink>(&mut self, out: &mut O, bytes: &[u8]) -> Result<(), PutErr>
-        ensures content { AfterPass (O.written out.old) (O.written out.new) self.old self.new
-            bytes.now result }
-        ensures cause { HasPutCause (O.faults out.old) (O.faults out.new) result }
-        ensures lack { HasLack (O.lacks out.old) (O.lacks out.new) result }
+        ensures { PassesText O.Sink out.old out.new self.old self.new result bytes.now }
     {
         if bytes.len() <= self.room() {
             self.keep(bytes);
@@ -94,10 +87,7 @@ impl Pending {
     }
 
     fn number<O: Sink>(&mut self, out: &mut O, number: u64) -> Result<(), PutErr>
-        ensures content { AfterPass (O.written out.old) (O.written out.new) self.old self.new
-            (decimal number) result }
-        ensures cause { HasPutCause (O.faults out.old) (O.faults out.new) result }
-        ensures lack { HasLack (O.lacks out.old) (O.lacks out.new) result }
+        ensures { PassesText O.Sink out.old out.new self.old self.new result (decimal number) }
     {
         let mut buffer = Buffer::new();
         self.put(out, buffer.format(number).as_bytes())
@@ -105,10 +95,8 @@ impl Pending {
 
     /// A blank and a score.
     fn score<O: Sink>(&mut self, out: &mut O, score: u64) -> Result<(), PutErr>
-        ensures content { AfterPass (O.written out.old) (O.written out.new) self.old self.new
-            (codes " " ++ decimal score) result }
-        ensures cause { HasPutCause (O.faults out.old) (O.faults out.new) result }
-        ensures lack { HasLack (O.lacks out.old) (O.lacks out.new) result }
+        ensures { PassesText O.Sink out.old out.new self.old self.new result
+            (codes " " ++ decimal score) }
     {
         match self.put(out, b" ") {
             Ok(()) => self.number(out, score),
@@ -123,10 +111,8 @@ impl Pending {
         number: u32,
         score: Option<u64>,
     ) -> Result<(), PutErr>
-        ensures content { AfterPass (O.written out.old) (O.written out.new) self.old self.new
-            (numbered_text number score) result }
-        ensures cause { HasPutCause (O.faults out.old) (O.faults out.new) result }
-        ensures lack { HasLack (O.lacks out.old) (O.lacks out.new) result }
+        ensures { PassesText O.Sink out.old out.new self.old self.new result
+            (numbered_text number score) }
     {
         let Some(score) = score else {
             return self.number(out, number as u64);
@@ -144,10 +130,8 @@ impl Pending {
         number: u32,
         score: Option<u64>,
     ) -> Result<(), PutErr>
-        ensures content { AfterPass (O.written out.old) (O.written out.new) self.old self.new
-            (row_text number score) result }
-        ensures cause { HasPutCause (O.faults out.old) (O.faults out.new) result }
-        ensures lack { HasLack (O.lacks out.old) (O.lacks out.new) result }
+        ensures { PassesText O.Sink out.old out.new self.old self.new result
+            (row_text number score) }
     {
         match self.numbered(out, number, score) {
             Ok(()) => self.put(out, b"\n"),
@@ -162,10 +146,8 @@ impl Pending {
         number: u32,
         score: Option<u64>,
     ) -> Result<(), PutErr>
-        ensures content { AfterPass (O.written out.old) (O.written out.new) self.old self.new
-            (header_text number score) result }
-        ensures cause { HasPutCause (O.faults out.old) (O.faults out.new) result }
-        ensures lack { HasLack (O.lacks out.old) (O.lacks out.new) result }
+        ensures { PassesText O.Sink out.old out.new self.old self.new result
+            (header_text number score) }
     {
         match self.put(out, b"-- ") {
             Ok(()) => self.row(out, number, score),
@@ -176,20 +158,14 @@ impl Pending {
     /// What stands after a document that is shown.
     #[tactic(auto, unfolding(mg_defs::specs::Texts::close))]
     pub fn close<O: Sink>(&mut self, out: &mut O) -> Result<(), PutErr>
-        ensures content { AfterPass (O.written out.old) (O.written out.new) self.old self.new
-            close_text result }
-        ensures cause { HasPutCause (O.faults out.old) (O.faults out.new) result }
-        ensures lack { HasLack (O.lacks out.old) (O.lacks out.new) result }
+        ensures { PassesText O.Sink out.old out.new self.old self.new result close_text }
     {
         self.put(out, b"\x02\n")
     }
 
     /// The last line of a reply: how many documents the answer has.
     pub fn count<O: Sink>(&mut self, out: &mut O, total: u32) -> Result<(), PutErr>
-        ensures content { AfterPass (O.written out.old) (O.written out.new) self.old self.new
-            (count_text total) result }
-        ensures cause { HasPutCause (O.faults out.old) (O.faults out.new) result }
-        ensures lack { HasLack (O.lacks out.old) (O.lacks out.new) result }
+        ensures { PassesText O.Sink out.old out.new self.old self.new result (count_text total) }
     {
         match self.put(out, b"= ") {
             Ok(()) => self.row(out, total, None),

@@ -5,6 +5,7 @@ ghost use Rattle.mg_dev.specs.Streams.{AfterPut};
 ghost use Rattle.mg_defs.specs.Texts.{row as row_text, header as header_text, close as close_text, count as count_text, bad_command, line_too_long};
 ghost use Rattle.mg_defs.specs.Replies.{refusal};
 ghost use Rattle.mg_query.specs.RefusalOf.{refusal_of};
+ghost use Rattle.mg_reply.specs.Pending.{PutsText};
 ghost use Rattle.mg_reply.specs.Refusals.{AnswerStops};
 
 use crate::Pending;
@@ -13,10 +14,7 @@ use mg_query::QueryErr;
 
 /// Writes the row of a document.
 pub fn put_row<O: Sink>(out: &mut O, number: u32, score: Option<u64>) -> Result<(), PutErr>
-    ensures content { AfterPut (O.written out.old) (O.written out.new) (row_text number score)
-        result }
-    ensures cause { HasPutCause (O.faults out.old) (O.faults out.new) result }
-    ensures lack { HasLack (O.lacks out.old) (O.lacks out.new) result }
+    ensures { PutsText O.Sink out.old out.new result (row_text number score) }
 {
     let mut pending = Pending::new();
     match pending.row(out, number, score) {
@@ -27,10 +25,7 @@ pub fn put_row<O: Sink>(out: &mut O, number: u32, score: Option<u64>) -> Result<
 
 /// Writes what stands before a document that is shown.
 pub fn put_shown<O: Sink>(out: &mut O, number: u32, score: Option<u64>) -> Result<(), PutErr>
-    ensures content { AfterPut (O.written out.old) (O.written out.new) (header_text number score)
-        result }
-    ensures cause { HasPutCause (O.faults out.old) (O.faults out.new) result }
-    ensures lack { HasLack (O.lacks out.old) (O.lacks out.new) result }
+    ensures { PutsText O.Sink out.old out.new result (header_text number score) }
 {
     let mut pending = Pending::new();
     match pending.header(out, number, score) {
@@ -42,18 +37,14 @@ pub fn put_shown<O: Sink>(out: &mut O, number: u32, score: Option<u64>) -> Resul
 /// Writes what stands after a document that is shown.
 #[tactic(auto, unfolding(mg_defs::specs::Texts::close))]
 pub fn put_close<O: Sink>(out: &mut O) -> Result<(), PutErr>
-    ensures content { AfterPut (O.written out.old) (O.written out.new) close_text result }
-    ensures cause { HasPutCause (O.faults out.old) (O.faults out.new) result }
-    ensures lack { HasLack (O.lacks out.old) (O.lacks out.new) result }
+    ensures { PutsText O.Sink out.old out.new result close_text }
 {
     out.put(b"\x02\n")
 }
 
 /// Writes how many documents an answer has.
 pub fn put_count<O: Sink>(out: &mut O, total: u32) -> Result<(), PutErr>
-    ensures content { AfterPut (O.written out.old) (O.written out.new) (count_text total) result }
-    ensures cause { HasPutCause (O.faults out.old) (O.faults out.new) result }
-    ensures lack { HasLack (O.lacks out.old) (O.lacks out.new) result }
+    ensures { PutsText O.Sink out.old out.new result (count_text total) }
 {
     let mut pending = Pending::new();
     match pending.count(out, total) {
@@ -103,10 +94,7 @@ pub fn answer_refused<O: Sink>(out: &mut O, why: QueryErr) -> Result<(), ShowErr
 
 /// Writes a reason and its place.
 fn put_place<O: Sink>(out: &mut O, reason: &[u8], at: u32) -> Result<(), PutErr>
-    ensures content { AfterPut (O.written out.old) (O.written out.new)
-        (reason.now ++ decimal at ++ codes "\n") result }
-    ensures cause { HasPutCause (O.faults out.old) (O.faults out.new) result }
-    ensures lack { HasLack (O.lacks out.old) (O.lacks out.new) result }
+    ensures { PutsText O.Sink out.old out.new result (reason.now ++ decimal at ++ codes "\n") }
 {
     let mut pending = Pending::new();
     match pending.put(out, reason) {
@@ -122,9 +110,7 @@ fn put_place<O: Sink>(out: &mut O, reason: &[u8], at: u32) -> Result<(), PutErr>
 /// Writes the reply to a line that begins with a full stop and is no command.
 #[tactic(auto, unfolding(mg_defs::specs::Texts::bad_command))]
 pub fn put_wrong<O: Sink>(out: &mut O) -> Result<(), PutErr>
-    ensures content { AfterPut (O.written out.old) (O.written out.new) bad_command result }
-    ensures cause { HasPutCause (O.faults out.old) (O.faults out.new) result }
-    ensures lack { HasLack (O.lacks out.old) (O.lacks out.new) result }
+    ensures { PutsText O.Sink out.old out.new result bad_command }
 {
     out.put(b"? bad command\n")
 }
@@ -132,9 +118,7 @@ pub fn put_wrong<O: Sink>(out: &mut O) -> Result<(), PutErr>
 /// Writes the reply to a line of more than 1,024 bytes.
 #[tactic(auto, unfolding(mg_defs::specs::Texts::line_too_long))]
 pub fn put_too_long<O: Sink>(out: &mut O) -> Result<(), PutErr>
-    ensures content { AfterPut (O.written out.old) (O.written out.new) line_too_long result }
-    ensures cause { HasPutCause (O.faults out.old) (O.faults out.new) result }
-    ensures lack { HasLack (O.lacks out.old) (O.lacks out.new) result }
+    ensures { PutsText O.Sink out.old out.new result line_too_long }
 {
     out.put(b"? line too long\n")
 }

@@ -38,7 +38,7 @@ use Rattle.mg_text.specs.Reading.{ShowIsNotBad}
 use Rattle.mg_session.specs.PhraseAnswers.{DocumentSearched, PhraseAnswered, PhraseWalked, candidate_pages, found_among, found_at, found_if, found_in, rows_of}
 use Rattle.mg_session.specs.PagesAllowed.{ReadsAllowed, query_allows}
 use Rattle.mg_session.specs.PhrasesAllowed.{phrase_allows}
-use Rattle.mg_session.specs.declared.phrase_rows.PhraseRows.{PhraseRows}
+use Rattle.mg_session.specs.declared.rows.Rows.{Rows}
 use Rattle.mg_session.proofs.AllowedLaws.{KeepsParts, allowed_then}
 use Rattle.mg_session.proofs.StepLaws.{lists_text}
 use Rattle.mg_session.proofs.TotalLaws.{put_rest}
@@ -213,7 +213,7 @@ walked_start {base} {code} {collection} phrase {w} {waiting} {total} {m} none ze
 
 -- a document that was searched
 pub walked_searched : {base : List ℕ} {code : TextCode} {collection : List ℕ} {phrase : List (List ℕ)} {q : Query} {w0 w1 w2 : Option (List ℕ)}
-    {rows rows_now : PhraseRows} {number : ℕ} {done : Unit {0}} (m n : Matching) {r0 : Reads} (r1 r2 : Reads) {r3 : Reads} →
+    {rows rows_now : Rows} {number : ℕ} {done : Unit {0}} (m n : Matching) {r0 : Reads} (r1 r2 : Reads) {r3 : Reads} →
     PhraseWalked base code collection phrase q w0 w1 rows.pending rows.total m r0 r1 → GoesOn (left_of collection m) (left_of collection n) (Some number) →
     MatchesOver base collection n → NextRead collection q m n r1 r2 → KeepsParts r2 r3 → DocumentSearched code collection phrase number w1 w2 rows rows_now r2 r3 (Ok done) →
     PhraseWalked base code collection phrase q w0 w2 rows_now.pending rows_now.total n r0 r3
@@ -291,7 +291,7 @@ walked_stop {base} {code} {collection} {phrase} {q} {w0} {w1} {waiting} {total} 
 
 -- a document could not be searched, or its row not be passed on
 pub walked_cut : {base : List ℕ} {code : TextCode} {collection : List ℕ} {phrase : List (List ℕ)} {q : Query} {w0 w1 w2 : Option (List ℕ)}
-    {rows rows_now : PhraseRows} {number : ℕ} (m n : Matching) {r0 : Reads} (r1 r2 : Reads) {r3 : Reads} {error : ShowErr} → SkipsTold →
+    {rows rows_now : Rows} {number : ℕ} (m n : Matching) {r0 : Reads} (r1 r2 : Reads) {r3 : Reads} {error : ShowErr} → SkipsTold →
     Joined code collection phrase q → PhraseWalked base code collection phrase q w0 w1 rows.pending rows.total m r0 r1 →
     GoesOn (left_of collection m) (left_of collection n) (Some number) →
     NextRead collection q m n r1 r2 → KeepsParts r2 r3 → DocumentSearched code collection phrase number w1 w2 rows rows_now r2 r3 (Err error) →
@@ -340,14 +340,14 @@ walked_end {base} {code} {collection} {phrase} {q} {w0} {w1} {w2} {waiting} {tot
 
 -- ---- a document that is searched
 
-module _ {code : TextCode} {collection : List ℕ} {phrase : List (List ℕ)} {number : ℕ} {w0 : Option (List ℕ)} {rows : PhraseRows} {r0 r1 : Reads} where
+module _ {code : TextCode} {collection : List ℕ} {phrase : List (List ℕ)} {number : ℕ} {w0 : Option (List ℕ)} {rows : Rows} {r0 r1 : Reads} where
   -- it could not be decoded
   pub one_unread : {error : ShowErr} → ShowIsNotBad (Err error) → r1 part.Text ≤ r0 part.Text + doc_pages code collection (plain number) →
       DocumentSearched code collection phrase number w0 w0 rows rows r0 r1 (Err error)
   one_unread sound text = record { passed = grew_nothing w0 _; counted = tt; sound = sound; text = text }
 
   -- its row was passed on, or cut
-  pub one_searched : {rows_now : PhraseRows} {w1 : Option (List ℕ)} (places : ℕ) {result : Result (Unit {0}) ShowErr} →
+  pub one_searched : {rows_now : Rows} {w1 : Option (List ℕ)} (places : ℕ) {result : Result (Unit {0}) ShowErr} →
       places ≡ phrase_places phrase (document collection number) → AfterPass w0 w1 rows.pending rows_now.pending (rows_of (found_at number places)) result →
       OnOk result (rows_now.total ≡ rows.total + length (found_at number places)) → ShowIsNotBad result →
       r1 part.Text ≤ r0 part.Text + doc_pages code collection (plain number) →

@@ -170,12 +170,12 @@ next_allowed law w next = lists_allowed law (lists_walked w) next
 
 -- ---- one document after another
 
-pub walked_start : {base : List ℕ} {code : TextCode} {collection : List ℕ} {q : Query} {now : Settings} {w : Option (List ℕ)} {waiting : List ℕ} {m : Matching} {r : Reads} →
-    waiting ≡ [] → query_of m.asks ≡ q → m.decided ≡ 0 → SkipsWithin m.places → MatchesOver base collection m → Walked base code collection q now w w waiting 0 m r r
-walked_start {base} {code} {collection} {q} {now} {w} {waiting} {m} {r} none asks before within over = record {
+pub walked_start : {base : List ℕ} {code : TextCode} {collection : List ℕ} {q : Query} {now : Settings} {w : Option (List ℕ)} {waiting : List ℕ} {total : ℕ} {m : Matching} {r : Reads} →
+    waiting ≡ [] → total ≡ 0 → query_of m.asks ≡ q → m.decided ≡ 0 → SkipsWithin m.places → MatchesOver base collection m → Walked base code collection q now w w waiting total m r r
+walked_start {base} {code} {collection} {q} {now} {w} {waiting} {total} {m} {r} none zero_is asks before within over = record {
   so_far = [];
   split = ap (λ p. satisfying collection p) (sym asks) ∙ ap (λ n. found (query_of m.asks) (n + 1) (drop n (documents collection))) (sym before);
-  total_is = refl;
+  total_is = sym zero_is;
   passed = subst (λ xs. Passed w w [] waiting (flat_map (shown collection now.mode) xs)) (sym (none_first now.most)) (subst (λ p. Passed w w [] p []) (sym none) (pass_nothing w []));
   over = over;
   post = omega arith;

@@ -40,7 +40,7 @@ use Rattle.mg_session.specs.Opening.{KeptByQueries, SetOpened}
 use Rattle.mg_session.specs.PhraseAnswers.{found_at, rows_of}
 use Rattle.mg_session.specs.Searching.{Opened, OpenedOver, SearchFits, opened_at}
 use Rattle.mg_session.specs.Sessions.{ForLexicon}
-use Rattle.mg_session.specs.declared.phrase_rows.PhraseRows.{PhraseRows}
+use Rattle.mg_session.specs.declared.rows.Rows.{Rows}
 
 -- ---- one document
 
@@ -61,7 +61,7 @@ PutsSome before now result AreSuch last = OnOk result ((rows : List ℕ) × AreS
     × (now ≡ appended before (rows ++ last)))
 
 -- at `Ok` the row of a document with such a number of places was passed on, and it is counted if there are any
-abbrev pub PassesRow : Option (List ℕ) → Option (List ℕ) → PhraseRows → PhraseRows →
+abbrev pub PassesRow : Option (List ℕ) → Option (List ℕ) → Rows → Rows →
     Result (Unit {0}) ShowErr → ℕ → (ℕ → Type 0) → Type 0
 PassesRow before now rows rows_now result number AreSuch = OnOk result ((places : ℕ) × AreSuch places
     × Passed before now rows.pending rows_now.pending (rows_of (found_at number places))

@@ -24,7 +24,7 @@ use Rattle.mg_text.specs.Reading.{ShowIsNotBad}
 use Rattle.mg_session.specs.Answering.{ListsWalked}
 use Rattle.mg_session.specs.PagesAllowed.{ReadsAllowed}
 use Rattle.mg_session.specs.PhrasesAllowed.{phrase_allows, phrase_line_allows, phrases_allow, phrases_terms}
-use Rattle.mg_session.specs.declared.phrase_rows.PhraseRows.{PhraseRows}
+use Rattle.mg_session.specs.declared.rows.Rows.{Rows}
 use Rattle.mg_session.specs.Parts.{ReadsLexicon}
 
 -- ---- rows
@@ -97,7 +97,7 @@ pub record PhraseReplied (code : TextCode) (collection line : List ℕ) (before 
 
 -- A document was searched for a phrase, and its row was passed on where it has places, or a part of that text.
 pub record DocumentSearched (code : TextCode) (collection : List ℕ) (phrase : List (List ℕ)) (number : ℕ)
-    (before after : Option (List ℕ)) (rows rows_now : PhraseRows) (reads_before reads_now : Reads)
+    (before after : Option (List ℕ)) (rows rows_now : Rows) (reads_before reads_now : Reads)
     (result : Result (Unit {0}) ShowErr) : Type 0 where
   -- its row comes behind those that waited
   pub passed : AfterPass before after rows.pending rows_now.pending (rows_of (found_in collection phrase number)) result

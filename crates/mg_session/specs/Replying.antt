@@ -31,7 +31,7 @@ use Rattle.mg_session.specs.Searching.{Opened}
 use Rattle.mg_session.specs.Sessions.{ForOpened, ForText}
 use Rattle.mg_session.specs.Texts.{Texting}
 use Rattle.mg_session.specs.WildAnswers.{WildAnswered, WildReplied}
-use Rattle.mg_session.specs.declared.phrase_rows.PhraseRows.{PhraseRows}
+use Rattle.mg_session.specs.declared.rows.Rows.{Rows}
 
 -- ---- what is promised of a question
 
@@ -125,7 +125,7 @@ RepliesTo of_store of_out store store_now out out_now result opened ranked now l
 
 -- where the text is that of a collection, a document of it is searched for a phrase, and its row is passed on where it has places
 abbrev pub SearchesDocument : {X Y : Type 0} → stores.Ghosts X → sinks.Ghosts Y → X → X → Y → Y →
-    Result (Unit {0}) ShowErr → Texting → PhraseRows → PhraseRows → List (List ℕ) → ℕ → Type 0
+    Result (Unit {0}) ShowErr → Texting → Rows → Rows → List (List ℕ) → ℕ → Type 0
 SearchesDocument of_store of_out store store_now out out_now result texts rows rows_now phrase number =
     ForText texts (of_store.files store) (λ code collection.
     DocumentSearched code collection phrase number (of_out.written out) (of_out.written out_now) rows rows_now

@@ -10,11 +10,11 @@ use crate::documents::Documents;
 use crate::hit::show_hit;
 use crate::lists::Lists;
 use crate::lookup::Sought;
+use crate::rows::Rows;
 use crate::total::put_total;
 use mg_bool::{Matches, skips_are_within};
 use mg_defs::Settings;
 use mg_dev::{PartErr, ShowErr, Sink, Store};
-use mg_reply::Pending;
 
 /// Shows the documents that satisfy a query, of which none was asked for yet: the first of them, and
 /// how many there are.
@@ -31,19 +31,18 @@ fn show_matches<S: Store, D: Documents<S>, O: Sink>(
         (D.texts texts.old) (D.texts texts.new) matches.old now.now }
 {
     skips_are_within();
-    let mut pending = Pending::new();
-    let mut total = 0u32;
+    let mut rows = Rows::new();
     'matches: loop {
         let number = match matches.next(store) {
             Ok(Some(number)) => number,
-            Ok(None) => return put_total(&mut pending, out, total),
+            Ok(None) => return put_total(&mut rows.pending, out, rows.total),
             Err(refusal) => return Err(ShowErr::from(refusal)),
         };
-        match show_hit(texts, store, &mut pending, out, now, total, number) {
+        match show_hit(texts, store, &mut rows, out, now, number) {
             Ok(()) => {}
             Err(refusal) => return Err(refusal),
         }
-        total += 1;
+        rows.total += 1;
     }
 }
 

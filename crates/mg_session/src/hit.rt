@@ -1,14 +1,14 @@
 //! A document of an answer, as it is shown from the coded text.
+ghost use Rattle.std.specs.Prelude.{◌≡◌};
 ghost use Rattle.mg_defs.specs.declared.session.Mode.TheVariants as mode;
-ghost use Rattle.mg_session.specs.Calls.{IsShowable, ShowsText};
-ghost use Rattle.mg_session.specs.Decided.{PassesSome, hit_of, shown_of};
-ghost use Rattle.mg_session.specs.DocStands.{IfShown, IfText, IsDocOf};
-ghost use Rattle.mg_session.specs.Showing.{PassesHit, PassesShown, found_pages, shown_pages};
+ghost use Rattle.mg_session.specs.Calls.{IsShowable};
+ghost use Rattle.mg_session.specs.Showing.{ShowsDoc, ShowsHit};
 
 use crate::documents::Documents;
+use crate::rows::Rows;
 use mg_defs::{Mode, Settings};
 use mg_dev::{ShowErr, Sink, Store};
-use mg_reply::{Pending, shows};
+use mg_reply::{Pending, Shown, shows};
 
 /// Passes on a document's header, its text and what closes it. What waits goes to the sink first, and
 /// the text goes there straight. It stands apart so that a document that is only counted or numbered
@@ -19,19 +19,13 @@ fn show_text<S: Store, D: Documents<S>, O: Sink>(
     store: &mut S,
     pending: &mut Pending,
     out: &mut O,
-    number: u32,
-    score: Option<u64>,
+    shown: Shown,
 ) -> Result<(), ShowErr>
-    requires { IsShowable (S.files store.old) (D.texts texts.old) number }
-    ensures shown { ShowsText S.Store O.Sink store.old store.new out.old out.new result
-        (D.texts texts.old) (D.texts texts.new) mode.Text
-        (PassesShown O.written out.old out.new pending.old pending.new result mode.Text number score)
-        (shown_pages mode.Text number score) }
-    ensures passed { PassesSome (O.written out.old) (O.written out.new) pending.old pending.new
-        result (IsDocOf (D.texts texts.old) (S.files store.old) number)
-        (shown_of mode.Text number score) }
+    requires { IsShowable (S.files store.old) (D.texts texts.old) shown.number }
+    ensures { ShowsDoc S.Store O.Sink store.old store.new out.old out.new result
+        (D.texts texts.old) (D.texts texts.new) pending.old pending.new mode.Text shown }
 {
-    match pending.header(out, number, score) {
+    match pending.header(out, shown.number, shown.score) {
         Ok(()) => {}
         Err(refusal) => return Err(ShowErr::from(refusal)),
     }
@@ -39,7 +33,7 @@ fn show_text<S: Store, D: Documents<S>, O: Sink>(
         Ok(()) => {}
         Err(refusal) => return Err(ShowErr::from(refusal)),
     }
-    match texts.doc(store, number, out) {
+    match texts.doc(store, shown.number, out) {
         Ok(()) => {}
         Err(refusal) => return Err(refusal),
     }
@@ -56,51 +50,42 @@ pub(crate) fn show_doc<S: Store, D: Documents<S>, O: Sink>(
     pending: &mut Pending,
     out: &mut O,
     mode: Mode,
-    number: u32,
-    score: Option<u64>,
+    shown: Shown,
 ) -> Result<(), ShowErr>
-    requires { IsShowable (S.files store.old) (D.texts texts.old) number }
-    ensures shown { ShowsText S.Store O.Sink store.old store.new out.old out.new result
-        (D.texts texts.old) (D.texts texts.new) mode
-        (PassesShown O.written out.old out.new pending.old pending.new result mode number score)
-        (shown_pages mode number score) }
-    ensures passed { PassesSome (O.written out.old) (O.written out.new) pending.old pending.new
-        result (λ doc. IfText mode (IsDocOf (D.texts texts.old) (S.files store.old) number doc))
-        (shown_of mode number score) }
+    requires { IsShowable (S.files store.old) (D.texts texts.old) shown.number }
+    ensures { ShowsDoc S.Store O.Sink store.old store.new out.old out.new result
+        (D.texts texts.old) (D.texts texts.new) pending.old pending.new mode shown }
 {
     match mode {
-        Mode::Docnums => match pending.row(out, number, score) {
+        Mode::Docnums => match pending.row(out, shown.number, shown.score) {
             Ok(()) => Ok(()),
             Err(refusal) => Err(ShowErr::from(refusal)),
         },
-        Mode::Text => show_text(texts, store, pending, out, number, score),
+        Mode::Text => show_text(texts, store, pending, out, shown),
         Mode::Count => Ok(()),
     }
 }
 
-/// Passes on what a reply shows of a document, if there is room for it after so many of them.
-#[tactic(auto, unfolding(mg_defs::specs::Replies::hit_text))]
+/// Passes on what a reply shows of a document, if there is room for it after those that were counted.
 pub(crate) fn show_hit<S: Store, D: Documents<S>, O: Sink>(
     texts: &mut D,
     store: &mut S,
-    pending: &mut Pending,
+    rows: &mut Rows,
     out: &mut O,
     now: &Settings,
-    total: u32,
     number: u32,
 ) -> Result<(), ShowErr>
     requires { IsShowable (S.files store.old) (D.texts texts.old) number }
-    ensures shown { ShowsText S.Store O.Sink store.old store.new out.old out.new result
-        (D.texts texts.old) (D.texts texts.new) now.now.mode
-        (PassesHit O.written out.old out.new pending.old pending.new result now.now total number)
-        (found_pages now.now total number) }
-    ensures passed { PassesSome (O.written out.old) (O.written out.new) pending.old pending.new
-        result
-        (λ doc. IfShown now.now total (IsDocOf (D.texts texts.old) (S.files store.old) number doc))
-        (hit_of now.now total number) }
+    ensures hit { ShowsHit S.Store O.Sink store.old store.new out.old out.new result
+        (D.texts texts.old) (D.texts texts.new) rows.old rows.new now.now number }
+    ensures total { rows.new.total ≡ rows.old.total }
 {
-    if !shows(now.most, total) {
+    if !shows(now.most, rows.total) {
         return Ok(());
     }
-    show_doc(texts, store, pending, out, now.mode, number, None)
+    let shown = Shown {
+        number,
+        score: None,
+    };
+    show_doc(texts, store, &mut rows.pending, out, now.mode, shown)
 }

@@ -14,7 +14,7 @@ ghost use Rattle.mg_session.specs.Replying.{SearchesDocument, ShowsCandidates, S
 
 use crate::lists::Lists;
 use crate::lookup::Sought;
-use crate::phrase_rows::PhraseRows;
+use crate::rows::Rows;
 use crate::searched::Searched;
 use crate::total::put_total;
 use mg_bool::{Matches, skips_are_within};
@@ -28,7 +28,7 @@ fn search_document<S: Store, T: Searched<S>, O: Sink>(
     store: &mut S,
     marks: &mut Marks<'_>,
     number: u32,
-    rows: &mut PhraseRows,
+    rows: &mut Rows,
     out: &mut O,
 ) -> Result<(), ShowErr>
     requires showable { IsShowable (S.files store.old) (T.texts texts.old) number }
@@ -48,7 +48,7 @@ fn search_document<S: Store, T: Searched<S>, O: Sink>(
         Ok(places) => places,
         Err(refusal) => return Err(ShowErr::from(refusal)),
     };
-    match rows.pass(out, number, places) {
+    match rows.pass_places(out, number, places) {
         Ok(()) => Ok(()),
         Err(refusal) => Err(ShowErr::from(refusal)),
     }
@@ -71,7 +71,7 @@ fn search_matches<S: Store, T: Searched<S>, O: Sink>(
         (T.texts texts.old) (T.texts texts.new) matches.old marks.old.phrase }
 {
     skips_are_within();
-    let mut rows = PhraseRows::new();
+    let mut rows = Rows::new();
     'matches: loop {
         let number = match matches.next(store) {
             Ok(Some(number)) => number,

@@ -4,10 +4,10 @@ ghost use Rattle.mg_defs.specs.Texts.{count as count_text};
 ghost use Rattle.mg_rank.specs.Ranked.{IsNumbered};
 ghost use Rattle.mg_session.specs.PagesAllowed.{rows_asked};
 ghost use Rattle.mg_session.specs.Calls.{AreShowable, ShowsText};
-ghost use Rattle.mg_session.specs.Decided.{PassesSome, PutsSome};
+ghost use Rattle.mg_session.specs.Decided.{PutsSome};
 ghost use Rattle.mg_session.specs.DocStands.{AreRowsOf, IsDocOf};
 ghost use Rattle.mg_session.specs.Replying.{ShowsTerms};
-ghost use Rattle.mg_session.specs.Showing.{PassesRows, PutsRanking, ranked_pages};
+ghost use Rattle.mg_session.specs.Showing.{PutsRanking, ShowsRows, ranked_pages};
 ghost use Rattle.mg_session.specs.Texts.{TextsFit};
 
 use crate::documents::Documents;
@@ -19,7 +19,7 @@ use mg_defs::{Mode, Settings};
 use mg_dev::{PartErr, ShowErr, Sink, Store};
 use mg_layout::TermInfo;
 use mg_rank::{RankRows, Ranked, rank};
-use mg_reply::Pending;
+use mg_reply::{Pending, Shown};
 
 /// Passes on what a reply shows of rows, one after another.
 fn show_rows<S: Store, D: Documents<S>, O: Sink>(
@@ -32,25 +32,16 @@ fn show_rows<S: Store, D: Documents<S>, O: Sink>(
 ) -> Result<(), ShowErr>
     requires fits { TextsFit (S.files store.old) (D.texts texts.old) }
     requires range { All (IsNumbered (D.texts texts.old).head.documents) rows.now }
-    ensures shown { ShowsText S.Store O.Sink store.old store.new out.old out.new result
-        (D.texts texts.old) (D.texts texts.new) mode
-        (PassesRows O.written out.old out.new pending.old pending.new result mode rows.now)
-        (ranked_pages mode rows.now) }
-    ensures passed { PassesSome (O.written out.old) (O.written out.new) pending.old pending.new
-        result (AreRowsOf (IsDocOf (D.texts texts.old) (S.files store.old)) mode rows.now)
-        (λ rows. rows) }
+    ensures { ShowsRows S.Store O.Sink store.old store.new out.old out.new result
+        (D.texts texts.old) (D.texts texts.new) pending.old pending.new mode rows.now }
 {
     for place in 0..rows.len() {
         let row = rows.row(place);
-        match show_doc(
-            texts,
-            store,
-            pending,
-            out,
-            mode,
-            row.number,
-            Some(row.score),
-        ) {
+        let shown = Shown {
+            number: row.number,
+            score: Some(row.score),
+        };
+        match show_doc(texts, store, pending, out, mode, shown) {
             Ok(()) => {}
             Err(refusal) => return Err(refusal),
         }

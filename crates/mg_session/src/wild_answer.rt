@@ -6,6 +6,7 @@ ghost use Rattle.mg_bits.specs.Pages.{Fits};
 ghost use Rattle.mg_post.specs.ListReading.{ForReader, SameSource, current_doc};
 ghost use Rattle.mg_post.specs.PagesOnce.{span_pages};
 ghost use Rattle.mg_rank.specs.Ranked.{ForTerm, PostWithin};
+ghost use Rattle.mg_reply.specs.Pending.{PassesText};
 ghost use Rattle.mg_reply.specs.Printed.{Passes, Puts};
 ghost use Rattle.mg_wild.specs.Patterns.{sides_of};
 ghost use Rattle.mg_session.specs.Calls.{StepsPut, WritesAlone};
@@ -130,9 +131,8 @@ fn pass_term<O: Sink>(
     term: &[u8],
     docs: u32,
 ) -> Result<(), PutErr>
-    ensures content { Passes O.written out.old out.new pending.old pending.new result
+    ensures { PassesText O.Sink out.old out.new pending.old pending.new result
         (term_row term.now docs) }
-    ensures stepped { StepsPut O.Sink out.old out.new result }
 {
     match pending.put(out, b"+ ") {
         Ok(()) => {}
@@ -177,9 +177,8 @@ fn pass_marked<O: Sink>(
     out: &mut O,
     marked: &DocumentSet,
 ) -> Result<(), PutErr>
-    ensures content { Passes O.written out.old out.new pending.old pending.new result
+    ensures { PassesText O.Sink out.old out.new pending.old pending.new result
         (numbers_text (marked_to marked.now marked.now.all)) }
-    ensures stepped { StepsPut O.Sink out.old out.new result }
 {
     let mut last = 0;
     let mut total = 0u32;

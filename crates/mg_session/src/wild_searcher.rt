@@ -7,9 +7,9 @@ ghost use Rattle.mg_dev.specs.Moments.{store_at};
 ghost use Rattle.mg_dev.specs.Runs.{RefusedFor};
 ghost use Rattle.mg_dev.specs.declared.fault.Fault.TheVariants.{TooManyRotations};
 ghost use Rattle.mg_rank.specs.Ranked.{PostWithin};
-ghost use Rattle.mg_reply.specs.Printed.{Puts};
+ghost use Rattle.mg_reply.specs.Pending.{PutsText};
 ghost use Rattle.mg_wild.specs.Patterns.{bad_of};
-ghost use Rattle.mg_session.specs.Calls.{StepsPut, WritesAlone};
+ghost use Rattle.mg_session.specs.Calls.{WritesAlone};
 ghost use Rattle.mg_session.specs.Opening.{KeptByPatterns, SetOpened};
 ghost use Rattle.mg_session.specs.WildAnswers.{StepsPattern, wild_pages};
 ghost use Rattle.mg_session.specs.Replying.{RepliesToPattern};
@@ -60,8 +60,7 @@ fn fault_of_rotated(error: RotErr) -> Fault
 
 /// Writes that a line is no pattern, and from which place on.
 fn put_bad_pattern<O: Sink>(out: &mut O, at: u32) -> Result<(), PutErr>
-    ensures content { Puts O.written out.old out.new result (bad_pattern at) }
-    ensures stepped { StepsPut O.Sink out.old out.new result }
+    ensures { PutsText O.Sink out.old out.new result (bad_pattern at) }
 {
     let mut pending = Pending::new();
     match pending.put(out, b"? bad pattern at ") {

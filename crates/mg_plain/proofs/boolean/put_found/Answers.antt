@@ -53,7 +53,7 @@ docs-preserved g c = record {
 pub returns-in-Ok-count : goal.returns-in-Ok-count
 returns-in-Ok-count g c = record {
   puts = record {
-    content = counted_text _ c.flush.result c.docs.invariant.scanned c.in_default.ensures.0 c.in-Ok-count.ensures.content c.flush.ensures.content;
+    content = counted_text _ c.flush.result c.docs.invariant.scanned c.in_default.ensures.0 c.in-Ok-count.ensures.content c.flush.ensures.put.content;
     cause = search rules;
     lack = search rules;
   };

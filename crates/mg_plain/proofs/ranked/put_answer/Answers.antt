@@ -17,7 +17,7 @@ pub returns-in-Ok-count : goal.returns-in-Ok-count
 returns-in-Ok-count g c = record {
   puts = record {
     content = answer_put c.args.bytes.now c.args.now.now c.args.rows.now _ _ c.new-pending.ensures c.first_rows-shown.ensures c.in-Ok.ensures.passes.content
-        c.in-Ok-count.ensures.content c.flush.ensures.content;
+        c.in-Ok-count.ensures.content c.flush.ensures.put.content;
     cause = search rules;
     lack = search rules;
   };

@@ -1,5 +1,8 @@
-use Rattle.mg_reply.proofs.PendingLaws.{pass_put}
+use Rattle.mg_reply.proofs.PendingLaws.{puts_passed, puts_refused}
 use Rattle.mg_reply.proofs.text.put_count.Goals as goal
 
-pub returns-in-Ok-clause-content : goal.returns-in-Ok-clause-content
-returns-in-Ok-clause-content g c = pass_put _ _ _ _ _ _ _ c.new-pending.ensures c.in-Ok.ensures.content c.flush.ensures.content
+pub returns-in-Ok : goal.returns-in-Ok
+returns-in-Ok g c = puts_passed c.new-pending.ensures c.in-Ok.ensures c.flush.ensures.put
+
+pub returns-in-Err : goal.returns-in-Err
+returns-in-Err g c = puts_refused c.new-pending.ensures c.in-Err.ensures

@@ -15,15 +15,15 @@ invariant-matches g l = record {
       (Ok tt) (Stepped l.fn.now.mode);
   on : (base : List ℕ) × MatchesFit base (g.S.Store.files l.store) l.matches;
   kept : SameMatches l.fn.matches l.matches;
-  few : l.total ≤ l.matches.decided;
+  few : l.rows.total ≤ l.matches.decided;
   within : l.matches.decided ≤ l.matches.all;
   printing : QueryPrinting (g.S.Store.files l.fn.store) (g.S.Store.files l.store) l.fn.matches l.matches
       (BooleanRow (IsDocOf (g.D.Documents.texts l.fn.texts) (g.S.Store.files l.fn.store)) l.fn.now) (g.O.Sink.written l.fn.out)
-      (g.O.Sink.written l.out) l.pending l.total;
+      (g.O.Sink.written l.out) l.rows.pending l.rows.total;
   walked : (base : List ℕ) (code : TextCode) (collection : List ℕ) →
       AnswersFor base (g.S.Store.files l.fn.store) (g.D.Documents.texts l.fn.texts) l.fn.matches.all code collection →
       MatchesOver base collection l.fn.matches →
-      Walked base code collection (query_of l.fn.matches.asks) l.fn.now (g.O.Sink.written l.fn.out) (g.O.Sink.written l.out) l.pending l.total l.matches
+      Walked base code collection (query_of l.fn.matches.asks) l.fn.now (g.O.Sink.written l.fn.out) (g.O.Sink.written l.out) l.rows.pending l.rows.total l.matches
       (g.S.Store.reads l.fn.store) (g.S.Store.reads l.store);
 }
 

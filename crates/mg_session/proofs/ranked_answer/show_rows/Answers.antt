@@ -52,64 +52,61 @@ loop-place-preserved g c =
           (c.in-Ok.ensures.shown.pages code collection text);
     }
 
-pub returns-in-Err-clause-shown : goal.returns-in-Err-clause-shown
-returns-in-Err-clause-shown g c =
+pub returns-in-Err : goal.returns-in-Err
+returns-in-Err g c =
     let so_far = c.loop-place.invariant in
     let e = c.in-Err.ensures.shown in
     record {
-      fits = e.fits;
-      same = texts_then _ _ _ so_far.same e.same;
-      content = λ code collection is.
-          let inv = c.loop-place.invariant in
-          let text = texts_later _ _ _ _ code collection inv.same inv.looked.files is in
-          rows_cut code collection c.args.mode c.args.rows.now c.loop-place.place c.row-row.result.number c.row-row.result.score _ _ _ _ _ _
-          (g.S.Store.reads c.loop-place.store) (omega arith) c.row-row.ensures.number c.row-row.ensures.score (inv.shown code collection is)
-          (c.in-Err.ensures.shown.content code collection text);
-      pages = λ code collection is.
-          let inv = c.loop-place.invariant in
-          let text = texts_later _ _ _ _ code collection inv.same inv.looked.files is in
-          pages_cut code collection c.args.mode c.args.rows.now c.loop-place.place c.row-row.result.number c.row-row.result.score _ _ _ _ _
-          (g.S.Store.reads c.loop-place.store) (g.S.Store.reads c.show_doc.new.store) (omega arith) c.row-row.ensures.number c.row-row.ensures.score
-          (inv.shown code collection is)
-          (c.in-Err.ensures.shown.pages code collection text);
-      sound = λ code collection is.
-          let inv = c.loop-place.invariant in
-          c.in-Err.ensures.shown.sound code collection (texts_later _ _ _ _ code collection inv.same inv.looked.files is);
-      looked = shown_then so_far.looked e.looked;
-      cause = cause_after _ _ _ _ _ _ _ so_far.looked.faults so_far.output e.cause;
-      lack = lack_after _ _ _ _ so_far.lacks e.lack;
+      shown = record {
+        fits = e.fits;
+        same = texts_then _ _ _ so_far.same e.same;
+        content = λ code collection is.
+            let inv = c.loop-place.invariant in
+            let text = texts_later _ _ _ _ code collection inv.same inv.looked.files is in
+            rows_cut code collection c.args.mode c.args.rows.now c.loop-place.place c.row-row.result.number c.row-row.result.score _ _ _ _ _ _
+            (g.S.Store.reads c.loop-place.store) (omega arith) c.row-row.ensures.number c.row-row.ensures.score (inv.shown code collection is)
+            (c.in-Err.ensures.shown.content code collection text);
+        pages = λ code collection is.
+            let inv = c.loop-place.invariant in
+            let text = texts_later _ _ _ _ code collection inv.same inv.looked.files is in
+            pages_cut code collection c.args.mode c.args.rows.now c.loop-place.place c.row-row.result.number c.row-row.result.score _ _ _ _ _
+            (g.S.Store.reads c.loop-place.store) (g.S.Store.reads c.show_doc.new.store) (omega arith) c.row-row.ensures.number c.row-row.ensures.score
+            (inv.shown code collection is)
+            (c.in-Err.ensures.shown.pages code collection text);
+        sound = λ code collection is.
+            let inv = c.loop-place.invariant in
+            c.in-Err.ensures.shown.sound code collection (texts_later _ _ _ _ code collection inv.same inv.looked.files is);
+        looked = shown_then so_far.looked e.looked;
+        cause = cause_after _ _ _ _ _ _ _ so_far.looked.faults so_far.output e.cause;
+        lack = lack_after _ _ _ _ so_far.lacks e.lack;
+      };
+      passed = tt;
     }
 
-pub returns-clause-shown : goal.returns-clause-shown
-returns-clause-shown g c =
+pub returns : goal.returns
+returns g c =
     let so_far = c.loop-place.invariant in
     record {
-      fits = so_far.fits;
-      same = so_far.same;
-      content = λ code collection is.
-          let all : c.loop-place.place ≡ length c.args.rows.now = omega arith in
-          rows_passed code collection c.args.mode c.args.rows.now _ _ _ _ (g.S.Store.reads c.args.store.now) (g.S.Store.reads c.loop-place.store)
-          (subst (λ k. RowsShown code collection c.args.mode c.args.rows.now k (g.O.Sink.written c.args.out.now) (g.O.Sink.written c.loop-place.out)
-          c.args.pending.now c.loop-place.pending (g.S.Store.reads c.args.store.now) (g.S.Store.reads c.loop-place.store)) all
-          (c.loop-place.invariant.shown code collection is));
-      pages = λ code collection is.
-          let all : c.loop-place.place ≡ length c.args.rows.now = omega arith in
-          rows_read code collection c.args.mode c.args.rows.now (g.O.Sink.written c.args.out.now) (g.O.Sink.written c.loop-place.out) c.args.pending.now
-          c.loop-place.pending _ _ (subst (λ k. RowsShown code collection c.args.mode c.args.rows.now k (g.O.Sink.written c.args.out.now)
-          (g.O.Sink.written c.loop-place.out) c.args.pending.now c.loop-place.pending (g.S.Store.reads c.args.store.now) (g.S.Store.reads c.loop-place.store)) all
-          (c.loop-place.invariant.shown code collection is));
-      sound = λ code collection is. tt;
-      looked = so_far.looked;
-      cause = record { store = so_far.looked.faults; output = so_far.output; caused = tt };
-      lack = record { later = so_far.lacks; lacked = tt };
+      shown = record {
+        fits = so_far.fits;
+        same = so_far.same;
+        content = λ code collection is.
+            let all : c.loop-place.place ≡ length c.args.rows.now = omega arith in
+            rows_passed code collection c.args.mode c.args.rows.now _ _ _ _ (g.S.Store.reads c.args.store.now) (g.S.Store.reads c.loop-place.store)
+            (subst (λ k. RowsShown code collection c.args.mode c.args.rows.now k (g.O.Sink.written c.args.out.now) (g.O.Sink.written c.loop-place.out)
+            c.args.pending.now c.loop-place.pending (g.S.Store.reads c.args.store.now) (g.S.Store.reads c.loop-place.store)) all
+            (c.loop-place.invariant.shown code collection is));
+        pages = λ code collection is.
+            let all : c.loop-place.place ≡ length c.args.rows.now = omega arith in
+            rows_read code collection c.args.mode c.args.rows.now (g.O.Sink.written c.args.out.now) (g.O.Sink.written c.loop-place.out) c.args.pending.now
+            c.loop-place.pending _ _ (subst (λ k. RowsShown code collection c.args.mode c.args.rows.now k (g.O.Sink.written c.args.out.now)
+            (g.O.Sink.written c.loop-place.out) c.args.pending.now c.loop-place.pending (g.S.Store.reads c.args.store.now) (g.S.Store.reads c.loop-place.store)) all
+            (c.loop-place.invariant.shown code collection is));
+        sound = λ code collection is. tt;
+        looked = so_far.looked;
+        cause = record { store = so_far.looked.faults; output = so_far.output; caused = tt };
+        lack = record { later = so_far.lacks; lacked = tt };
+      };
+      passed = rows_whole (IsDocOf (g.D.Documents.texts c.args.texts.now) (g.S.Store.files c.args.store.now))
+          c.args.mode c.args.rows.now c.loop-place.place (omega arith) c.loop-place.invariant.passed;
     }
-
--- ---- what was passed on, whatever the text has
-
-pub returns-in-Err-clause-passed : goal.returns-in-Err-clause-passed
-returns-in-Err-clause-passed g c = tt
-
-pub returns-clause-passed : goal.returns-clause-passed
-returns-clause-passed g c =
-    rows_whole (IsDocOf (g.D.Documents.texts c.args.texts.now) (g.S.Store.files c.args.store.now))
-    c.args.mode c.args.rows.now c.loop-place.place (omega arith) c.loop-place.invariant.passed

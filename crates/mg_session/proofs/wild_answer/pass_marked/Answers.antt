@@ -1,5 +1,5 @@
 use Rattle.std.proofs.Common.{arith, ◌+◌, ◌∙◌, ap}
-use Rattle.mg_session.proofs.CallLaws.{put_behind}
+use Rattle.mg_reply.proofs.CallerLemmas.{cause_behind, lack_behind}
 use Rattle.mg_session.proofs.WildTextLaws.{rows_counted, rows_cut, rows_passed, rows_start, size_next, size_start}
 use Rattle.mg_session.proofs.wild_answer.pass_marked.Goals as goal
 
@@ -26,18 +26,20 @@ rows-preserved g c =
       passed = rows_passed c.args.marked.now c.rows.last c.in-Some.number _ _ _ _ _ _ next inv.passed c.in-Ok.ensures.content;
     }
 
-pub returns-in-Err-clause-content : goal.returns-in-Err-clause-content
-returns-in-Err-clause-content g c =
+pub returns-in-Err : goal.returns-in-Err
+returns-in-Err g c =
     let next = (rw c.in-Some.is at c.next_behind.ensures) in
-    rows_cut c.args.marked.now c.rows.last c.in-Some.number _ _ _ _ _ next c.rows.invariant.passed c.in-Err.ensures.content
+    record {
+      content = rows_cut c.args.marked.now c.rows.last c.in-Some.number _ _ _ _ _ next c.rows.invariant.passed c.in-Err.ensures.content;
+      cause = cause_behind c.rows.invariant.output c.in-Err.ensures.cause;
+      lack = lack_behind c.rows.invariant.lacks c.in-Err.ensures.lack;
+    }
 
-pub returns-clause-content : goal.returns-clause-content
-returns-clause-content g c =
+pub returns : goal.returns
+returns g c =
     let none = (rw c.in_default.is at c.next_behind.ensures) in
-    rows_counted c.args.marked.now c.rows.last c.rows.total _ _ _ _ _ _ c.count.result c.rows.invariant.most none c.rows.invariant.size c.rows.invariant.passed c.count.ensures.content
-
-pub returns-in-Err-clause-stepped : goal.returns-in-Err-clause-stepped
-returns-in-Err-clause-stepped g c = put_behind c.in-Err.ensures.cause c.in-Err.ensures.lack c.rows.invariant.output c.rows.invariant.lacks
-
-pub returns-clause-stepped : goal.returns-clause-stepped
-returns-clause-stepped g c = put_behind c.count.ensures.cause c.count.ensures.lack c.rows.invariant.output c.rows.invariant.lacks
+    record {
+      content = rows_counted c.args.marked.now c.rows.last c.rows.total _ _ _ _ _ _ c.count.result c.rows.invariant.most none c.rows.invariant.size c.rows.invariant.passed c.count.ensures.content;
+      cause = cause_behind c.rows.invariant.output c.count.ensures.cause;
+      lack = lack_behind c.rows.invariant.lacks c.count.ensures.lack;
+    }

@@ -1,40 +1,43 @@
 use Rattle.std.proofs.Common.{arith}
-use Rattle.mg_session.proofs.CallLaws.{put_behind}
+use Rattle.mg_reply.proofs.CallerLemmas.{cause_behind, lack_behind}
 use Rattle.mg_session.proofs.WildTextLaws.{term_cut_first, term_cut_second, term_cut_third, term_passed}
 use Rattle.mg_session.proofs.wild_answer.pass_term.Goals as goal
 
-pub returns-in-Err-clause-content : goal.returns-in-Err-clause-content
-returns-in-Err-clause-content g c = term_cut_first c.args.term.now c.args.docs _ _ c.args.pending.now c.in-Err.ensures.content
+pub returns-in-Err : goal.returns-in-Err
+returns-in-Err g c = record {
+  content = term_cut_first c.args.term.now c.args.docs _ _ c.args.pending.now c.in-Err.ensures.content;
+  cause = c.in-Err.ensures.cause;
+  lack = c.in-Err.ensures.lack;
+}
 
-pub returns-in-Err-put-clause-content : goal.returns-in-Err-put-clause-content
-returns-in-Err-put-clause-content g c = term_cut_second c.args.term.now c.args.docs _ _ _ c.args.pending.now _ c.in-Ok.ensures.content c.in-Err-put.ensures.content
-
-pub returns-in-Err-put-2-clause-content : goal.returns-in-Err-put-2-clause-content
-returns-in-Err-put-2-clause-content g c = term_cut_third c.args.term.now c.args.docs _ _ _ _ c.args.pending.now _ _ c.in-Ok.ensures.content c.in-Ok-put.ensures.content c.in-Err-put-2.ensures.content
-
-pub returns-in-Ok-put-2-clause-content : goal.returns-in-Ok-put-2-clause-content
-returns-in-Ok-put-2-clause-content g c = term_passed c.args.term.now c.args.docs _ _ _ _ _ c.args.pending.now _ _ _ _ _ c.in-Ok.ensures.content
-    c.in-Ok-put.ensures.content c.in-Ok-put-2.ensures.content c.row.ensures.content
-
--- ---- the output
-
-pub returns-in-Err-clause-stepped : goal.returns-in-Err-clause-stepped
-returns-in-Err-clause-stepped g c = put_behind c.in-Err.ensures.cause c.in-Err.ensures.lack (omega arith) (omega arith)
-
-pub returns-in-Err-put-clause-stepped : goal.returns-in-Err-put-clause-stepped
-returns-in-Err-put-clause-stepped g c =
+pub returns-in-Err-put : goal.returns-in-Err-put
+returns-in-Err-put g c =
     let mark = c.in-Ok.ensures in
-    put_behind c.in-Err-put.ensures.cause c.in-Err-put.ensures.lack mark.cause.later mark.lack.later
+    let e = c.in-Err-put.ensures in
+    record {
+      content = term_cut_second c.args.term.now c.args.docs _ _ _ c.args.pending.now _ mark.content e.content;
+      cause = cause_behind mark.cause.later e.cause;
+      lack = lack_behind mark.lack.later e.lack;
+    }
 
-pub returns-in-Err-put-2-clause-stepped : goal.returns-in-Err-put-2-clause-stepped
-returns-in-Err-put-2-clause-stepped g c =
+pub returns-in-Err-put-2 : goal.returns-in-Err-put-2
+returns-in-Err-put-2 g c =
     let mark = c.in-Ok.ensures in
     let term = c.in-Ok-put.ensures in
-    put_behind c.in-Err-put-2.ensures.cause c.in-Err-put-2.ensures.lack (omega (arith, mark.cause.later, term.cause.later)) (omega (arith, mark.lack.later, term.lack.later))
+    let e = c.in-Err-put-2.ensures in
+    record {
+      content = term_cut_third c.args.term.now c.args.docs _ _ _ _ c.args.pending.now _ _ mark.content term.content e.content;
+      cause = cause_behind (omega (arith, mark.cause.later, term.cause.later)) e.cause;
+      lack = lack_behind (omega (arith, mark.lack.later, term.lack.later)) e.lack;
+    }
 
-pub returns-in-Ok-put-2-clause-stepped : goal.returns-in-Ok-put-2-clause-stepped
-returns-in-Ok-put-2-clause-stepped g c =
+pub returns-in-Ok-put-2 : goal.returns-in-Ok-put-2
+returns-in-Ok-put-2 g c =
     let mark = c.in-Ok.ensures in
     let term = c.in-Ok-put.ensures in
     let space = c.in-Ok-put-2.ensures in
-    put_behind c.row.ensures.cause c.row.ensures.lack (omega (arith, mark.cause.later, term.cause.later, space.cause.later)) (omega (arith, mark.lack.later, term.lack.later, space.lack.later))
+    record {
+      content = term_passed c.args.term.now c.args.docs _ _ _ _ _ c.args.pending.now _ _ _ _ _ mark.content term.content space.content c.row.ensures.content;
+      cause = cause_behind (omega (arith, mark.cause.later, term.cause.later, space.cause.later)) c.row.ensures.cause;
+      lack = lack_behind (omega (arith, mark.lack.later, term.lack.later, space.lack.later)) c.row.ensures.lack;
+    }

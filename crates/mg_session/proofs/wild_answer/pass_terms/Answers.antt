@@ -14,8 +14,8 @@ loop-number-preserved g c =
     let inv = c.loop-number.invariant in
     let n = (get_or c.args.numbers.now c.loop-number.number-index 0) in
     record {
-      output = omega (arith, inv.output, c.in-Ok.ensures.stepped.cause.later);
-      lacks = omega (arith, inv.lacks, c.in-Ok.ensures.stepped.lack.later);
+      output = omega (arith, inv.output, c.in-Ok.ensures.cause.later);
+      lacks = omega (arith, inv.lacks, c.in-Ok.ensures.lack.later);
       passed = λ collection has tells.
           let told = told_info collection c.args.terms.now n c.info-info.result has tells
           (c.requires.numbers.below c.loop-number.number-index 0 c.loop-number-test.true) c.info-info.ensures.info c.info-info.ensures.number in
@@ -40,7 +40,7 @@ returns-clause-content g c = λ collection has tells. terms_all collection c.arg
 
 pub returns-in-Err-clause-stepped : goal.returns-in-Err-clause-stepped
 returns-in-Err-clause-stepped g c =
-    let e = c.in-Err.ensures.stepped in
+    let e = c.in-Err.ensures in
     put_behind e.cause e.lack c.loop-number.invariant.output c.loop-number.invariant.lacks
 
 pub returns-clause-stepped : goal.returns-clause-stepped

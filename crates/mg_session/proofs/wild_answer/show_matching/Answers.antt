@@ -20,12 +20,12 @@ returns-in-Err-pass_marked-clause-content g c = λ collection terms infos.
 pub returns-in-Ok-flush-clause-content : goal.returns-in-Ok-flush-clause-content
 returns-in-Ok-flush-clause-content g c = λ collection terms infos.
     all_put {T = Unit {0}} {E = ShowErr} (g.O.Sink.written c.flush.new.out) (Ok tt) c.new-pending.ensures
-    (c.in-Ok.ensures.content collection terms infos) c.in-Ok-pass_marked.ensures.content c.in-Ok-flush.ensures.content
+    (c.in-Ok.ensures.content collection terms infos) c.in-Ok-pass_marked.ensures.content c.in-Ok-flush.ensures.put.content
 
 pub returns-in-Err-flush-clause-content : goal.returns-in-Err-flush-clause-content
 returns-in-Err-flush-clause-content g c = λ collection terms infos.
     all_put {T = Unit {0}} (g.O.Sink.written c.flush.new.out) (Err c.in-Err-flush.refusal) c.new-pending.ensures
-    (c.in-Ok.ensures.content collection terms infos) c.in-Ok-pass_marked.ensures.content c.in-Err-flush.ensures.content
+    (c.in-Ok.ensures.content collection terms infos) c.in-Ok-pass_marked.ensures.content c.in-Err-flush.ensures.put.content
 
 -- ---- the output alone
 
@@ -34,19 +34,19 @@ returns-in-Err-clause-alone g c = put_refused c.in-Err.refusal c.from.ensures c.
 
 pub returns-in-Err-pass_marked-clause-alone : goal.returns-in-Err-pass_marked-clause-alone
 returns-in-Err-pass_marked-clause-alone g c =
-    let e = c.in-Err-pass_marked.ensures.stepped in
+    let e = c.in-Err-pass_marked.ensures in
     put_refused c.in-Err-pass_marked.refusal c.from-in-Err-pass_marked.ensures e.cause e.lack c.in-Ok.ensures.stepped.cause.later c.in-Ok.ensures.stepped.lack.later
 
 pub returns-in-Ok-flush-clause-alone : goal.returns-in-Ok-flush-clause-alone
 returns-in-Ok-flush-clause-alone g c =
     let terms = c.in-Ok.ensures.stepped in
-    let rows = c.in-Ok-pass_marked.ensures.stepped in
-    let e = c.in-Ok-flush.ensures in
+    let rows = c.in-Ok-pass_marked.ensures in
+    let e = c.in-Ok-flush.ensures.put in
     put_done (omega (arith, terms.cause.later, rows.cause.later, e.cause.later)) (omega (arith, terms.lack.later, rows.lack.later, e.lack.later))
 
 pub returns-in-Err-flush-clause-alone : goal.returns-in-Err-flush-clause-alone
 returns-in-Err-flush-clause-alone g c =
     let terms = c.in-Ok.ensures.stepped in
-    let rows = c.in-Ok-pass_marked.ensures.stepped in
-    let e = c.in-Err-flush.ensures in
+    let rows = c.in-Ok-pass_marked.ensures in
+    let e = c.in-Err-flush.ensures.put in
     put_refused c.in-Err-flush.refusal c.from-in-Err-flush.ensures e.cause e.lack (omega (arith, terms.cause.later, rows.cause.later)) (omega (arith, terms.lack.later, rows.lack.later))

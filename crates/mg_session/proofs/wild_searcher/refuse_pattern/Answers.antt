@@ -16,10 +16,10 @@ pub returns-in-Memory-clause-replied : goal.returns-in-Memory-clause-replied
 returns-in-Memory-clause-replied g c = λ line said collection. line_unread collection line _ _ tt
 
 pub returns-in-Ok-clause-alone : goal.returns-in-Ok-clause-alone
-returns-in-Ok-clause-alone g c = put_done c.in-Ok.ensures.stepped.cause.later c.in-Ok.ensures.stepped.lack.later
+returns-in-Ok-clause-alone g c = put_done c.in-Ok.ensures.cause.later c.in-Ok.ensures.lack.later
 
 pub returns-in-Err-clause-alone : goal.returns-in-Err-clause-alone
-returns-in-Err-clause-alone g c = put_refused c.in-Err.refusal c.from.ensures c.in-Err.ensures.stepped.cause c.in-Err.ensures.stepped.lack (omega arith) (omega arith)
+returns-in-Err-clause-alone g c = put_refused c.in-Err.refusal c.from.ensures c.in-Err.ensures.cause c.in-Err.ensures.lack (omega arith) (omega arith)
 
 pub returns-in-Memory-clause-alone : goal.returns-in-Memory-clause-alone
 returns-in-Memory-clause-alone g c = output_lacked

@@ -1,13 +1,12 @@
-use Rattle.std.proofs.Common.{codes, None}
-use Rattle.mg_defs.specs.Texts.{row}
-use Rattle.mg_reply.proofs.PendingLaws.{then_passes, pass_part}
-use Rattle.mg_defs.specs.Texts.{count}
+use Rattle.std.proofs.Common.{None}
+use Rattle.mg_defs.specs.Texts.{count, row}
+use Rattle.mg_reply.proofs.PendingLaws.{passes_both, passes_part}
 use Rattle.mg_reply.proofs.pending.Pending.count.Goals as goal
 
-pub returns-in-Ok-clause-content : goal.returns-in-Ok-clause-content
+pub returns-in-Ok : goal.returns-in-Ok
 unfolding count
-returns-in-Ok-clause-content g c = then_passes _ _ _ _ c.in-Ok.ensures.content c.row.ensures.content
+returns-in-Ok g c = passes_both c.in-Ok.ensures c.row.ensures
 
-pub returns-in-Err-clause-content : goal.returns-in-Err-clause-content
+pub returns-in-Err : goal.returns-in-Err
 unfolding count
-returns-in-Err-clause-content g c = pass_part _ _ c.args.self.now (codes "= ") (row c.args.total None) c.in-Err.ensures.content
+returns-in-Err g c = passes_part (row c.args.total None) c.in-Err.ensures

@@ -1,5 +1,10 @@
-use Rattle.mg_reply.proofs.PendingLaws.{then_passes}
+use Rattle.mg_reply.proofs.PendingLaws.{passes_both, passes_part}
+use Rattle.std.proofs.Common.{codes, ◌++◌}
+use Rattle.std.specs.Prelude.{decimal}
 use Rattle.mg_reply.proofs.pending.Pending.numbered.Goals as goal
 
-pub returns-in-Ok-clause-content : goal.returns-in-Ok-clause-content
-returns-in-Ok-clause-content g c = rw c.in-Some.is (then_passes _ _ _ _ c.in-Ok.ensures.content c.score.ensures.content)
+pub returns-in-Ok : goal.returns-in-Ok
+returns-in-Ok g c = rw c.in-Some.is (passes_both c.in-Ok.ensures c.score.ensures)
+
+pub returns-in-Err : goal.returns-in-Err
+returns-in-Err g c = rw c.in-Some.is (passes_part (codes " " ++ decimal c.in-Some.score) c.in-Err.ensures)

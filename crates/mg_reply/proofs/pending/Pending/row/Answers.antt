@@ -1,13 +1,12 @@
 use Rattle.std.proofs.Common.{codes}
-use Rattle.mg_defs.specs.Texts.{numbered}
-use Rattle.mg_reply.proofs.PendingLaws.{then_passes, pass_part}
 use Rattle.mg_defs.specs.Texts.{row}
+use Rattle.mg_reply.proofs.PendingLaws.{passes_both, passes_part}
 use Rattle.mg_reply.proofs.pending.Pending.row.Goals as goal
 
-pub returns-in-Ok-clause-content : goal.returns-in-Ok-clause-content
+pub returns-in-Ok : goal.returns-in-Ok
 unfolding row
-returns-in-Ok-clause-content g c = then_passes _ _ _ _ c.in-Ok.ensures.content c.put.ensures.content
+returns-in-Ok g c = passes_both c.in-Ok.ensures c.put.ensures
 
-pub returns-in-Err-clause-content : goal.returns-in-Err-clause-content
+pub returns-in-Err : goal.returns-in-Err
 unfolding row
-returns-in-Err-clause-content g c = pass_part _ _ c.args.self.now (numbered c.args.number c.args.score) (codes "\n") c.in-Err.ensures.content
+returns-in-Err g c = passes_part (codes "\n") c.in-Err.ensures
