@@ -33,19 +33,29 @@ fn tell_hint<E: Sink>(words: &[String], status: &Status, err: &mut E) {
     }
 }
 
-fn try_main(rt: HostRuntime) -> io::Result<u8> {
+/// Carries out the words over the files and the input of the system.
+fn run_words<O: Sink, E: Sink>(
+    rt: &HostRuntime,
+    words: &[String],
+    out: &mut O,
+    err: &mut E,
+) -> io::Result<u8> {
     let alloc = rt.alloc();
-    let words: Vec<String> = env::args(&rt)?.skip(1).collect(alloc)?;
-    let mut out = HostSink::new(rt.stdout());
-    let mut err = HostSink::new(rt.stderr());
-    if let Some(page) = page_asked(&words) {
-        return Ok(print_page(page, &mut out, &mut err).number());
-    }
     let mut store = HostStore::new(alloc, rt.clone()?);
     let mut input = HostSource::new(rt.stdin());
-    let status = mg_top::run(alloc, &words, &mut store, &mut input, &mut out, &mut err);
-    tell_hint(&words, &status, &mut err);
+    let status = mg_top::run(alloc, words, &mut store, &mut input, out, err);
+    tell_hint(words, &status, err);
     Ok(status.number())
+}
+
+fn try_main(rt: HostRuntime) -> io::Result<u8> {
+    let words: Vec<String> = env::args(&rt)?.skip(1).collect(rt.alloc())?;
+    let mut out = HostSink::new(rt.stdout());
+    let mut err = HostSink::new(rt.stderr());
+    match page_asked(&words) {
+        Some(page) => Ok(print_page(page, &mut out, &mut err).number()),
+        None => run_words(&rt, &words, &mut out, &mut err),
+    }
 }
 
 fn main(rt: HostRuntime) -> ExitCode {
