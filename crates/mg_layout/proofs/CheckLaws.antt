@@ -1,7 +1,5 @@
 -- Checks that were passed, and the first that was not.
-use Rattle.std.proofs.Common.{arith, ◌≡◌, ◌+◌, ◌<◌, ℕ, Bool, true, false, List, [], ◌∷◌, ◌++◌, length, take, drop, get_or, Some, None, refl, sym, ◌∙◌, ap, cond, map, find, suc, zero}
-use Rattle.std.specs.declared.option.Option.{Option}
-use Rattle.std.proofs.lemmas.List.{take_all}
+use Rattle.std.proofs.Common.{arith, ◌≡◌, ◌<◌, ℕ, Bool, true, false, List, [], ◌∷◌, length, take, get_or, Some, None, ap, cond, map, find, suc, zero}
 use Rattle.mg_defs.specs.Heads as defs
 use Rattle.mg_layout.specs.declared.check.Check.{Check}
 use Rattle.mg_layout.specs.HeadAnswers.{check_of}

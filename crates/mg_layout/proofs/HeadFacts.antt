@@ -1,5 +1,6 @@
 -- What reading the bytes of a head tells of the part that begins with them.
-use Rattle.std.proofs.Common.{arith, ◌≡◌, ◌≢◌, ◌+◌, ◌-◌, ◌≤◌, ◌<◌, ◌==◌, ◌++◌, ℕ, Bool, true, false, List, [], ◌∷◌, length, take, drop, Some, None, Ok, Err, MatchResult, IfOk, refl, sym, ◌∙◌, ap, subst, cond, nat_lt, slice_index, find, min, length-take}
+use Rattle.std.proofs.Common.{arith, ◌≡◌, ◌≢◌, ◌+◌, ◌≤◌, ◌<◌, ◌==◌, ◌++◌, ◌∷◌, ◌∙◌, ℕ, true, false, List, [], length, take}
+use Rattle.std.proofs.Common.{Some, None, Ok, Err, MatchResult, IfOk, sym, ap, subst, cond, nat_lt, slice_index, find, min, length-take}
 use Rattle.std.specs.declared.option.Option.{Option}
 use Rattle.std.specs.declared.result.Result.{Result}
 use Rattle.std.specs.Option.{option_or}

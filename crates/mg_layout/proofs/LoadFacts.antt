@@ -1,9 +1,9 @@
 -- What a head's size and its first bytes tell.
-use Rattle.std.proofs.Common.{arith, ◌≡◌, ◌≢◌, ◌+◌, ◌-◌, ◌≤◌, ◌<◌, ℕ, Bool, true, false, List, [], ◌∷◌, ◌++◌, length, take, drop, Some, None, Ok, Err, Result, refl, sym, ◌∙◌, ap, subst, cond, nat_lt, min, max, unwrap_or, IsSome, find, ◌^◌}
+use Rattle.std.proofs.Common.{arith, ◌≡◌, ◌≢◌, ◌+◌, ◌-◌, ◌≤◌, ◌<◌, ◌^◌, ◌++◌, ◌∷◌, ◌∙◌, ℕ, true, List, [], length, take, drop}
+use Rattle.std.proofs.Common.{Some, None, Ok, Err, Result, refl, sym, ap, subst, cond, nat_lt, min, max, unwrap_or, IsSome, find}
 use Rattle.std.specs.declared.option.Option.{Option}
 use Rattle.std.specs.Option.{option_map}
 use Rattle.std.proofs.lemmas.Bool.Decides.{nat_tests}
-use Rattle.mg_dev.specs.declared.bad.Bad as dev
 use Rattle.mg_dev.specs.declared.part.Part.{Part}
 use Rattle.mg_dev.specs.declared.part_err.PartErr.{PartErr}
 use Rattle.mg_dev.specs.declared.part_err.PartErr.TheVariants.{Device, Memory, Bad}
@@ -14,7 +14,7 @@ use Rattle.mg_defs.specs.Heads as defs
 use Rattle.mg_defs.specs.Heads.{first_damage, is_wrong, exactly, magic_checks, rest_checks, IsHead}
 use Rattle.mg_defs.proofs.HeadLaws.{no_damage, one_head}
 use Rattle.mg_layout.specs.declared.head.Head.{Head}
-use Rattle.mg_layout.specs.HeadAnswers.{fields_of, AnswersHead, AnswersBack, TellsOf}
+use Rattle.mg_layout.specs.HeadAnswers.{fields_of, AnswersHead, AnswersBack}
 
 pub size_of_part : (files : Option Files) (name : List ℕ) (size : Option ℕ) (n : ℕ) → size ≡ option_map length (file_at files name) → n ≡ unwrap_or size 0 → length (bytes_at files name) ≡ n
 size_of_part files name size n e d = by_case (file_at files name) size e d

@@ -1,5 +1,5 @@
 -- What contracts see of a head, and what loading one answers.
-use Rattle.std.specs.Prelude.{◌≡◌, ◌≢◌, ℕ, List, [], ◌++◌, Ok, Err, Some, None, MatchResult, find}
+use Rattle.std.specs.Prelude.{◌≡◌, ◌≢◌, ◌≤◌, ℕ, List, [], ◌++◌, Ok, Err, Some, None, MatchResult, find}
 use Rattle.std.specs.declared.option.Option.{Option}
 use Rattle.std.specs.declared.result.Result.{Result}
 use Rattle.mg_dev.specs.declared.bad.Bad as dev
@@ -48,6 +48,12 @@ abbrev pub AnswersChecks : {T : Type 0} → List defs.Check → Result T dev.Bad
 AnswersChecks checks result holds =
     MatchResult result (λ value. (find defs.is_wrong checks ≡ None) × holds value)
     (λ bad. TellsOf bad (find defs.is_wrong checks))
+
+-- heads of a version from low to high can be read: there are two versions
+pub record AreVersions (low high : ℕ) : Type 0 where
+  pub first : 1 ≤ low
+  pub order : low ≤ high
+  pub last : high ≤ 2
 
 -- what is answered for a part of these bytes, where heads of a version from low to high are read
 abbrev pub AnswersHead : ℕ → ℕ → List ℕ → Result (Option Head) PartErr → Type 0

@@ -6,7 +6,7 @@ ghost use Rattle.mg_dev.specs.Names.{full_name};
 ghost use Rattle.mg_dev.specs.PartCauses.{HasPartCause};
 ghost use Rattle.mg_dev.specs.declared.part.Part.TheVariants as part;
 ghost use Rattle.mg_defs.specs.Heads as defs;
-ghost use Rattle.mg_layout.specs.HeadAnswers.{fields_of, AnswersBack, AnswersHead, AnswersWithin};
+ghost use Rattle.mg_layout.specs.HeadAnswers.{AnswersBack, AnswersHead, AnswersWithin, AreVersions, fields_of};
 
 use crate::field_writer::FieldWriter;
 use crate::read::parse;
@@ -151,9 +151,7 @@ fn load_from<S: Store>(
     low: u8,
     high: u8,
 ) -> Result<Option<Head>, PartErr>
-    requires first { 1 ≤ low }
-    requires low { low ≤ high }
-    requires high { high ≤ 2 }
+    requires { AreVersions low high }
     ensures answer { IsSome (S.files store.old) →
         AnswersHead low high (part_bytes base.now part.Head (S.files store.old)) result }
     ensures within { AnswersWithin result }

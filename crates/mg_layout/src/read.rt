@@ -2,7 +2,7 @@
 ghost use Rattle.std.specs.Prelude.{◌≡◌, ◌+◌, ◌≤◌, ◌<◌, ℕ, List, IfOk, length, map, min, slice_index, take};
 ghost use Rattle.mg_defs.specs.Heads as defs;
 ghost use Rattle.mg_defs.specs.Numbers.{four_at};
-ghost use Rattle.mg_layout.specs.HeadAnswers.{AnswersChecks, AnswersParse, check_of, checks_of_narrow, checks_of_wide, fields_of};
+ghost use Rattle.mg_layout.specs.HeadAnswers.{AnswersChecks, AnswersParse, AreVersions, check_of, checks_of_narrow, checks_of_wide, fields_of};
 
 use crate::check::{Check, pass_all};
 use crate::head::Head;
@@ -17,9 +17,7 @@ const WIDE: u64 = 80;
 /// Reads a head of a version from low to high, in a part of this size that begins with these bytes.
 pub(crate) fn parse(bytes: &[u8; 80], size: u64, low: u8, high: u8) -> Result<Head, Bad>
     requires size { 64 ≤ size }
-    requires first { 1 ≤ low }
-    requires low { low ≤ high }
-    requires high { high ≤ 2 }
+    requires versions { AreVersions low high }
     ensures told { (all : List ℕ) → length all ≡ size → take (min 80 size) bytes.now ≡ take 80 all →
         AnswersParse low high all result }
     ensures within { IfOk result (λ head. defs.IsWithin (fields_of head)) }
@@ -44,8 +42,7 @@ pub(crate) fn parse(bytes: &[u8; 80], size: u64, low: u8, high: u8) -> Result<He
 // The version that the first eight bytes tell.
 fn version_of(bytes: &[u8], low: u8, high: u8) -> Result<u8, Bad>
     requires long { 8 ≤ length bytes.now }
-    requires low { low ≤ high }
-    requires high { high ≤ 2 }
+    requires versions { AreVersions low high }
     ensures { AnswersChecks (defs.magic_checks low high bytes.now) result
         (λ version. 48 + version ≡ slice_index bytes.now 6) }
 {
@@ -57,8 +54,7 @@ fn version_of(bytes: &[u8], low: u8, high: u8) -> Result<u8, Bad>
 
 fn magic_checks(bytes: &[u8], low: u8, high: u8) -> [Check; 8]
     requires long { 8 ≤ length bytes.now }
-    requires low { low ≤ high }
-    requires high { high ≤ 2 }
+    requires versions { AreVersions low high }
     ensures { map check_of result ≡ defs.magic_checks low high bytes.now }
 {
     [

@@ -1,4 +1,4 @@
-use Rattle.std.proofs.Common.{rules, arith, sym, ◌∙◌, ap, subst, take, suc, add-one, map, find, ◌≡◌, None}
+use Rattle.std.proofs.Common.{arith, sym, ◌∙◌, ap, take, add-one, map, find}
 use Rattle.mg_defs.specs.Heads.{is_wrong}
 use Rattle.mg_layout.specs.HeadAnswers.{check_of}
 use Rattle.mg_layout.proofs.CheckLaws.{found_at, passed_more}

@@ -1,9 +1,7 @@
-use Rattle.std.proofs.Common.{rules, arith, ◌≡◌, ◌≢◌, ◌+◌, ◌≤◌, ◌<◌, ℕ, List, length, take, min, sym, ◌∙◌, ap, subst, slice_index, refl, MatchResult, None, find, ◌++◌}
+use Rattle.std.proofs.Common.{arith, ◌≡◌, ◌≢◌, take, sym, ◌∙◌, ap, subst, slice_index}
 use Rattle.std.proofs.lemmas.List.{take_all}
-use Rattle.mg_defs.specs.Heads as defs
-use Rattle.mg_defs.proofs.NumberLaws.{slice_index-take}
-use Rattle.mg_layout.specs.HeadAnswers.{fields_of, TellsOf}
-use Rattle.mg_layout.proofs.HeadFacts.{same_index, tells_magic, after_magic, tells_narrow_size, tells_wide_size, narrow_answers, wide_answers, all_is, is_part, small_part, within_of, NarrowRead, WideRead}
+use Rattle.mg_layout.proofs.HeadFacts.{NarrowRead, WideRead, after_magic, all_is, is_part, narrow_answers, same_index, small_part}
+use Rattle.mg_layout.proofs.HeadFacts.{tells_magic, tells_narrow_size, tells_wide_size, wide_answers, within_of}
 use Rattle.mg_layout.proofs.read.parse.Goals as goal
 
 pub returns-in-Err-clause-told : goal.returns-in-Err-clause-told
@@ -29,7 +27,7 @@ returns-else-size-ne-NARROW-clause-told c = λ all is agree.
     let same : slice_index c.args.bytes.now 6 ≡ slice_index all 6 = same_index c.args.size c.args.bytes.now all 6 c.requires.size agree (omega arith) in
     let whole : take c.args.size c.args.bytes.now ≡ all = all_is c.args.size c.args.bytes.now all is (omega arith) agree in
     let read : NarrowRead (take 64 c.args.bytes.now) c.read_narrow.result = c.read_narrow.ensures in
-    narrow_answers c.args.low c.args.high all c.read_narrow.result c.requires.first c.requires.high
+    narrow_answers c.args.low c.args.high all c.read_narrow.result c.requires.versions.first c.requires.versions.last
     (small_part c.args.size c.args.bytes.now all whole c.fits-bytes)
     (after_magic c.args.low c.args.high c.args.size c.args.bytes.now all c.requires.size is agree c.in-Ok.ensures.0)
     (omega (arith, same, c.in-Ok.ensures.1, c.if-version-eq1.true)) (is ∙ size_is) (subst (λ xs. NarrowRead xs c.read_narrow.result) (ap (λ n. take n c.args.bytes.now) (sym size_is) ∙ whole) read)
@@ -42,7 +40,7 @@ returns-else-size-ne-WIDE-clause-told c = λ all is agree.
     let whole : take c.args.size c.args.bytes.now ≡ all = all_is c.args.size c.args.bytes.now all is (omega arith) agree in
     let read : WideRead c.args.bytes.now c.read_wide.result = c.read_wide.ensures in
     let full : c.args.bytes.now ≡ all = sym (take_all c.args.size c.args.bytes.now (omega (arith, size_is, c.told-bytes))) ∙ whole in
-    wide_answers c.args.low c.args.high all c.read_wide.result c.requires.first c.requires.high (small_part c.args.size c.args.bytes.now all whole c.fits-bytes)
+    wide_answers c.args.low c.args.high all c.read_wide.result c.requires.versions.first c.requires.versions.last (small_part c.args.size c.args.bytes.now all whole c.fits-bytes)
     (after_magic c.args.low c.args.high c.args.size c.args.bytes.now all c.requires.size is agree c.in-Ok.ensures.0)
     other (is ∙ size_is) (subst (λ xs. WideRead xs c.read_wide.result) full read)
 

@@ -1,4 +1,3 @@
-use Rattle.std.proofs.Common.{rules}
 use Rattle.mg_layout.proofs.LoadFacts.{answers_back}
 use Rattle.mg_layout.proofs.head.Head.load.Goals as goal
 
