@@ -1,5 +1,5 @@
 -- A reader of a part and of its places: what contracts see of it, and what it answers where both stand.
-use Rattle.std.specs.Prelude.{◌⊎◌, false, true, ◌≡◌, ◌≢◌, ◌≤◌, ◌<◌, ◌+◌, ◌*◌, ◌^◌, ℕ, Bool, List, length, take, drop, slice_get, None, Some, Result, Ok, Err, IfOk}
+use Rattle.std.specs.Prelude.{◌⊎◌, false, true, ◌≡◌, ◌≢◌, ◌≤◌, ◌<◌, ◌+◌, ◌*◌, ◌^◌, ℕ, Bool, List, length, take, drop, slice_get, None, Some, Result, Ok, Err, IfErr, IfOk}
 use Rattle.std.specs.Option.{IsSome}
 use Rattle.std.specs.declared.option.Option.{Option}
 use Rattle.std.specs.Int.{div_ceil}
@@ -122,6 +122,20 @@ pub record ReaderLooked {T : Type 0} (old new : Fronted) (times : ℕ) (result :
     pub memory : result ≢ Err Memory
     -- a refusal has its cause in the device
     pub cause : HasPartCause faults_before faults_now result
+
+-- a string is looked up at so many places: what is answered of the entries, what stands for what it gave, and where it lost an entry
+pub record LooksUp {T : Type 0} (old new : Fronted) (times : ℕ) (result : Result T PartErr) (answers : List Entry → Type 0)
+    (stands : Option Files → T → Type 0) (lost : Option Files → PartErr → Type 0) (files_before files_now : Option Files)
+    (reads_before reads_now : Reads) (faults_before faults_now : ℕ) : Type 0
+  where
+    -- the reader looks at that many places
+    pub step : ReaderLooked old new times result files_before files_now reads_before reads_now faults_before faults_now
+    -- where the parts are the front coding of entries, it answers of these
+    pub found : (es : List Entry) → FrontStands old files_before es → answers es
+    -- whatever the parts hold, it stands there
+    pub stood : IsSome files_before → IfOk result (stands files_before)
+    -- a refusal tells where an entry is missing
+    pub bad : IfErr result (lost files_before)
 
 -- an entry is missing from the place on that is told of this block
 pub record NoEntries (bad : declared.Bad.Bad) (r : Fronted) (files : Option Files) (block : ℕ) : Type 0 where

@@ -4,7 +4,7 @@ ghost use Rattle.mg_bits.specs.Pages.{Fits};
 ghost use Rattle.mg_defs.specs.Numbers.{four};
 ghost use Rattle.mg_defs.specs.Front.{Entry};
 ghost use Rattle.mg_front.specs.Entries.{entry_of, string_of};
-ghost use Rattle.mg_front.specs.Reading.{Fronted, FrontFits, FrontStands, AnswersAt, AnswersBlock, AnswersFind, AnswersIn, IsNotBad, IsInBlock, IsLost, IsLostAmong, IsReader, ReaderLooked, ReadsPlace, GivesEntry, ScansBlock, AnswersPlacesOf, AtBlock, ExpectsPlaces, WherePlacesStand};
+ghost use Rattle.mg_front.specs.Reading.{Fronted, FrontFits, FrontStands, AnswersAt, AnswersBlock, AnswersFind, AnswersIn, IsNotBad, IsInBlock, IsLost, IsLostAmong, IsReader, LooksUp, ReaderLooked, ReadsPlace, GivesEntry, ScansBlock, AnswersPlacesOf, AtBlock, ExpectsPlaces, WherePlacesStand};
 ghost use Rattle.mg_dev.specs.Files.{SameReads, bytes_at};
 ghost use Rattle.mg_front.specs.Looks.{ReadsUpTo, halvings, looks};
 ghost use Rattle.mg_front.specs.Stood.{BlockStands, EntryStands, FindStands, InStands, IsReadAt, ScanStands};
@@ -108,35 +108,44 @@ pub(crate) enum Scan {
     Damaged,
 }
 
+/// Entries of one block, as many as are asked for from its first on.
+#[derive(Clone, Copy)]
+struct BlockAt {
+    /// The place of the first of them.
+    from: u64,
+    /// The width of their fields.
+    width: usize,
+    /// How many they are, at most four.
+    most: u32,
+}
+
 // Reads the entries of a block, from its place on, until one has the string.
 fn scan_block<S: Store>(
     strings: &mut PageFeed<'_, S>,
     store: &mut S,
-    from: u64,
-    width: usize,
-    most: u32,
+    block: BlockAt,
     string: &[u8],
     out: &mut FrontEntry,
 ) -> Result<Scan, Failed>
     requires fits { Fits strings.old (S.files store.old) }
-    requires width { width ≤ 24 }
-    requires place { from < 2 ^ 32 }
-    requires most { most ≤ 4 }
+    requires width { block.width ≤ 24 }
+    requires place { block.from < 2 ^ 32 }
+    requires most { block.most ≤ 4 }
     ensures read { Between S.files S.reads S.faults store.old store.new
-        (ReadsUpTo strings.old strings.new from (from + 1124) result) }
-    ensures told { AtBlock strings.old (S.files store.old) width from
-        (ScansBlock result most string.now width out.new) }
-    ensures number { IfOk result (λ scan. IsInBlock scan most) }
+        (ReadsUpTo strings.old strings.new block.from (block.from + 1124) result) }
+    ensures told { AtBlock strings.old (S.files store.old) block.width block.from
+        (ScansBlock result block.most string.now block.width out.new) }
+    ensures number { IfOk result (λ scan. IsInBlock scan block.most) }
     ensures stood { IsSome (S.files store.old) → IfOk result
-        (ScanStands width (bytes_at (S.files store.old) strings.old.name) from most string.now
-        out.new) }
+        (ScanStands block.width (bytes_at (S.files store.old) strings.old.name) block.from
+        block.most string.now out.new) }
 {
-    let mut place = from;
-    for number in 0..most {
+    let mut place = block.from;
+    for number in 0..block.most {
         let before = *out;
         let at = EntryAt {
             place,
-            width,
+            width: block.width,
             number,
         };
         match read_entry(strings, store, at, &before, out) {
@@ -293,14 +302,12 @@ impl<'a, S: Store> FrontReader<'a, S> {
         out: &mut FrontEntry,
     ) -> Result<Option<u32>, PartErr>
         requires fits { FrontFits self.old (S.files store.old) }
-        ensures step { Between S.files S.reads S.faults store.old store.new
-            (ReaderLooked self.old self.new (looks self.old.count) result) }
-        ensures found { (es : List Entry) → FrontStands self.old (S.files store.old) es →
-            AnswersFind result self.old.width string.now out.new es }
         // Whatever the parts hold, the entry stands, or those around the string do.
-        ensures stood { IsSome (S.files store.old) → IfOk result
-            (FindStands self.old (S.files store.old) string.now out.new) }
-        ensures bad { IfErr result (λ refusal. IsLostAmong refusal self.old (S.files store.old)) }
+        ensures { Between S.files S.reads S.faults store.old store.new
+            (LooksUp self.old self.new (looks self.old.count) result
+            (AnswersFind result self.old.width string.now out.new)
+            (λ files. FindStands self.old files string.now out.new)
+            (λ files refusal. IsLostAmong refusal self.old files)) }
     {
         let block = match self.block_of(store, string, out) {
             Ok(Some(block)) => block,
@@ -318,14 +325,12 @@ impl<'a, S: Store> FrontReader<'a, S> {
         out: &mut FrontEntry,
     ) -> Result<Option<u32>, PartErr>
         requires { FrontFits self.old (S.files store.old) }
-        ensures step { Between S.files S.reads S.faults store.old store.new
-            (ReaderLooked self.old self.new (halvings (div_ceil self.old.count 4)) result) }
-        ensures found { (es : List Entry) → FrontStands self.old (S.files store.old) es →
-            AnswersBlock result string.now es }
         ensures below { IfOk result (λ block. IfSome block (λ b. 4 * b < self.old.count)) }
-        ensures stood { IsSome (S.files store.old) → IfOk result
-            (BlockStands self.old (S.files store.old) string.now) }
-        ensures bad { IfErr result (λ refusal. IsLostAmong refusal self.old (S.files store.old)) }
+        ensures look { Between S.files S.reads S.faults store.old store.new
+            (LooksUp self.old self.new (halvings (div_ceil self.old.count 4)) result
+            (AnswersBlock result string.now)
+            (λ files. BlockStands self.old files string.now)
+            (λ files refusal. IsLostAmong refusal self.old files)) }
     {
         let mut low = 0u32;
         let mut high = self.count().div_ceil(4);
@@ -355,28 +360,23 @@ impl<'a, S: Store> FrontReader<'a, S> {
     ) -> Result<Option<u32>, PartErr>
         requires fits { FrontFits self.old (S.files store.old) }
         requires below { 4 * block < self.old.count }
-        ensures step { Between S.files S.reads S.faults store.old store.new
-            (ReaderLooked self.old self.new 1 result) }
-        ensures found { (es : List Entry) → FrontStands self.old (S.files store.old) es →
-            AnswersIn result block self.old.width string.now out.new es }
-        ensures stood { IsSome (S.files store.old) → IfOk result
-            (InStands self.old (S.files store.old) block string.now out.new) }
-        ensures bad { IfErr result (λ refusal. IsLost refusal self.old (S.files store.old) block) }
+        ensures { Between S.files S.reads S.faults store.old store.new
+            (LooksUp self.old self.new 1 result
+            (AnswersIn result block self.old.width string.now out.new)
+            (λ files. InStands self.old files block string.now out.new)
+            (λ files refusal. IsLost refusal self.old files block)) }
     {
         let place = match place_of(&mut self.places, store, block) {
             Ok(place) => place,
             Err(refusal) => return Err(refusal),
         };
         let most = (self.count - 4 * block).min(4);
-        let scan = match scan_block(
-            &mut self.strings,
-            store,
-            place,
-            self.width,
+        let entries = BlockAt {
+            from: place,
+            width: self.width,
             most,
-            string,
-            out,
-        ) {
+        };
+        let scan = match scan_block(&mut self.strings, store, entries, string, out) {
             Ok(scan) => scan,
             Err(_) => return Err(PartErr::Device),
         };

@@ -37,25 +37,26 @@ loop-number-preserved g c =
       place = omega (arith, inv.place, passed.most);
       told = λ told es block is from within.
           let before = inv.told told es block is from within in
-          let read = told_as (λ bytes. read_entry c.args.width c.loop-number.number (string_of c.loop-number.out) (drop c.loop-number.place bytes)
-          ≡ found_of c.args.width c.read_entry.new.out c.in-Ok-Some.field-0) (g.S.Store.files c.args.store.now) _ c.args.strings.now.name _ inv.on.looked.files
+          let read = told_as (λ bytes. read_entry c.args.block.width c.loop-number.number (string_of c.loop-number.out) (drop c.loop-number.place bytes)
+          ≡ found_of c.args.block.width c.read_entry.new.out c.in-Ok-Some.field-0) (g.S.Store.files c.args.store.now) _ c.args.strings.now.name _ inv.on.looked.files
           inv.on.file.name c.in-Ok-Some.ensures.told told in
-          let so_far = stepped c.args.width c.loop-number.number c.loop-number.place (c.args.most - 1) c.in-Ok-Some.size c.loop-number.out c.read_entry.new.out
+          let so_far = stepped c.args.block.width c.loop-number.number c.loop-number.place (c.args.block.most - 1) c.in-Ok-Some.size c.loop-number.out c.read_entry.new.out
           _ es _ block is before.0 (omega arith) (omega (arith, c.requires.most)) (omega (arith, within)) c.in-Ok-Some.field-0-is read in (
             so_far,
-            scanned_more es (4 * block) c.loop-number.number c.args.string.now (entry_of c.args.width c.read_entry.new.out) before.1
+            scanned_more es (4 * block) c.loop-number.number c.args.string.now (entry_of c.args.block.width c.read_entry.new.out) before.1
                 (last_read _ _ _ _ es block so_far) (on_false c.is_same.result (string_of c.read_entry.new.out ≢ c.args.string.now) c.is_same.ensures.no
                 c.if-is_same.false),
           );
       stood = λ told.
-          let read = told_as (λ bytes. read_entry c.args.width c.loop-number.number (string_of c.loop-number.out) (drop c.loop-number.place bytes)
-          ≡ found_of c.args.width c.read_entry.new.out c.in-Ok-Some.field-0) (g.S.Store.files c.args.store.now) _ c.args.strings.now.name _ inv.on.looked.files
+          let read = told_as (λ bytes. read_entry c.args.block.width c.loop-number.number (string_of c.loop-number.out) (drop c.loop-number.place bytes)
+          ≡ found_of c.args.block.width c.read_entry.new.out c.in-Ok-Some.field-0) (g.S.Store.files c.args.store.now) _ c.args.strings.now.name _ inv.on.looked.files
           inv.on.file.name c.in-Ok-Some.ensures.told told in
           let before = inv.stood told in
           let next = read_next _ _ _ _ c.in-Ok-Some.size _ _ _ _ before.0 c.in-Ok-Some.field-0-is read in (
             up_to_next _ _ _ _ _ _ next,
-            none_more c.args.width c.loop-number.number c.args.from (c.loop-number.place + c.in-Ok-Some.size) _ c.args.string.now
-                (entry_of c.args.width c.read_entry.new.out) before.1 next (on_false c.is_same.result (string_of c.read_entry.new.out ≢ c.args.string.now) c.is_same.ensures.no c.if-is_same.false),
+            none_more c.args.block.width c.loop-number.number c.args.block.from (c.loop-number.place + c.in-Ok-Some.size) _ c.args.string.now
+                (entry_of c.args.block.width c.read_entry.new.out) before.1 next (on_false c.is_same.result (string_of c.read_entry.new.out ≢ c.args.string.now)
+                c.is_same.ensures.no c.if-is_same.false),
           );
     }
 
@@ -66,10 +67,10 @@ returns-in-Ok-None g c =
       read = reads_wider (omega (arith, inv.place, c.requires.most)) (reads_ended Damaged (on_stop inv.on c.in-Ok-None.ensures.read));
       told = λ told es block is from within.
           let before = inv.told told es block is from within in
-          let read = told_as (λ bytes. read_entry c.args.width c.loop-number.number (string_of c.loop-number.out) (drop c.loop-number.place bytes)
-          ≡ found_of c.args.width c.read_entry.new.out c.in-Ok-None.field-0) (g.S.Store.files c.args.store.now) _ c.args.strings.now.name _ inv.on.looked.files
+          let read = told_as (λ bytes. read_entry c.args.block.width c.loop-number.number (string_of c.loop-number.out) (drop c.loop-number.place bytes)
+          ≡ found_of c.args.block.width c.read_entry.new.out c.in-Ok-None.field-0) (g.S.Store.files c.args.store.now) _ c.args.strings.now.name _ inv.on.looked.files
           inv.on.file.name c.in-Ok-None.ensures.told told in
-          never_none c.args.width c.loop-number.number c.loop-number.place (c.args.most - 1) c.loop-number.out c.read_entry.new.out _ es _ block is before.0
+          never_none c.args.block.width c.loop-number.number c.loop-number.place (c.args.block.most - 1) c.loop-number.out c.read_entry.new.out _ es _ block is before.0
           (omega arith) (omega (arith, c.requires.most)) (omega (arith, within)) c.in-Ok-None.field-0-is read;
       number = tt;
       stood = λ told. tt;
@@ -94,16 +95,16 @@ returns-then-is_same g c =
           (on_entry c.in-Ok-Some.size refl inv.on (rw c.in-Ok-Some.field-0-is at c.in-Ok-Some.ensures));
       told = λ told es block is from within.
           let before = inv.told told es block is from within in
-          let read = told_as (λ bytes. read_entry c.args.width c.loop-number.number (string_of c.loop-number.out) (drop c.loop-number.place bytes)
-          ≡ found_of c.args.width c.read_entry.new.out c.in-Ok-Some.field-0) (g.S.Store.files c.args.store.now) _ c.args.strings.now.name _ inv.on.looked.files
+          let read = told_as (λ bytes. read_entry c.args.block.width c.loop-number.number (string_of c.loop-number.out) (drop c.loop-number.place bytes)
+          ≡ found_of c.args.block.width c.read_entry.new.out c.in-Ok-Some.field-0) (g.S.Store.files c.args.store.now) _ c.args.strings.now.name _ inv.on.looked.files
           inv.on.file.name c.in-Ok-Some.ensures.told told in
-          let so_far = stepped c.args.width c.loop-number.number c.loop-number.place (c.args.most - 1) c.in-Ok-Some.size c.loop-number.out c.read_entry.new.out _ es _
+          let so_far = stepped c.args.block.width c.loop-number.number c.loop-number.place (c.args.block.most - 1) c.in-Ok-Some.size c.loop-number.out c.read_entry.new.out _ es _
           block is before.0 (omega arith) (omega (arith, c.requires.most)) (omega (arith, within)) c.in-Ok-Some.field-0-is read in
           (omega arith, last_read _ _ _ _ es block so_far, on_true c.is_same.result (string_of c.read_entry.new.out ≡ c.args.string.now) c.is_same.ensures.yes c.if-is_same.true);
       number = omega arith;
       stood = λ told.
-          let read = told_as (λ bytes. read_entry c.args.width c.loop-number.number (string_of c.loop-number.out) (drop c.loop-number.place bytes)
-          ≡ found_of c.args.width c.read_entry.new.out c.in-Ok-Some.field-0) (g.S.Store.files c.args.store.now) _ c.args.strings.now.name _ inv.on.looked.files
+          let read = told_as (λ bytes. read_entry c.args.block.width c.loop-number.number (string_of c.loop-number.out) (drop c.loop-number.place bytes)
+          ≡ found_of c.args.block.width c.read_entry.new.out c.in-Ok-Some.field-0) (g.S.Store.files c.args.store.now) _ c.args.strings.now.name _ inv.on.looked.files
           inv.on.file.name c.in-Ok-Some.ensures.told told in (
             (_, read_next _ _ _ _ c.in-Ok-Some.size _ _ _ _ (inv.stood told).0 c.in-Ok-Some.field-0-is read),
             on_true c.is_same.result (string_of c.read_entry.new.out ≡ c.args.string.now) c.is_same.ensures.yes c.if-is_same.true,

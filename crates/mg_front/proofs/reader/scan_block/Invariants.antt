@@ -9,12 +9,12 @@ use Rattle.mg_front.proofs.reader.scan_block.Given as goal
 
 abbrev pub invariant-loop-number : goal.invariant-loop-number
 invariant-loop-number g l = record {
-  on : ReadsOn l.fn.strings l.strings l.fn.from l.place (g.S.Store.files l.fn.store) (g.S.Store.files l.store) (g.S.Store.reads l.fn.store) (g.S.Store.reads l.store)
+  on : ReadsOn l.fn.strings l.strings l.fn.block.from l.place (g.S.Store.files l.fn.store) (g.S.Store.files l.store) (g.S.Store.reads l.fn.store) (g.S.Store.reads l.store)
       (g.S.Store.faults l.fn.store) (g.S.Store.faults l.store);
-  place : l.place ≤ l.fn.from + 281 * l.number;
-  told : IsSome (g.S.Store.files l.fn.store) → (es : List Entry) (block : ℕ) → IsFront l.width (bytes_at (g.S.Store.files l.fn.store) l.fn.strings.name) es →
-      l.fn.from ≡ length (front (take (4 * block) es)) → 4 * block + l.fn.most ≤ length es →
-      ReadSoFar l.width l.number l.place l.out es block × NoneAmong es (4 * block) l.number l.string;
-  stood : IsSome (g.S.Store.files l.fn.store) → ReadUpTo l.width (bytes_at (g.S.Store.files l.fn.store) l.fn.strings.name) l.fn.from l.number l.out l.place
-      × NoneUpTo l.width (bytes_at (g.S.Store.files l.fn.store) l.fn.strings.name) l.fn.from l.string l.number;
+  place : l.place ≤ l.fn.block.from + 281 * l.number;
+  told : IsSome (g.S.Store.files l.fn.store) → (es : List Entry) (block : ℕ) → IsFront l.block.width (bytes_at (g.S.Store.files l.fn.store) l.fn.strings.name) es →
+      l.fn.block.from ≡ length (front (take (4 * block) es)) → 4 * block + l.fn.block.most ≤ length es →
+      ReadSoFar l.block.width l.number l.place l.out es block × NoneAmong es (4 * block) l.number l.string;
+  stood : IsSome (g.S.Store.files l.fn.store) → ReadUpTo l.block.width (bytes_at (g.S.Store.files l.fn.store) l.fn.strings.name) l.fn.block.from l.number l.out l.place
+      × NoneUpTo l.block.width (bytes_at (g.S.Store.files l.fn.store) l.fn.strings.name) l.fn.block.from l.string l.number;
 }

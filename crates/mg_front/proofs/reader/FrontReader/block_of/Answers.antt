@@ -1,10 +1,15 @@
-use Rattle.std.proofs.Common.{arith, refl, sym, ◌∙◌, ap, cond, Bool, true, false, ◌≤◌, ◌<◌, ℕ, ◌≡◌, ◌+◌, ◌-◌, ◌*◌, ◌/◌, ◌^◌, subst, IsSome}
+use Rattle.std.proofs.Common.{arith, refl, sym, ◌∙◌, ap, cond, Bool, true, false, ◌≤◌, ◌<◌, ℕ, ◌≡◌, ◌+◌, ◌-◌, ◌*◌, ◌/◌, ◌^◌, subst}
+use Rattle.std.proofs.Common.{IsSome, List, Option, Ok, Err}
 use Rattle.std.specs.Int.{div_ceil}
-use Rattle.mg_defs.specs.Front.{is_below}
+use Rattle.mg_defs.specs.Front.{Entry, is_below}
+use Rattle.mg_front.specs.declared.entry.FrontEntry.{FrontEntry}
 use Rattle.mg_front.specs.Entries.{entry_of}
+use Rattle.mg_front.specs.Reading.{AnswersAt, AnswersBlock, FrontFits, Fronted, LookedAt, ReaderLooked, ReaderLooks, SameParts}
 use Rattle.mg_front.proofs.OrderLaws.{between_start, between_step, around_of, lost_same, stands_same}
-use Rattle.mg_dev.specs.Files.{Reads}
+use Rattle.mg_dev.specs.Files.{Files, Reads}
 use Rattle.mg_dev.specs.declared.part.Part.{Part}
+use Rattle.mg_dev.specs.declared.part_err.PartErr.{PartErr}
+use Rattle.mg_dev.specs.declared.part_err.PartErr.TheVariants.{Device, Memory, Bad}
 use Rattle.mg_front.specs.Looks.{halvings}
 use Rattle.mg_front.proofs.ReadPages.{Halved, halved_none, halved_more, halved_look, halved_done, look_as}
 use Rattle.mg_dev.proofs.CallerLemmas.{cause_err}
@@ -14,6 +19,24 @@ use Rattle.mg_front.proofs.reader.FrontReader.block_of.Goals as goal
 
 halved_none_as : (strings places : Part) (r : Reads) (blocks left : ℕ) → blocks < 2 ^ 32 → left ≡ blocks → Halved strings places r r left (halvings blocks)
 halved_none_as strings places r blocks left small same = subst (λ n. Halved strings places r r n (halvings blocks)) (sym same) (halved_none strings places r blocks small)
+
+-- a call that is not refused
+looked_halves : {T : Type 0} {old new : Fronted} {times : ℕ} {value : T} {f g : Option Files} {r s : Reads} {x y : ℕ} → FrontFits new g → SameParts old new →
+    LookedAt old.strings.part old.places.part f g r s x y → ReaderLooks old r s times → ReaderLooked old new times (Ok value) f g r s x y
+looked_halves fits same looked reads = record {
+  fits = fits;
+  same = same;
+  looked = looked;
+  reads = reads;
+  memory = λ is. absurd cc;
+  cause = record { later = looked.faults; device = tt };
+}
+
+-- an entry that was refused
+at_refused : (refusal : PartErr) (width i : ℕ) (out : FrontEntry) (es : List Entry) (string : List ℕ) → AnswersAt {T = Unit {0}} (Err refusal) width i out es → AnswersBlock (Err refusal) string es
+at_refused Device width i out es string none = tt
+at_refused Memory width i out es string none = none
+at_refused (Bad bad) width i out es string none = none
 
 pub loop-low-init : goal.loop-low-init
 loop-low-init g c = record {
@@ -64,62 +87,50 @@ loop-low-preserved g c =
           (c.is_below-above.ensures ∙ ap (is_below c.args.string.now) c.bytes.ensures)) (inv.stood told);
     }
 
-pub returns-then-low-eq0-clause-found : goal.returns-then-low-eq0-clause-found
-returns-then-low-eq0-clause-found g c = λ es stands. around_of es _ c.loop-low.low c.loop-low.high 0 (c.loop-low.invariant.between es stands) (omega arith) (omega arith)
-
-pub returns-clause-found : goal.returns-clause-found
-returns-clause-found g c = λ es stands. (
-  omega (arith, c.loop-low.invariant.high, c.loop-low.invariant.low, stands.count),
-  around_of es _ c.loop-low.low c.loop-low.high (c.loop-low.low - 1 + 1) (c.loop-low.invariant.between es stands) (omega arith) (omega arith),
-)
-
-pub returns-in-Err-clause-step : goal.returns-in-Err-clause-step
-returns-in-Err-clause-step g c =
+pub returns-in-Err-clause-look : goal.returns-in-Err-clause-look
+returns-in-Err-clause-look g c =
     let inv = c.loop-low.invariant in
     let at = c.in-Err.ensures in
     record {
-      fits = at.step.fits;
-      same = same_again inv.same at.step.same;
-      looked = looked_again inv.looked at.step.looked inv.same.strings_part inv.same.places_part;
-      reads = λ apart. halved_look (omega arith) (inv.reads apart) (look_as inv.same.strings_part inv.same.places_part apart at.step.reads);
-      memory = memory_for _ at.step.memory;
-      cause = cause_err inv.looked.faults at.step.cause;
+      step = record {
+        fits = at.step.fits;
+        same = same_again inv.same at.step.same;
+        looked = looked_again inv.looked at.step.looked inv.same.strings_part inv.same.places_part;
+        reads = λ apart. halved_look (omega arith) (inv.reads apart) (look_as inv.same.strings_part inv.same.places_part apart at.step.reads);
+        memory = memory_for _ at.step.memory;
+        cause = cause_err inv.looked.faults at.step.cause;
+      };
+      found = λ es stands.
+          let here = stands_same c.args.self.now c.loop-low.self (g.S.Store.files c.args.store.now) (g.S.Store.files c.loop-low.store) es inv.same inv.looked.files stands in
+          at_refused c.in-Err.refusal c.loop-low.self.width (4 * (c.loop-low.low + (c.loop-low.high - c.loop-low.low) / 2)) c.at.new.out es c.args.string.now (at.entry es here);
+      stood = λ told. tt;
+      bad = (
+        4 * (c.loop-low.low + (c.loop-low.high - c.loop-low.low) / 2) / 4,
+        omega (arith, inv.high),
+        lost_same _ _ _ _ _ _ inv.same inv.looked.files at.bad,
+      );
     }
 
-pub returns-then-low-eq0-clause-step : goal.returns-then-low-eq0-clause-step
-returns-then-low-eq0-clause-step g c =
+-- the string is below the first one
+pub returns-then-low-eq0-clause-look : goal.returns-then-low-eq0-clause-look
+returns-then-low-eq0-clause-look g c =
     let inv = c.loop-low.invariant in
     record {
-      fits = inv.fits;
-      same = inv.same;
-      looked = inv.looked;
-      reads = λ apart. halved_done (inv.reads apart);
-      memory = λ is. absurd cc;
-      cause = record { later = inv.looked.faults; device = tt };
+      step = looked_halves inv.fits inv.same inv.looked (λ apart. halved_done (inv.reads apart));
+      found = λ es stands. around_of es _ c.loop-low.low c.loop-low.high 0 (inv.between es stands) (omega arith) (omega arith);
+      stood = λ told. halves_none _ _ _ c.loop-low.low c.loop-low.high (omega arith) (omega arith) (inv.stood told);
+      bad = tt;
     }
 
-pub returns-clause-step : goal.returns-clause-step
-returns-clause-step g c =
+pub returns-clause-look : goal.returns-clause-look
+returns-clause-look g c =
     let inv = c.loop-low.invariant in
     record {
-      fits = inv.fits;
-      same = inv.same;
-      looked = inv.looked;
-      reads = λ apart. halved_done (inv.reads apart);
-      memory = λ is. absurd cc;
-      cause = record { later = inv.looked.faults; device = tt };
+      step = looked_halves inv.fits inv.same inv.looked (λ apart. halved_done (inv.reads apart));
+      found = λ es stands. (
+        omega (arith, inv.high, inv.low, stands.count),
+        around_of es _ c.loop-low.low c.loop-low.high (c.loop-low.low - 1 + 1) (inv.between es stands) (omega arith) (omega arith),
+      );
+      stood = λ told. halves_some _ _ _ c.loop-low.low c.loop-low.high (omega arith) (omega (arith, inv.low)) (inv.stood told);
+      bad = tt;
     }
-
-pub returns-in-Err-clause-bad : goal.returns-in-Err-clause-bad
-returns-in-Err-clause-bad g c =
-    let inv = c.loop-low.invariant in (
-      4 * (c.loop-low.low + (c.loop-low.high - c.loop-low.low) / 2) / 4,
-      omega (arith, inv.high),
-      lost_same _ _ _ _ _ _ inv.same inv.looked.files c.in-Err.ensures.bad,
-    )
-
-pub returns-then-low-eq0-clause-stood : goal.returns-then-low-eq0-clause-stood
-returns-then-low-eq0-clause-stood g c = λ told. halves_none _ _ _ c.loop-low.low c.loop-low.high (omega arith) (omega arith) (c.loop-low.invariant.stood told)
-
-pub returns-clause-stood : goal.returns-clause-stood
-returns-clause-stood g c = λ told. halves_some _ _ _ c.loop-low.low c.loop-low.high (omega arith) (omega (arith, c.loop-low.invariant.low)) (c.loop-low.invariant.stood told)

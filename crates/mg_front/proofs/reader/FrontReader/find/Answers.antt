@@ -10,7 +10,7 @@ use Rattle.mg_front.proofs.reader.FrontReader.find.Goals as goal
 
 pub returns-in-Err : goal.returns-in-Err
 returns-in-Err g c =
-    let e = c.in-Err.ensures in
+    let e = c.in-Err.ensures.look in
     record {
       step = record {
         fits = e.step.fits;
@@ -27,7 +27,7 @@ returns-in-Err g c =
 
 pub returns-in-Ok-None : goal.returns-in-Ok-None
 returns-in-Ok-None g c =
-    let e = c.in-Ok-None.ensures in
+    let e = c.in-Ok-None.ensures.look in
     record {
       step = record {
         fits = e.step.fits;
@@ -45,7 +45,7 @@ returns-in-Ok-None g c =
 
 pub returns : goal.returns
 returns g c =
-    let e = c.in-Ok-Some.ensures in
+    let e = c.in-Ok-Some.ensures.look in
     let i = c.find_in.ensures in
     record {
       step = record {
@@ -63,8 +63,8 @@ returns g c =
           e.step.same e.step.looked.files stands in
           found_in c.args.self.now.width es c.args.string.now c.in-Ok-Some.block c.find_in.result c.find_in.new.out stands.strings.entries block.1 block.0
           (rw e.step.same.width at (i.found es here));
-      stood = λ told. found_stands _ _ _ _ _ c.in-Ok-Some.block _ c.find_in.result e.step.same e.step.looked.files (rw c.in-Ok-Some.field-0-is at e.below)
+      stood = λ told. found_stands _ _ _ _ _ c.in-Ok-Some.block _ c.find_in.result e.step.same e.step.looked.files (rw c.in-Ok-Some.field-0-is at c.in-Ok-Some.ensures.below)
           (subst (λ o. BlockStands c.args.self.now (g.S.Store.files c.args.store.now) c.args.string.now o) c.in-Ok-Some.field-0-is (e.stood told))
           (i.stood (subst IsSome (sym e.step.looked.files) told));
-      bad = lost_among _ _ _ _ _ c.in-Ok-Some.block (rw c.in-Ok-Some.field-0-is at e.below) e.step.same e.step.looked.files i.bad;
+      bad = lost_among _ _ _ _ _ c.in-Ok-Some.block (rw c.in-Ok-Some.field-0-is at c.in-Ok-Some.ensures.below) e.step.same e.step.looked.files i.bad;
     }
