@@ -113,10 +113,28 @@ impl<'a, S: Store> PhraseSearcher<'a, S> {
             self.old self.new phrase.now }
     {
         match Query::all_of(self.lists.alloc, phrase) {
-            Ok(Some(query)) => self.answer_words(store, phrase, &query, out),
-            // No document has a phrase without words.
-            Ok(None) => answer_none(out),
+            Ok(query) => self.answer_joined(store, phrase, &query, out),
             Err(_) => Err(ShowErr::Part(PartErr::Memory)),
+        }
+    }
+
+    /// Writes the reply to a phrase of these words, which the query joins if there is a word.
+    fn answer_joined<O: Sink>(
+        &mut self,
+        store: &mut S,
+        phrase: &Terms,
+        query: &Option<Query>,
+        out: &mut O,
+    ) -> Result<(), ShowErr>
+        requires can { CanSeek (S.files store.old) self.old phrase.now }
+        requires joined { IsAllOf phrase.now query.now }
+        ensures { AsksWords S.Store O.Sink store.old store.new out.old out.new result
+            self.old self.new phrase.now }
+    {
+        match query {
+            Some(query) => self.answer_words(store, phrase, query, out),
+            // No document has a phrase without words.
+            None => answer_none(out),
         }
     }
 
