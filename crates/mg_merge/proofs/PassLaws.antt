@@ -3,6 +3,7 @@ use Rattle.std.proofs.Common.{◌≡◌, ◌<◌, ◌^◌, ◌++◌, ◌∙◌, 
 use Rattle.std.specs.Prelude.{IfErr, Result}
 use Rattle.mg_dev.specs.Faults.{IsDamagedPart, ReadStops}
 use Rattle.mg_dev.specs.Files.{Files, file_at}
+use Rattle.mg_dev.specs.Moments.{StoreAt, StoreRose}
 use Rattle.mg_dev.specs.Names.{full_name}
 use Rattle.mg_dev.specs.declared.fault.Fault.{Fault}
 use Rattle.mg_dev.specs.declared.fault.Fault.TheVariants as cause
@@ -16,7 +17,9 @@ use Rattle.mg_make.specs.Plans.{IsPlanOf, Plan}
 use Rattle.mg_make.specs.Putting.{HasPut, IsUnbuilt, Putting}
 use Rattle.mg_make.specs.Written.{SecondStops}
 use Rattle.mg_make.specs.Outcomes.{Left}
+use Rattle.mg_merge.specs.Counted.{CountsTexts}
 use Rattle.mg_merge.specs.Stops.{CountingStops, Differ, IsRetold}
+use Rattle.mg_merge.specs.Texts.{TextsStand, TwoTexts}
 
 -- ---- counting
 
@@ -64,6 +67,16 @@ pub end_stops_all : {T : Type 0} (r : Result T Fault) (P : List ℕ → Type 0) 
     IfErr r (CountingStops now stands)
 end_stops_all (Ok value) P now stands fed all counted stop = tt
 end_stops_all (Err fault) P now stands fed all counted stop = end_stops now stands fed fault all (stop fed counted)
+
+-- all documents were counted, and the counts gave this answer
+pub counts_ended : {T U : Type 0} {t t_now : TwoTexts} {store store_now : StoreAt} {value : T} (r : Result U Fault) → CountsTexts {T = T} t t_now store store_now (Ok value) →
+    IfErr r (CountingStops (StoreRose store store_now) (TextsStand t store.files)) → CountsTexts {T = U} t t_now store store_now r
+counts_ended r counts stop = record { fits = counts.fits; same = counts.same; looks = counts.looks; refused = stop }
+
+-- they were not all counted
+pub counts_refused : {T U : Type 0} {t t_now : TwoTexts} {store store_now : StoreAt} {fault : Fault} → CountsTexts {T = T} t t_now store store_now (Err fault) →
+    CountsTexts {T = U} t t_now store store_now (Err fault)
+counts_refused counts = record { fits = counts.fits; same = counts.same; looks = counts.looks; refused = counts.refused }
 
 -- ---- retelling
 

@@ -1,14 +1,12 @@
 //! The first pass over two texts.
-ghost use Rattle.std.specs.Prelude.{◌≤◌, ℕ, List, [], IfErr, IfOk, OnOk};
+ghost use Rattle.std.specs.Prelude.{◌≤◌, ℕ, List, [], IfOk, OnOk};
 ghost use Rattle.mg_defs.specs.Limits.{greatest_budget, least_budget};
-ghost use Rattle.mg_dev.specs.Moments.{Between};
-ghost use Rattle.mg_dev.specs.Causes.{Rose};
 ghost use Rattle.mg_make.specs.Counting.{HasCounted};
+ghost use Rattle.mg_make.specs.Outcomes.{BetweenMoments};
 ghost use Rattle.mg_make.specs.Plans.{IsPlan, IsPlanOf, IsRoomFor};
-ghost use Rattle.mg_merge.specs.Looks.{LooksAtTexts};
-ghost use Rattle.mg_merge.specs.Stops.{CountingStops};
+ghost use Rattle.mg_merge.specs.Counted.{CountsTexts};
 ghost use Rattle.mg_merge.specs.Passes.{AreAllGiven};
-ghost use Rattle.mg_merge.specs.Texts.{SameTexts, TextsFit, TextsStand};
+ghost use Rattle.mg_merge.specs.Texts.{TextsFit, TextsStand};
 
 use crate::documents::Documents;
 use crate::retelling::{too_long, too_short};
@@ -26,11 +24,8 @@ fn count_documents<'a, S: Store, D: Documents<'a, S>>(
     requires nothing { HasCounted count.old [] }
     ensures counted { OnOk result ((fed : List ℕ) × AreAllGiven (D.texts texts.old)
         (S.files store.old) fed × HasCounted count.new fed) }
-    ensures fits { TextsFit (D.texts texts.new) (S.files store.new) }
-    ensures same { SameTexts (D.texts texts.old) (D.texts texts.new) }
-    ensures looks { Between S.files S.reads S.faults store.old store.new LooksAtTexts }
-    ensures refused { IfErr result (CountingStops (Rose (S.faults store.old) (S.faults store.new))
-        (TextsStand (D.texts texts.old) (S.files store.old))) }
+    ensures counts { BetweenMoments S.files S.reads S.faults store.old store.new (λ before now.
+        CountsTexts (D.texts texts.old) (D.texts texts.new) before now result) }
 {
     let size = texts.size();
     let mut left = size;
@@ -55,6 +50,22 @@ fn count_documents<'a, S: Store, D: Documents<'a, S>>(
     Ok(())
 }
 
+// What is counted in all documents of the texts.
+fn counted<'a, S: Store, D: Documents<'a, S>>(
+    alloc: Global,
+    store: &mut S,
+    texts: &mut D,
+) -> Result<Count, Fault>
+    requires fits { TextsFit (D.texts texts.old) (S.files store.old) }
+    ensures counted { IfOk result (λ count. (fed : List ℕ) × AreAllGiven (D.texts texts.old)
+        (S.files store.old) fed × HasCounted count fed) }
+    ensures counts { BetweenMoments S.files S.reads S.faults store.old store.new (λ before now.
+        CountsTexts (D.texts texts.old) (D.texts texts.new) before now result) }
+{
+    let mut count = Count::new(alloc);
+    count_documents(store, texts, &mut count).and(Ok(count))
+}
+
 /// Counts two texts, and makes all that the second pass takes of memory, with a pool of so many bytes.
 pub(crate) fn count_all<'a, S: Store, D: Documents<'a, S>>(
     alloc: Global,
@@ -69,16 +80,11 @@ pub(crate) fn count_all<'a, S: Store, D: Documents<'a, S>>(
     ensures room { IfOk result (λ made. IsRoomFor made.1 made.0 budget) }
     ensures of { (collection : List ℕ) → TextsStand (D.texts texts.old)
         (S.files store.old) collection → IfOk result (λ made. IsPlanOf made.0 collection) }
-    ensures fits { TextsFit (D.texts texts.new) (S.files store.new) }
-    ensures same { SameTexts (D.texts texts.old) (D.texts texts.new) }
-    ensures looks { Between S.files S.reads S.faults store.old store.new LooksAtTexts }
-    ensures refused { IfErr result (CountingStops (Rose (S.faults store.old) (S.faults store.new))
-        (TextsStand (D.texts texts.old) (S.files store.old))) }
+    ensures counts { BetweenMoments S.files S.reads S.faults store.old store.new (λ before now.
+        CountsTexts (D.texts texts.old) (D.texts texts.new) before now result) }
 {
-    let mut count = Count::new(alloc);
-    match count_documents(store, texts, &mut count) {
-        Ok(()) => {}
-        Err(refusal) => return Err(refusal),
+    match counted(alloc, store, texts) {
+        Ok(count) => count.finish(alloc, budget),
+        Err(refusal) => Err(refusal),
     }
-    count.finish(alloc, budget)
 }

@@ -18,25 +18,32 @@ loop-index-init g c = record {
   counted = ([], given_nothing _ _ _ c.size-size.ensures, c.requires.nothing);
 }
 
-pub returns-in-Err-clause-refused : goal.returns-in-Err-clause-refused
-returns-in-Err-clause-refused g c =
+pub returns-in-Err-clause-counts : goal.returns-in-Err-clause-counts
+returns-in-Err-clause-counts g c =
     let so_far = c.loop-index.invariant in
-    read_counts _ _ _ _ c.in-Err.refusal (λ rose. rose_behind _ _ _ so_far.looks.later rose)
-    (λ collection stand. (
-      collection,
-      record {
-        stands = texts_stand_on (g.D.Documents.texts c.args.texts.now) (g.D.Documents.texts c.loop-index.texts) (g.S.Store.files c.args.store.now)
-            (g.S.Store.files c.loop-index.store) collection so_far.same so_far.looks.files stand;
-        short = short_next (g.D.Documents.texts c.args.texts.now) (g.S.Store.files c.args.store.now) collection so_far.counted.0 c.loop-index.index
-            c.loop-index.left c.requires.fits (omega (arith, c.loop-index-test.true, c.documents-index-end.ensures)) so_far.counted.1 stand;
-      },
-    ))
-    c.in-Err.ensures.refused
+    let texts = g.D.Documents.texts c.args.texts.now in
+    let middle = g.D.Documents.texts c.loop-index.texts in
+    let before = g.S.Store.files c.args.store.now in
+    record {
+      fits = c.in-Err.ensures.fits;
+      same = texts_more texts middle (g.D.Documents.texts c.read.new.self) so_far.same c.in-Err.ensures.same;
+      looks = looks_more so_far.looks c.in-Err.ensures.looks;
+      refused = read_counts _ _ _ _ c.in-Err.refusal (λ rose. rose_behind _ _ _ so_far.looks.later rose)
+          (λ collection stand. (
+            collection,
+            record {
+              stands = texts_stand_on texts middle before (g.S.Store.files c.loop-index.store) collection so_far.same so_far.looks.files stand;
+              short = short_next texts before collection so_far.counted.0 c.loop-index.index c.loop-index.left c.requires.fits
+                  (omega (arith, c.loop-index-test.true, c.documents-index-end.ensures)) so_far.counted.1 stand;
+            },
+          ))
+          c.in-Err.ensures.refused;
+    }
 
 -- ---- a document is longer than what is left
 
-pub returns-then-found-left-clause-refused : goal.returns-then-found-left-clause-refused
-returns-then-found-left-clause-refused g c = λ collection stand.
+pub returns-then-found-left-clause-counts : goal.returns-then-found-left-clause-counts
+returns-then-found-left-clause-counts g c =
     let so_far = c.loop-index.invariant in
     let texts = g.D.Documents.texts c.args.texts.now in
     let before = g.S.Store.files c.args.store.now in
@@ -51,7 +58,13 @@ returns-then-found-left-clause-refused g c = λ collection stand.
       stands = texts_stand_on texts (g.D.Documents.texts c.loop-index.texts) before middle collection so_far.same so_far.looks.files stand;
       short = short_next texts before collection fed c.loop-index.index c.loop-index.left c.requires.fits more given stand;
     }) in
-    too_much texts before collection fed held c.loop-index.index c.loop-index.left c.requires.fits more given stand (is collection stand) (omega (arith, c.if-found-left.true))
+    record {
+      fits = c.in-Ok.ensures.fits;
+      same = texts_more texts (g.D.Documents.texts c.loop-index.texts) (g.D.Documents.texts c.read.new.self) so_far.same c.in-Ok.ensures.same;
+      looks = looks_more so_far.looks c.in-Ok.ensures.looks;
+      refused = λ collection stand. too_much texts before collection fed held c.loop-index.index c.loop-index.left c.requires.fits more given stand (is collection stand)
+          (omega (arith, c.if-found-left.true));
+    }
 
 -- ---- a document is counted
 
@@ -75,8 +88,8 @@ take_all-requires g c =
     let within : length c.bytes.result.now ≤ c.loop-index.left = omega (arith, c.if-found-left.false) in
     record { given = (fed, so_far.counted.2, omega (arith, given.size, c.requires.fits.few, count, within)) }
 
-pub returns-in-Err-take_all-clause-refused : goal.returns-in-Err-take_all-clause-refused
-returns-in-Err-take_all-clause-refused g c =
+pub returns-in-Err-take_all-clause-counts : goal.returns-in-Err-take_all-clause-counts
+returns-in-Err-take_all-clause-counts g c =
     let so_far = c.loop-index.invariant in
     let texts = g.D.Documents.texts c.args.texts.now in
     let before = g.S.Store.files c.args.store.now in
@@ -92,14 +105,19 @@ returns-in-Err-take_all-clause-refused g c =
       short = short_next texts before collection fed c.loop-index.index c.loop-index.left c.requires.fits more given stand;
     }) in
     let stop = c.in-Err-take_all.ensures.refused in
-    counting_stops _ _ (fed ++ take (stop.taken + 1) held) c.in-Err-take_all.refusal
-    (λ collection stand.
-    let rest = joined (drop (c.loop-index.index + 1) (documents collection)) (has_open_end collection) in (
-      drop (stop.taken + 1) held ++ rest,
-      first_behind fed held rest (stop.taken + 1)
-          ∙ first_next texts before collection fed held c.loop-index.index c.loop-index.left c.requires.fits more given stand (is collection stand),
-    ))
-    (stop.stops fed so_far.counted.2)
+    record {
+      fits = c.in-Ok.ensures.fits;
+      same = texts_more texts (g.D.Documents.texts c.loop-index.texts) (g.D.Documents.texts c.read.new.self) so_far.same c.in-Ok.ensures.same;
+      looks = looks_more so_far.looks c.in-Ok.ensures.looks;
+      refused = counting_stops _ _ (fed ++ take (stop.taken + 1) held) c.in-Err-take_all.refusal
+          (λ collection stand.
+          let rest = joined (drop (c.loop-index.index + 1) (documents collection)) (has_open_end collection) in (
+            drop (stop.taken + 1) held ++ rest,
+            first_behind fed held rest (stop.taken + 1)
+                ∙ first_next texts before collection fed held c.loop-index.index c.loop-index.left c.requires.fits more given stand (is collection stand),
+          ))
+          (stop.stops fed so_far.counted.2);
+    }
 
 pub loop-index-preserved : goal.loop-index-preserved
 loop-index-preserved g c =
@@ -132,12 +150,17 @@ loop-index-preserved g c =
 
 -- ---- all documents are counted
 
-pub returns-then-left-gt0-clause-refused : goal.returns-then-left-gt0-clause-refused
-returns-then-left-gt0-clause-refused g c = λ collection stand.
+pub returns-then-left-gt0-clause-counts : goal.returns-then-left-gt0-clause-counts
+returns-then-left-gt0-clause-counts g c =
     let so_far = c.loop-index.invariant in
-    too_little (g.D.Documents.texts c.args.texts.now) (g.S.Store.files c.args.store.now) collection so_far.counted.0 c.loop-index.index c.loop-index.left
-    c.requires.fits (omega (arith, c.loop-index-test.false, c.documents-index-end.ensures)) so_far.counted.1 stand
-    (omega (arith, c.if-left-gt0.true))
+    record {
+      fits = so_far.fits;
+      same = so_far.same;
+      looks = so_far.looks;
+      refused = λ collection stand. too_little (g.D.Documents.texts c.args.texts.now) (g.S.Store.files c.args.store.now) collection so_far.counted.0
+          c.loop-index.index c.loop-index.left c.requires.fits (omega (arith, c.loop-index-test.false, c.documents-index-end.ensures)) so_far.counted.1 stand
+          (omega (arith, c.if-left-gt0.true));
+    }
 
 pub returns-clause-counted : goal.returns-clause-counted
 returns-clause-counted g c =
@@ -148,19 +171,7 @@ returns-clause-counted g c =
       so_far.counted.2,
     )
 
--- ---- what is read
-
-pub returns-in-Err-clause-looks : goal.returns-in-Err-clause-looks
-returns-in-Err-clause-looks g c = looks_more c.loop-index.invariant.looks c.in-Err.ensures.looks
-
-pub returns-then-found-left-clause-looks : goal.returns-then-found-left-clause-looks
-returns-then-found-left-clause-looks g c = looks_more c.loop-index.invariant.looks c.in-Ok.ensures.looks
-
-pub returns-in-Err-take_all-clause-looks : goal.returns-in-Err-take_all-clause-looks
-returns-in-Err-take_all-clause-looks g c = looks_more c.loop-index.invariant.looks c.in-Ok.ensures.looks
-
-pub returns-then-left-gt0-clause-looks : goal.returns-then-left-gt0-clause-looks
-returns-then-left-gt0-clause-looks g c = c.loop-index.invariant.looks
-
-pub returns-clause-looks : goal.returns-clause-looks
-returns-clause-looks g c = c.loop-index.invariant.looks
+pub returns-clause-counts : goal.returns-clause-counts
+returns-clause-counts g c =
+    let so_far = c.loop-index.invariant in
+    record { fits = so_far.fits; same = so_far.same; looks = so_far.looks; refused = tt }
