@@ -4,6 +4,7 @@ mod MigrateLaws
 mod PlaceLaws
 mod WideLaws
 mod SizeLaws
+mod PartLaws
 mod MigrateStopLaws
 mod MadeFromLaws
 mod MadeAnewLaws

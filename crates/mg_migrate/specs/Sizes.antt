@@ -1,9 +1,10 @@
 -- The sizes of parts that follow from the head of a set.
-use Rattle.std.specs.Prelude.{◌≡◌, ◌*◌, ◌+◌, ℕ, List, length, Ok, Err}
+use Rattle.std.specs.Prelude.{◌≡◌, ◌*◌, ◌+◌, ℕ, List, [], ◌∷◌, length, Ok, Err}
 use Rattle.std.specs.Int.{div_ceil}
 use Rattle.std.specs.declared.option.Option.{Option}
 use Rattle.std.specs.declared.result.Result.{Result}
 use Rattle.mg_dev.specs.Files.{Files, part_bytes}
+use Rattle.mg_dev.specs.declared.part.Part.{Part}
 use Rattle.mg_dev.specs.declared.part.Part.TheVariants as part
 use Rattle.mg_dev.specs.declared.part_err.PartErr.{PartErr}
 use Rattle.mg_dev.specs.declared.part_err.PartErr.TheVariants.{Bad, Device, Memory}
@@ -36,3 +37,9 @@ AnswersSizesOf head files base (Ok done) = HasSizesOf head files base
 AnswersSizesOf head files base (Err Device) = Unit {0}
 AnswersSizesOf head files base (Err Memory) = ⊥
 AnswersSizesOf head files base (Err (Bad bad)) = ¬ HasSizesOf head files base
+
+-- these parts in their order, each with the size that follows from a head
+abbrev pub sizes_of : Head → List (Part × ℕ)
+sizes_of head = (part.Text, head.text_bytes) ∷ (part.Places, place_width head.version * (head.documents + 1))
+    ∷ (part.LexAt, 4 * div_ceil head.terms 4) ∷ (part.Post, head.post_bytes) ∷ (part.Skip, 16 * head.skip_count)
+    ∷ (part.Weights, 4 * head.documents) ∷ []

@@ -1,17 +1,16 @@
 //! The head of a set, and the sizes of parts that follow from it.
 ghost use Rattle.std.specs.Prelude.{◌≡◌, ◌≤◌, IfErr, IfOk, IsSome};
 ghost use Rattle.mg_dev.specs.Causes.{Rose};
-ghost use Rattle.mg_dev.specs.Files.{SameReads, part_bytes};
+ghost use Rattle.mg_dev.specs.Files.{SameReads};
 ghost use Rattle.mg_dev.specs.PartCauses.{HasPartCause};
 ghost use Rattle.mg_dev.specs.Runs.{RefusedFor};
 ghost use Rattle.mg_dev.specs.declared.fault.Fault.TheVariants as fault;
 ghost use Rattle.mg_defs.specs.Heads.{IsWithin};
 ghost use Rattle.mg_layout.specs.HeadAnswers.{fields_of};
-ghost use Rattle.mg_layout.specs.Sizes.{AnswersSize};
 ghost use Rattle.mg_layout.specs.Stands.{HasNoHead};
 ghost use Rattle.mg_text.specs.Places.{place_width};
 ghost use Rattle.mg_decode.specs.Outcomes.{DecodeStops};
-ghost use Rattle.mg_migrate.specs.Sizes.{AnswersSizesOf, IsSized};
+ghost use Rattle.mg_migrate.specs.Sizes.{AnswersSizesOf, IsSized, sizes_of};
 
 use mg_dev::{Fault, FileRef, Part, PartErr, Store};
 use mg_layout::{Head, expect_size};
@@ -26,15 +25,20 @@ fn place_bytes(version: u8) -> u64
     if version == 1 { 4 } else { 8 }
 }
 
-// Compares the size of one part.
-fn expect_part<S: Store>(store: &mut S, base: &str, part: Part, wanted: u64) -> Result<(), PartErr>
-    ensures answer { IsSome (S.files store.old) →
-        AnswersSize part wanted (part_bytes base.now part (S.files store.old)) result }
-    ensures files { S.files store.new ≡ S.files store.old }
-    ensures reads { SameReads (S.reads store.old) (S.reads store.new) }
-    ensures cause { HasPartCause (S.faults store.old) (S.faults store.new) result }
+// Six parts, each with the size that follows from a head.
+fn sizes_of(head: &Head) -> [(Part, u64); 6]
+    requires { IsWithin (fields_of head.now) }
+    ensures { result ≡ sizes_of (fields_of head.now) }
 {
-    expect_size(store, FileRef { base, part }, wanted)
+    let documents = u64::from(head.documents);
+    [
+        (Part::Text, head.text_bytes),
+        (Part::Places, place_bytes(head.version) * (documents + 1)),
+        (Part::LexAt, 4 * u64::from(head.terms.div_ceil(4))),
+        (Part::Post, head.post_bytes),
+        (Part::Skip, ENTRY_BYTES * head.skip_count),
+        (Part::Weights, 4 * documents),
+    ]
 }
 
 // Compares the sizes of six parts of a base with those that follow from its head, and reads none. Of those that
@@ -47,15 +51,13 @@ fn expect_sizes<S: Store>(store: &mut S, base: &str, head: &Head) -> Result<(), 
     ensures reads { SameReads (S.reads store.old) (S.reads store.new) }
     ensures cause { HasPartCause (S.faults store.old) (S.faults store.new) result }
 {
-    let documents = u64::from(head.documents);
-    let places = place_bytes(head.version) * (documents + 1);
-    let places_of_terms = 4 * u64::from(head.terms.div_ceil(4));
-    expect_part(store, base, Part::Text, head.text_bytes)?;
-    expect_part(store, base, Part::Places, places)?;
-    expect_part(store, base, Part::LexAt, places_of_terms)?;
-    expect_part(store, base, Part::Post, head.post_bytes)?;
-    expect_part(store, base, Part::Skip, ENTRY_BYTES * head.skip_count)?;
-    expect_part(store, base, Part::Weights, 4 * documents)
+    for (part, wanted) in sizes_of(head) {
+        match expect_size(store, FileRef { base, part }, wanted) {
+            Ok(()) => {}
+            Err(refusal) => return Err(refusal),
+        }
+    }
+    Ok(())
 }
 
 /// The head of a set, where six other parts have the sizes that follow from it. No part but the head is read.
