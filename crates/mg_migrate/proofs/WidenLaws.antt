@@ -64,8 +64,14 @@ one_behind f (n ∷ numbers) zero within = sym (append-nil (f n))
 one_behind f (n ∷ numbers) (suc index) within = append_assoc (f n) (flat_map f (take index numbers)) (f (get_or numbers index 0))
     ∙ ap (λ r. f n ++ r) (one_behind f numbers index (omega (arith, within)))
 
-pub one_more : (f : ℕ → List ℕ) (numbers : List ℕ) (index : ℕ) → index < length numbers → flat_map f (take index numbers) ++ f (get_or numbers index 0) ≡ flat_map f (take (index + 1) numbers)
+one_more : (f : ℕ → List ℕ) (numbers : List ℕ) (index : ℕ) → index < length numbers → flat_map f (take index numbers) ++ f (get_or numbers index 0) ≡ flat_map f (take (index + 1) numbers)
 one_more f numbers index within = let e : suc index ≡ index + 1 = omega arith in one_behind f numbers index within ∙ ap (λ k. flat_map f (take k numbers)) e
+
+-- a number more was put behind others
+pub put_more : (f : ℕ → List ℕ) (before put more numbers : List ℕ) (index : ℕ) → index < length numbers → put ≡ before ++ flat_map f (take index numbers) →
+    more ≡ put ++ f (get_or numbers index 0) → more ≡ before ++ flat_map f (take (index + 1) numbers)
+put_more f before put more numbers index within so_far is = is ∙ ap (λ x. x ++ f (get_or numbers index 0)) so_far
+    ∙ append_assoc before (flat_map f (take index numbers)) (f (get_or numbers index 0)) ∙ ap (λ x. before ++ x) (one_more f numbers index within)
 
 narrow_size : (numbers : List ℕ) → length (flat_map four numbers) ≡ 4 * length numbers
 narrow_size [] = refl

@@ -4,10 +4,9 @@ use Rattle.std.specs.List.{All, flat_map}
 use Rattle.std.specs.Option.{IsSome, is_some}
 use Rattle.std.specs.declared.option.Option.{Option}
 use Rattle.std.specs.declared.result.Result.{Result}
-use Rattle.mg_dev.specs.Files.{Files, bytes_at, file_at, file_bytes, part_bytes}
+use Rattle.mg_dev.specs.Files.{Files, bytes_at, file_at, file_bytes}
 use Rattle.mg_dev.specs.Names.{full_name}
 use Rattle.mg_dev.specs.declared.file_ref.FileRef.{FileRef}
-use Rattle.mg_dev.specs.declared.part.Part.TheVariants.{Places}
 use Rattle.mg_bits.specs.Writer.{Writing, put_to}
 use Rattle.mg_defs.specs.Numbers.{eight, four}
 
@@ -39,6 +38,11 @@ HasCopied from to at files files_now count =
 abbrev pub PutsEight : {T E : Type 0} → Writing → Writing → Option Files → Option Files → Result T E → ℕ → Type 0
 PutsEight w w_now files files_now result number = OnOk result (put_to w_now files_now ≡ put_to w files ++ eight number)
 
+-- the eight bytes of each number were put
+abbrev pub PutsEights : {T E : Type 0} → Writing → Writing → Option Files → Option Files → Result T E → List ℕ → Type 0
+PutsEights w w_now files files_now result numbers =
+    OnOk result (put_to w_now files_now ≡ put_to w files ++ flat_map eight numbers)
+
 -- where the store tells its files, this is so of the number whose four bytes stand at an index of a file
 abbrev pub ForNumberAt : Option Files → List ℕ → ℕ → (ℕ → Type 0) → Type 0
 ForNumberAt files name index holds = IsSome files → (number : ℕ) → HasFour (bytes_at files name) index number →
@@ -48,16 +52,15 @@ ForNumberAt files name index holds = IsSome files → (number : ℕ) → HasFour
 abbrev pub HasSomeFour : Option Files → List ℕ → ℕ → Type 0
 HasSomeFour files name index = IsSome files × (number : ℕ) × HasFour (bytes_at files name) index number
 
--- where the store tells its files, this is so of the numbers, so many, whose four bytes each the places of a base are
+-- where the store tells its files, this is so of the numbers, so many, whose four bytes each a file has
 abbrev pub ForNarrow : Option Files → List ℕ → ℕ → (List ℕ → Type 0) → Type 0
-ForNarrow files base count holds = IsSome files → (numbers : List ℕ) →
-    AreNarrow numbers (part_bytes base Places files) count → holds numbers
+ForNarrow files name count holds = IsSome files → (numbers : List ℕ) →
+    AreNarrow numbers (bytes_at files name) count → holds numbers
 
 -- the store tells its files, and there are such numbers
 abbrev pub AreSomeNarrow : Option Files → List ℕ → ℕ → Type 0
-AreSomeNarrow files base count = IsSome files × (numbers : List ℕ) ×
-    AreNarrow numbers (part_bytes base Places files) count
+AreSomeNarrow files name count = IsSome files × (numbers : List ℕ) × AreNarrow numbers (bytes_at files name) count
 
--- the places of a base are these numbers in eight bytes each
+-- a file has these numbers, in eight bytes each
 abbrev pub AreWide : Option Files → List ℕ → List ℕ → Type 0
-AreWide files base numbers = part_bytes base Places files ≡ flat_map eight numbers
+AreWide files name numbers = bytes_at files name ≡ flat_map eight numbers

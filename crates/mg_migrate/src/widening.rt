@@ -3,7 +3,7 @@ ghost use Rattle.std.specs.Prelude.{◌≡◌, ◌≢◌, OnOk};
 ghost use Rattle.mg_dev.specs.Names.{full_name};
 ghost use Rattle.mg_dev.specs.declared.part.Part.TheVariants.{Places};
 ghost use Rattle.mg_bits.specs.Pages.{Fits, SameFile};
-ghost use Rattle.mg_migrate.specs.Copying.{AreSomeNarrow, AreWide, ForNumberAt, ForNarrow, HasSomeFour, PutsEight};
+ghost use Rattle.mg_migrate.specs.Copying.{AreSomeNarrow, AreWide, ForNumberAt, ForNarrow, HasSomeFour, PutsEight, PutsEights};
 ghost use Rattle.mg_migrate.specs.Writing.{WritesFile};
 
 use crate::bases::Bases;
@@ -53,6 +53,62 @@ fn widen_one<S: Store>(
     }
 }
 
+// Writes so many numbers of a file, four bytes each, in eight.
+fn widen_all<S: Store>(
+    store: &mut S,
+    places: &mut PageFeed<'_, S>,
+    wide: &mut PageWriter<'_>,
+    count: u32,
+) -> Result<(), Fault>
+    requires fits { Fits places.old (S.files store.old) }
+    requires apart { places.old.name ≢ wide.old.name }
+    ensures written { ForNarrow (S.files store.old) places.old.name count
+        (PutsEights wide.old wide.new (S.files store.old) (S.files store.new) result) }
+    ensures name { wide.new.name ≡ wide.old.name }
+    ensures writes { WritesFile wide.old.name
+        (AreSomeNarrow (S.files store.old) places.old.name count) result S.Store store.old
+        store.new }
+{
+    for index in 0..count {
+        match widen_one(store, places, wide, index) {
+            Ok(()) => {}
+            Err(refusal) => return Err(refusal),
+        }
+    }
+    Ok(())
+}
+
+// Makes a file of so many numbers, eight bytes each, from one that was opened, four bytes each.
+fn widen_to<S: Store>(
+    alloc: Global,
+    store: &mut S,
+    places: &mut PageFeed<'_, S>,
+    to: FileRef<'_>,
+    count: u32,
+) -> Result<(), Fault>
+    requires fits { Fits places.old (S.files store.old) }
+    requires apart { places.old.name ≢ full_name to.base.now to.part }
+    ensures widened { ForNarrow (S.files store.old) places.old.name count (λ numbers.
+        OnOk result
+        (AreWide (S.files store.new) (full_name to.entry.base.now to.entry.part) numbers)) }
+    ensures writes { WritesFile (full_name to.entry.base.now to.entry.part)
+        (AreSomeNarrow (S.files store.old) places.old.name count) result S.Store store.old
+        store.new }
+{
+    let mut wide = match PageWriter::start(alloc, store, to) {
+        Ok(wide) => wide,
+        Err(refusal) => return Err(Fault::of_store(refusal)),
+    };
+    match widen_all(store, places, &mut wide, count) {
+        Ok(()) => {}
+        Err(refusal) => return Err(refusal),
+    }
+    match wide.finish(store) {
+        Ok(()) => Ok(()),
+        Err(refusal) => Err(Fault::of_store(refusal)),
+    }
+}
+
 /// Makes the places of a base, eight bytes each, from so many of another, four bytes each.
 pub(crate) fn widen_places<S: Store>(
     alloc: Global,
@@ -60,11 +116,12 @@ pub(crate) fn widen_places<S: Store>(
     bases: &Bases<'_>,
     count: u32,
 ) -> Result<(), Fault>
-    ensures widened { ForNarrow (S.files store.old) bases.now.name.now count
-        (λ numbers. OnOk result (AreWide (S.files store.new) bases.now.new.now numbers)) }
+    ensures widened { ForNarrow (S.files store.old) (full_name bases.now.name.now Places) count
+        (λ numbers. OnOk result
+        (AreWide (S.files store.new) (full_name bases.now.new.now Places) numbers)) }
     ensures writes { WritesFile (full_name bases.now.new.now Places)
-        (AreSomeNarrow (S.files store.old) bases.now.name.now count) result S.Store store.old
-        store.new }
+        (AreSomeNarrow (S.files store.old) (full_name bases.now.name.now Places) count) result
+        S.Store store.old store.new }
 {
     let from = FileRef {
         base: bases.name,
@@ -82,18 +139,5 @@ pub(crate) fn widen_places<S: Store>(
         Ok(places) => places,
         Err(_) => return Err(Fault::Memory),
     };
-    let mut wide = match PageWriter::start(alloc, store, to) {
-        Ok(wide) => wide,
-        Err(refusal) => return Err(Fault::of_store(refusal)),
-    };
-    for index in 0..count {
-        match widen_one(store, &mut places, &mut wide, index) {
-            Ok(()) => {}
-            Err(refusal) => return Err(refusal),
-        }
-    }
-    match wide.finish(store) {
-        Ok(()) => Ok(()),
-        Err(refusal) => Err(Fault::of_store(refusal)),
-    }
+    widen_to(alloc, store, &mut places, to, count)
 }
