@@ -3,7 +3,7 @@ use Rattle.std.specs.Prelude.{◌≡◌, ◌≢◌, ◌<◌, ◌≤◌, ◌+◌,
 use Rattle.std.specs.Option.{IsSome}
 use Rattle.std.specs.declared.option.Option.{Option}
 use Rattle.mg_bits.specs.Feed.{page_of}
-use Rattle.mg_bits.specs.Pages.{Paging}
+use Rattle.mg_bits.specs.Pages.{Fits, Paging}
 use Rattle.mg_defs.specs.PagesOf.{pages}
 use Rattle.mg_dev.specs.Causes.{Rose}
 use Rattle.mg_dev.specs.Files.{Files, Reads, bytes_at, file_at}
@@ -12,12 +12,20 @@ use Rattle.mg_dev.specs.declared.fault.Fault.{Fault}
 use Rattle.mg_dev.specs.declared.fault.Fault.TheVariants.{Changed, Memory, NoCollection, StoreFault, TooLarge}
 use Rattle.mg_dev.specs.declared.what.What.TheVariants as what
 use Rattle.mg_make.specs.Outcomes.{most_bytes}
+use Rattle.mg_make.specs.Putting.{IsApart}
 
 -- a reader of pages, the bytes that were read last, and how many the file had when it was opened
 pub record Sourcing : Type 0 where
   pub feed : Paging
   pub block : List ℕ
   pub size : ℕ
+
+-- a source that is read for a set of this base
+pub record IsSourceApart (base : List ℕ) (source : Sourcing) (files : Option Files) : Type 0 where
+  -- the page that is held is one of its file
+  pub fits : Fits source.feed files
+  -- and its file is no part of the set
+  pub apart : IsApart base source.feed.name
 
 -- why a collection is not opened
 abbrev pub OpenStops : Type 0 → Option Files → List ℕ → Fault → Type 0

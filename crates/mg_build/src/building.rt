@@ -2,14 +2,13 @@
 ghost use Rattle.std.specs.Prelude.{◌≡◌, ◌≤◌, IfErr, None};
 ghost use Rattle.std.specs.Option.{IsSome};
 ghost use Rattle.mg_defs.specs.Limits.{greatest_budget, least_budget};
-ghost use Rattle.mg_bits.specs.Pages.{Fits};
 ghost use Rattle.mg_dev.specs.Files.{HasSize, bytes_at};
 ghost use Rattle.mg_dev.specs.Runs.{status_of};
 ghost use Rattle.mg_make.specs.Outcomes.{BetweenMoments, HasSummaryOf};
 ghost use Rattle.mg_make.specs.Plans.{IsPlan, IsRoomFor};
-ghost use Rattle.mg_make.specs.Putting.{IsApart};
 ghost use Rattle.mg_build.specs.Building.{TellsTwoReadings};
 ghost use Rattle.mg_build.specs.Made.{Made};
+ghost use Rattle.mg_build.specs.Sources.{IsSourceApart};
 ghost use Rattle.mg_build.specs.Steps.{BuildsSet, WritesSource};
 
 use crate::names::part_named;
@@ -62,10 +61,9 @@ fn build_opened<S: Store>(
 ) -> Result<Summary, Fault>
     requires least { least_budget ≤ budget }
     requires most { budget ≤ greatest_budget }
-    requires fits { Fits source.old.feed (S.files store.old) }
+    requires source { IsSourceApart base.now source.old (S.files store.old) }
     requires size { HasSize (S.files store.old) source.old.feed.name source.old.size }
     requires unread { source.old.feed.held ≡ None }
-    requires apart { IsApart base.now source.old.feed.name }
     ensures builds { BetweenMoments S.files S.reads S.faults store.old store.new
         (λ before now. BuildsSet source.old.feed.name base.now budget before now result) }
 {
@@ -86,8 +84,7 @@ fn write_planned<S: Store>(
 ) -> Result<Summary, Fault>
     requires plan { IsPlan plan }
     requires room { IsRoomFor room plan room.pool.limit }
-    requires fits { Fits source.old.feed (S.files store.old) }
-    requires apart { IsApart base.now source.old.feed.name }
+    requires source { IsSourceApart base.now source.old (S.files store.old) }
     ensures writes { BetweenMoments S.files S.reads S.faults store.old store.new
         (λ before now. WritesSource plan room.pool.limit base.now source.old before now result) }
 {

@@ -6,9 +6,9 @@ ghost use Rattle.mg_bits.specs.Pages.{Fits};
 ghost use Rattle.mg_make.specs.Counting.{HasCounted};
 ghost use Rattle.mg_make.specs.Outcomes.{BetweenMoments, Fails};
 ghost use Rattle.mg_make.specs.Plans.{IsPlan, IsPlanOf, IsRoomFor};
-ghost use Rattle.mg_make.specs.Putting.{HasPut, IsApart};
+ghost use Rattle.mg_make.specs.Putting.{HasPut};
 ghost use Rattle.mg_build.specs.Building.{HasItsSize, IsPlanAt, TellsRead, WriteStops};
-ghost use Rattle.mg_build.specs.Sources.{AreRead};
+ghost use Rattle.mg_build.specs.Sources.{AreRead, IsSourceApart};
 ghost use Rattle.mg_build.specs.Steps.{CountsSource, WritesOn, WritesSource};
 
 use crate::source::Source;
@@ -93,8 +93,7 @@ fn put_bytes<S: Store>(
     source: &mut Source<'_, S>,
     writer: &mut SetWriter<'_>,
 ) -> Result<(), Fault>
-    requires fits { Fits source.old.feed (S.files store.old) }
-    requires apart { IsApart writer.old.base source.old.feed.name }
+    requires source { IsSourceApart writer.old.base source.old (S.files store.old) }
     requires nothing { HasPut writer.old (S.files store.old) [] }
     ensures put { OnOk result ((fed : List ℕ) × AreRead (S.files store.old) source.old.feed.name
         source.old.size fed ×
@@ -135,8 +134,7 @@ pub(crate) fn write_set<'a, S: Store>(
 ) -> Result<Summary, Fault>
     requires plan { IsPlan plan.now }
     requires room { IsRoomFor room plan.now room.pool.limit }
-    requires fits { Fits source.old.feed (S.files store.old) }
-    requires apart { IsApart base.now source.old.feed.name }
+    requires source { IsSourceApart base.now source.old (S.files store.old) }
     ensures writes { BetweenMoments S.files S.reads S.faults store.old store.new
         (λ before now. WritesSource plan.entry.now room.pool.limit base.entry.now source.old
         before now result) }
@@ -155,8 +153,7 @@ fn write_started<S: Store>(
     source: &mut Source<'_, S>,
     writer: SetWriter<'_>,
 ) -> Result<Summary, Fault>
-    requires fits { Fits source.old.feed (S.files store.old) }
-    requires apart { IsApart writer.base source.old.feed.name }
+    requires source { IsSourceApart writer.base source.old (S.files store.old) }
     requires nothing { HasPut writer (S.files store.old) [] }
     ensures writes { BetweenMoments S.files S.reads S.faults store.old store.new
         (λ before now. WritesSource writer.entry.plan writer.entry.limit writer.entry.base source.old

@@ -35,10 +35,10 @@ pub build_opened-requires-clause-size : goal.build_opened-requires-clause-size
 build_opened-requires-clause-size g c = subst (λ f. HasSize f c.in-Ok.source.feed.name c.in-Ok.source.size) (sym c.in-Ok.ensures.files)
     (subst (λ name. HasSize (g.S.Store.files c.args.store.now) name c.in-Ok.source.size) (sym c.in-Ok.ensures.name) c.in-Ok.ensures.size)
 
-pub build_opened-requires-clause-apart : goal.build_opened-requires-clause-apart
-build_opened-requires-clause-apart g c =
+pub build_opened-requires-clause-source : goal.build_opened-requires-clause-source
+build_opened-requires-clause-source g c =
     let apart : IsApart c.args.base.now c.args.collection.now = search rules in
-    subst (λ name. IsApart c.args.base.now name) (sym c.in-Ok.ensures.name) apart
+    record { fits = c.in-Ok.ensures.fits; apart = subst (λ name. IsApart c.args.base.now name) (sym c.in-Ok.ensures.name) apart }
 
 pub returns : goal.returns
 returns g c =

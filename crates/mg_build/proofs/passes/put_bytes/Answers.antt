@@ -17,7 +17,7 @@ use Rattle.mg_build.proofs.passes.put_bytes.Goals as goal
 pub loop-at-init : goal.loop-at-init
 loop-at-init g c = record {
   within = omega arith;
-  fits = c.requires.fits;
+  fits = c.requires.source.fits;
   file = same_file_none c.args.source.now.feed;
   size = refl;
   goes = writes_none c.requires.nothing.head;
@@ -65,7 +65,7 @@ returns-in-Err-clause-refused g c =
     let so_far = c.loop-at.invariant in
     write_byte c.args.writer.now.plan before (g.S.Store.files c.loop-at.store) name c.loop-at.source.feed.name c.in-Err.refusal
     (λ rose. rose_behind _ _ _ so_far.goes.later rose) (still_told before (g.S.Store.files c.loop-at.store) so_far.goes.others.told)
-    (same_bytes before (g.S.Store.files c.loop-at.store) c.loop-at.source.feed.name name so_far.file.name (so_far.goes.others.others name c.requires.apart))
+    (same_bytes before (g.S.Store.files c.loop-at.store) c.loop-at.source.feed.name name so_far.file.name (so_far.goes.others.others name c.requires.source.apart))
     so_far.size c.in-Err.ensures.turns.refused
 
 pub returns-in-Err-take_all-clause-goes : goal.returns-in-Err-take_all-clause-goes
@@ -82,7 +82,7 @@ returns-in-Err-take_all-clause-refused g c =
     let run = take (stop.taken + 1) block in
     let page : IsOfOnePage c.loop-at.at (length block) c.loop-at.source.size = page_of_block c.block-bytes.ensures c.in-Ok.ensures.block in
     let same : bytes_at (g.S.Store.files c.loop-at.store) c.loop-at.source.feed.name ≡ bytes_at before name
-    = same_bytes before (g.S.Store.files c.loop-at.store) c.loop-at.source.feed.name name so_far.file.name (so_far.goes.others.others name c.requires.apart) in
+    = same_bytes before (g.S.Store.files c.loop-at.store) c.loop-at.source.feed.name name so_far.file.name (so_far.goes.others.others name c.requires.source.apart) in
     let read : (IsSome before → IsFrom c.loop-at.at (bytes_at before name) block)
     = block_so_far before (g.S.Store.files c.loop-at.store) name c.loop-at.source.feed.name c.loop-at.at c.block-bytes.ensures
     (still_told before (g.S.Store.files c.loop-at.store) so_far.goes.others.told) same c.in-Ok.ensures.told in
@@ -107,7 +107,7 @@ returns-in-Err-take_all-clause-tells g c =
     let run = take (stop.taken + 1) block in
     let page : IsOfOnePage c.loop-at.at (length block) c.loop-at.source.size = page_of_block c.block-bytes.ensures c.in-Ok.ensures.block in
     let same : bytes_at (g.S.Store.files c.loop-at.store) c.loop-at.source.feed.name ≡ bytes_at before name
-    = same_bytes before (g.S.Store.files c.loop-at.store) c.loop-at.source.feed.name name so_far.file.name (so_far.goes.others.others name c.requires.apart) in
+    = same_bytes before (g.S.Store.files c.loop-at.store) c.loop-at.source.feed.name name so_far.file.name (so_far.goes.others.others name c.requires.source.apart) in
     let read : (IsSome before → IsFrom c.loop-at.at (bytes_at before name) block)
     = block_so_far before (g.S.Store.files c.loop-at.store) name c.loop-at.source.feed.name c.loop-at.at c.block-bytes.ensures
     (still_told before (g.S.Store.files c.loop-at.store) so_far.goes.others.told) same c.in-Ok.ensures.told in
@@ -130,7 +130,7 @@ loop-at-preserved g c =
     let turned = store_at g.S.Store.files g.S.Store.reads g.S.Store.faults c.turn.new.store in
     let page : IsOfOnePage c.loop-at.at (length block) c.loop-at.source.size = page_of_block c.block-bytes.ensures c.in-Ok.ensures.block in
     let same : bytes_at (g.S.Store.files c.loop-at.store) c.loop-at.source.feed.name ≡ bytes_at before name
-    = same_bytes before (g.S.Store.files c.loop-at.store) c.loop-at.source.feed.name name so_far.file.name (so_far.goes.others.others name c.requires.apart) in
+    = same_bytes before (g.S.Store.files c.loop-at.store) c.loop-at.source.feed.name name so_far.file.name (so_far.goes.others.others name c.requires.source.apart) in
     let read : (IsSome before → IsFrom c.loop-at.at (bytes_at before name) block)
     = block_so_far before (g.S.Store.files c.loop-at.store) name c.loop-at.source.feed.name c.loop-at.at c.block-bytes.ensures
     (still_told before (g.S.Store.files c.loop-at.store) so_far.goes.others.told) same c.in-Ok.ensures.told in
@@ -140,7 +140,7 @@ loop-at-preserved g c =
     record {
       within = omega (arith, page.within, so_far.size, c.size-size.ensures.size);
       fits = held_page_stays c.turn.new.self.feed (g.S.Store.files c.turn.new.store) (g.S.Store.files c.take_all.new.store) put_others.told
-          (put_others.others c.turn.new.self.feed.name (subst (λ n. IsApart c.args.writer.now.base n) (sym (turns.file.name ∙ so_far.file.name)) c.requires.apart)) turns.fits;
+          (put_others.others c.turn.new.self.feed.name (subst (λ n. IsApart c.args.writer.now.base n) (sym (turns.file.name ∙ so_far.file.name)) c.requires.source.apart)) turns.fits;
       file = same_file_more _ _ _ so_far.file turns.file;
       size = c.in-Ok.ensures.size ∙ so_far.size;
       goes = writes_more goes c.in-Ok-take_all.ensures;

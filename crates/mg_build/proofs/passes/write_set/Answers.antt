@@ -20,12 +20,14 @@ returns-in-Err g c = record {
 
 -- ---- it was started
 
-pub write_started-requires-clause-fits : goal.write_started-requires-clause-fits
-write_started-requires-clause-fits g c = held_page_stays c.args.source.now.feed (g.S.Store.files c.args.store.now) (g.S.Store.files c.start.new.store) c.in-Ok.ensures.others.told
-    (c.in-Ok.ensures.others.others c.args.source.now.feed.name c.requires.apart) c.requires.fits
-
-pub write_started-requires-clause-apart : goal.write_started-requires-clause-apart
-write_started-requires-clause-apart g c = subst (λ base. IsApart base c.args.source.now.feed.name) (sym c.in-Ok.ensures.base) c.requires.apart
+pub write_started-requires-clause-source : goal.write_started-requires-clause-source
+write_started-requires-clause-source g c =
+    let source = c.requires.source in
+    record {
+      fits = held_page_stays c.args.source.now.feed (g.S.Store.files c.args.store.now) (g.S.Store.files c.start.new.store) c.in-Ok.ensures.others.told
+          (c.in-Ok.ensures.others.others c.args.source.now.feed.name source.apart) source.fits;
+      apart = subst (λ base. IsApart base c.args.source.now.feed.name) (sym c.in-Ok.ensures.base) source.apart;
+    }
 
 pub returns-in-Ok : goal.returns-in-Ok
 returns-in-Ok g c =
@@ -33,7 +35,7 @@ returns-in-Ok g c =
     let middle = store_at g.S.Store.files g.S.Store.reads g.S.Store.faults c.start.new.store in
     let now = store_at g.S.Store.files g.S.Store.reads g.S.Store.faults c.write_started.new.store in
     record {
-      writes = written_before _ _ c.args.base.now c.args.source.now before middle now c.write_started.result c.requires.apart c.in-Ok.ensures.others
+      writes = written_before _ _ c.args.base.now c.args.source.now before middle now c.write_started.result c.requires.source.apart c.in-Ok.ensures.others
           c.in-Ok.ensures.plain c.in-Ok.ensures.cause.later
           (λ told. c.empty_heads_stand_for_none.ensures c.args.base.now _
           (subst (λ base. file_at (g.S.Store.files c.start.new.store) (full_name base Head) ≡ Some []) c.in-Ok.ensures.base (c.in-Ok.ensures.put.head told)))
