@@ -1,5 +1,5 @@
 -- The documents of a collection, given one after the other with the bytes that close them.
-use Rattle.std.proofs.Common.{arith, ◌≡◌, ◌+◌, ◌-◌, ◌/◌, ◌≤◌, ◌<◌, ℕ, zero, suc, Bool, List, [], ◌∷◌, ◌++◌, length, drop, get_or, refl, sym, ◌∙◌, ap, append-nil, append_assoc, add-one, drop-cons}
+use Rattle.std.proofs.Common.{arith, ◌≡◌, ◌+◌, ◌/◌, ◌≤◌, ◌<◌, ℕ, zero, suc, Bool, List, [], ◌∷◌, ◌++◌, length, drop, get_or, refl, sym, ◌∙◌, ap, append-nil, append_assoc, add-one, drop-cons}
 use Rattle.mg_defs.specs.Join.{join}
 use Rattle.mg_defs.specs.Split.{close, documents, has_open_end, is_closed, joined}
 use Rattle.mg_defs.proofs.SplitLaws.{documents_split, joined_next}

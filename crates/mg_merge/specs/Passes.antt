@@ -4,7 +4,7 @@ use Rattle.std.specs.declared.option.Option.{Option}
 use Rattle.mg_dev.specs.Files.{Files}
 use Rattle.mg_make.specs.Plans.{IsPlanOf, Plan}
 use Rattle.mg_make.specs.Putting.{IsApart}
-use Rattle.mg_merge.specs.Texts.{AreFirst, TextsStand, TwoTexts}
+use Rattle.mg_merge.specs.Texts.{AreFirst, TextsFit, TextsStand, TwoTexts}
 
 -- n documents of the texts were given, and so many bytes are left
 pub record AreGiven (t : TwoTexts) (files : Option Files) (n left : ℕ) (fed : List ℕ) : Type 0 where
@@ -22,6 +22,13 @@ pub record AreApart (base : List ℕ) (t : TwoTexts) : Type 0 where
   pub first_places : IsApart base t.first.places.name
   pub second_text : IsApart base t.second.text.name
   pub second_places : IsApart base t.second.places.name
+
+-- two texts that are read for a set of this base
+pub record AreTextsApart (base : List ℕ) (t : TwoTexts) (files : Option Files) : Type 0 where
+  -- the pages that are held agree with the files
+  pub fits : TextsFit t files
+  -- no part of the set is read
+  pub apart : AreApart base t
 
 -- the texts stand for a collection, and this is its plan
 abbrev pub IsPlanned : Plan → TwoTexts → Option Files → List ℕ → Type 0

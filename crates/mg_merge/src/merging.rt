@@ -6,8 +6,7 @@ ghost use Rattle.mg_merge.specs.Joined.{Joined};
 ghost use Rattle.mg_make.specs.Outcomes.{BetweenMoments, HasSummaryOf};
 ghost use Rattle.mg_make.specs.Plans.{IsPlan, IsRoomFor};
 ghost use Rattle.mg_merge.specs.Merging.{ForBoth, budget_of};
-ghost use Rattle.mg_merge.specs.Passes.{AreApart};
-ghost use Rattle.mg_merge.specs.Texts.{TextsFit};
+ghost use Rattle.mg_merge.specs.Passes.{AreTextsApart};
 ghost use Rattle.mg_merge.specs.Written.{MergesTexts, WritesTexts};
 
 use crate::counting::count_all;
@@ -108,8 +107,7 @@ fn merge_texts<'a, S: Store, D: Documents<'a, S>>(
 ) -> Result<Summary, Fault>
     requires least { least_budget ≤ budget }
     requires most { budget ≤ greatest_budget }
-    requires fits { TextsFit (D.texts texts.old) (S.files store.old) }
-    requires apart { AreApart new.now (D.texts texts.old) }
+    requires texts { AreTextsApart new.now (D.texts texts.old) (S.files store.old) }
     ensures merged { BetweenMoments S.files S.reads S.faults store.old store.new
         (λ before now. MergesTexts budget new.now (D.texts texts.old) before now result) }
 {
@@ -130,8 +128,7 @@ fn write_planned<'a, S: Store, D: Documents<'a, S>>(
 ) -> Result<Summary, Fault>
     requires plan { IsPlan plan }
     requires room { IsRoomFor room plan room.pool.limit }
-    requires fits { TextsFit (D.texts texts.old) (S.files store.old) }
-    requires apart { AreApart new.now (D.texts texts.old) }
+    requires texts { AreTextsApart new.now (D.texts texts.old) (S.files store.old) }
     ensures written { BetweenMoments S.files S.reads S.faults store.old store.new
         (λ before now. WritesTexts plan room.pool.limit new.now (D.texts texts.old) before now
         result) }

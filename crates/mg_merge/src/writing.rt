@@ -10,8 +10,7 @@ ghost use Rattle.mg_make.specs.Outcomes.{BetweenMoments};
 ghost use Rattle.mg_make.specs.Plans.{IsPlan, IsRoomFor};
 ghost use Rattle.mg_make.specs.Putting.{HasPut, OthersSame};
 ghost use Rattle.mg_merge.specs.Looks.{reads_index};
-ghost use Rattle.mg_merge.specs.Passes.{AreAllGiven, AreApart, ArePlanned};
-ghost use Rattle.mg_merge.specs.Texts.{TextsFit};
+ghost use Rattle.mg_merge.specs.Passes.{AreAllGiven, ArePlanned, AreTextsApart};
 ghost use Rattle.mg_merge.specs.Written.{WritesTexts};
 
 use crate::documents::Documents;
@@ -27,8 +26,7 @@ fn put_documents<'a, S: Store, D: Documents<'a, S>>(
     texts: &mut D,
     writer: &mut SetWriter<'_>,
 ) -> Result<(), Fault>
-    requires fits { TextsFit (D.texts texts.old) (S.files store.old) }
-    requires apart { AreApart writer.old.base (D.texts texts.old) }
+    requires texts { AreTextsApart writer.old.base (D.texts texts.old) (S.files store.old) }
     requires nothing { HasPut writer.old (S.files store.old) [] }
     ensures put { OnOk result ((fed : List ℕ) × AreAllGiven (D.texts texts.old)
         (S.files store.old) fed × HasPut writer.new (S.files store.new) fed) }
@@ -75,8 +73,7 @@ pub(crate) fn write_set<'a, 'b, S: Store, D: Documents<'b, S>>(
 ) -> Result<Summary, Fault>
     requires plan { IsPlan plan.now }
     requires room { IsRoomFor room plan.now room.pool.limit }
-    requires fits { TextsFit (D.texts texts.old) (S.files store.old) }
-    requires apart { AreApart base.now (D.texts texts.old) }
+    requires texts { AreTextsApart base.now (D.texts texts.old) (S.files store.old) }
     ensures written { BetweenMoments S.files S.reads S.faults store.old store.new
         (λ before now. WritesTexts plan.entry.now room.pool.limit base.entry.now
         (D.texts texts.old) before now result) }
@@ -95,8 +92,7 @@ fn write_started<'b, S: Store, D: Documents<'b, S>>(
     texts: &mut D,
     writer: SetWriter<'_>,
 ) -> Result<Summary, Fault>
-    requires fits { TextsFit (D.texts texts.old) (S.files store.old) }
-    requires apart { AreApart writer.base (D.texts texts.old) }
+    requires texts { AreTextsApart writer.base (D.texts texts.old) (S.files store.old) }
     requires nothing { HasPut writer (S.files store.old) [] }
     ensures written { BetweenMoments S.files S.reads S.faults store.old store.new
         (λ before now. WritesTexts writer.entry.plan writer.entry.limit writer.entry.base

@@ -167,4 +167,4 @@ pub merge_texts-answer-requires : goal.merge_texts-answer-requires
 merge_texts-answer-requires g c =
     let apart = apart_of c.args.new.now c.args.first.now c.args.second.now (g.D.Documents.texts c.in-Ok-load.texts) c.names_apart.ensures.bases c.requires.one
     c.requires.other c.in-Ok-load.ensures.of in
-    λ k. ((refl, tt), (search rules, (search rules, (c.in-Ok-load.ensures.fits, apart))))
+    λ k. ((refl, tt), (search rules, (search rules, record { fits = c.in-Ok-load.ensures.fits; apart = apart })))

@@ -18,5 +18,5 @@ returns-in-Ok g c = record {
 
 pub write_planned-requires : goal.write_planned-requires
 write_planned-requires g c =
-    let apart = apart_still c.args.new.now (g.D.Documents.texts c.args.texts.now) (g.D.Documents.texts c.count_all.new.texts) c.in-Ok.ensures.counts.same c.requires.apart in
-    λ k. ((refl, tt), (c.in-Ok.ensures.plan, (search rules, (c.in-Ok.ensures.counts.fits, apart))))
+    let apart = apart_still c.args.new.now (g.D.Documents.texts c.args.texts.now) (g.D.Documents.texts c.count_all.new.texts) c.in-Ok.ensures.counts.same c.requires.texts.apart in
+    λ k. ((refl, tt), (c.in-Ok.ensures.plan, (search rules, record { fits = c.in-Ok.ensures.counts.fits; apart = apart })))

@@ -20,7 +20,7 @@ use Rattle.mg_merge.proofs.writing.put_documents.Goals as goal
 
 pub loop-index-init : goal.loop-index-init
 loop-index-init g c = record {
-  fits = c.requires.fits;
+  fits = c.requires.texts.fits;
   same = texts_none _;
   base = search rules;
   plan = search rules;
@@ -44,8 +44,8 @@ returns-in-Err-clause-refused g c =
       some.0,
       record {
         stands = texts_stay c.args.writer.now.base (g.D.Documents.texts c.args.texts.now) (g.D.Documents.texts c.loop-index.texts) before middle some.0
-            c.requires.apart so_far.same so_far.others some.1.0;
-        short = short_next (g.D.Documents.texts c.args.texts.now) before some.0 so_far.put.0 c.loop-index.index c.loop-index.left c.requires.fits
+            c.requires.texts.apart so_far.same so_far.others some.1.0;
+        short = short_next (g.D.Documents.texts c.args.texts.now) before some.0 so_far.put.0 c.loop-index.index c.loop-index.left c.requires.texts.fits
             (omega (arith, c.loop-index-test.true, c.documents-index-end.ensures)) so_far.put.1 some.1.0;
       },
     ))
@@ -77,11 +77,11 @@ returns-then-found-left-clause-refused g c = λ some.
     let is : ((collection : List ℕ) → TextsStand texts before collection → held ≡ closed_document (c.loop-index.index + 1) collection)
     = λ collection stand. c.bytes.ensures ∙ c.in-Ok.ensures.held collection
     (record {
-      stands = texts_stay base texts (g.D.Documents.texts c.loop-index.texts) before middle collection c.requires.apart so_far.same so_far.others
+      stands = texts_stay base texts (g.D.Documents.texts c.loop-index.texts) before middle collection c.requires.texts.apart so_far.same so_far.others
           stand;
-      short = short_next texts before collection fed c.loop-index.index c.loop-index.left c.requires.fits more given stand;
+      short = short_next texts before collection fed c.loop-index.index c.loop-index.left c.requires.texts.fits more given stand;
     }) in
-    too_much texts before some.0 fed held c.loop-index.index c.loop-index.left c.requires.fits more given some.1.0 (is some.0 some.1.0) (omega (arith, c.if-found-left.true))
+    too_much texts before some.0 fed held c.loop-index.index c.loop-index.left c.requires.texts.fits more given some.1.0 (is some.0 some.1.0) (omega (arith, c.if-found-left.true))
 
 pub returns-then-found-left-clause-others : goal.returns-then-found-left-clause-others
 returns-then-found-left-clause-others g c = subst (λ f. OthersSame c.args.writer.now.base (g.S.Store.files c.args.store.now) f) (sym c.in-Ok.ensures.looks.files) c.loop-index.invariant.others
@@ -109,14 +109,14 @@ take_all-requires g c =
     let is : ((collection : List ℕ) → TextsStand texts before collection → held ≡ closed_document (c.loop-index.index + 1) collection)
     = λ collection stand. c.bytes-in-loop-index.ensures ∙ c.in-Ok.ensures.held collection
     (record {
-      stands = texts_stay base texts (g.D.Documents.texts c.loop-index.texts) before middle collection c.requires.apart so_far.same so_far.others
+      stands = texts_stay base texts (g.D.Documents.texts c.loop-index.texts) before middle collection c.requires.texts.apart so_far.same so_far.others
           stand;
-      short = short_next texts before collection fed c.loop-index.index c.loop-index.left c.requires.fits more given stand;
+      short = short_next texts before collection fed c.loop-index.index c.loop-index.left c.requires.texts.fits more given stand;
     }) in
     let count : length c.bytes.result.now ≡ length held = ap (λ (bytes : List ℕ). length bytes) (c.bytes.ensures ∙ sym c.bytes-in-loop-index.ensures) in
     let within : length c.bytes.result.now ≤ c.loop-index.left = omega (arith, c.if-found-left.false) in
     let has : HasPut c.loop-index.writer read fed = still_put c.loop-index.writer middle read fed c.in-Ok.ensures.looks.files so_far.put.2 in
-    record { put = (fed, has, omega (arith, given.size, c.requires.fits.few, count, within)) }
+    record { put = (fed, has, omega (arith, given.size, c.requires.texts.fits.few, count, within)) }
 
 pub retold-requires : goal.retold-requires
 retold-requires g c =
@@ -133,9 +133,9 @@ retold-requires g c =
     let is : ((collection : List ℕ) → TextsStand texts before collection → held ≡ closed_document (c.loop-index.index + 1) collection)
     = λ collection stand. c.bytes-in-loop-index.ensures ∙ c.in-Ok.ensures.held collection
     (record {
-      stands = texts_stay base texts (g.D.Documents.texts c.loop-index.texts) before middle collection c.requires.apart so_far.same so_far.others
+      stands = texts_stay base texts (g.D.Documents.texts c.loop-index.texts) before middle collection c.requires.texts.apart so_far.same so_far.others
           stand;
-      short = short_next texts before collection fed c.loop-index.index c.loop-index.left c.requires.fits more given stand;
+      short = short_next texts before collection fed c.loop-index.index c.loop-index.left c.requires.texts.fits more given stand;
     }) in
     let count : length c.bytes.result.now ≡ length held = ap (λ (bytes : List ℕ). length bytes) (c.bytes.ensures ∙ sym c.bytes-in-loop-index.ensures) in
     let within : length c.bytes.result.now ≤ c.loop-index.left = omega (arith, c.if-found-left.false) in
@@ -143,7 +143,7 @@ retold-requires g c =
     let stop = c.in-Err-take_all.ensures.refused in
     let run = take (stop.taken + 1) held in
     let short : length (fed ++ (run ++ [])) < 2 ^ 32
-    = omega (arith, length-append fed (run ++ []), length-append run [], length-take (stop.taken + 1) held, given.size, c.requires.fits.few, count, within) in
+    = omega (arith, length-append fed (run ++ []), length-append run [], length-take (stop.taken + 1) held, given.size, c.requires.texts.fits.few, count, within) in
     second_differs _ _ c.in-Err-take_all.refusal (stop.stops fed [] has short)
 
 pub returns-in-Err-take_all-clause-refused : goal.returns-in-Err-take_all-clause-refused
@@ -161,9 +161,9 @@ returns-in-Err-take_all-clause-refused g c =
     let is : ((collection : List ℕ) → TextsStand texts before collection → held ≡ closed_document (c.loop-index.index + 1) collection)
     = λ collection stand. c.bytes-in-loop-index.ensures ∙ c.in-Ok.ensures.held collection
     (record {
-      stands = texts_stay base texts (g.D.Documents.texts c.loop-index.texts) before middle collection c.requires.apart so_far.same so_far.others
+      stands = texts_stay base texts (g.D.Documents.texts c.loop-index.texts) before middle collection c.requires.texts.apart so_far.same so_far.others
           stand;
-      short = short_next texts before collection fed c.loop-index.index c.loop-index.left c.requires.fits more given stand;
+      short = short_next texts before collection fed c.loop-index.index c.loop-index.left c.requires.texts.fits more given stand;
     }) in
     let count : length c.bytes.result.now ≡ length held = ap (λ (bytes : List ℕ). length bytes) (c.bytes.ensures ∙ sym c.bytes-in-loop-index.ensures) in
     let within : length c.bytes.result.now ≤ c.loop-index.left = omega (arith, c.if-found-left.false) in
@@ -171,7 +171,7 @@ returns-in-Err-take_all-clause-refused g c =
     let stop = c.in-Err-take_all.ensures.refused in
     let run = take (stop.taken + 1) held in
     let short : length (fed ++ (run ++ [])) < 2 ^ 32
-    = omega (arith, length-append fed (run ++ []), length-append run [], length-take (stop.taken + 1) held, given.size, c.requires.fits.few, count, within) in
+    = omega (arith, length-append fed (run ++ []), length-append run [], length-take (stop.taken + 1) held, given.size, c.requires.texts.fits.few, count, within) in
     let rose = Rose (g.S.Store.faults c.read.new.store) (g.S.Store.faults c.take_all.new.store) in
     put_stops rose _ _ c.args.writer.now.plan (λ more. fed ++ (run ++ more)) c.in-Err-take_all.refusal c.retold.result
     (λ rises. rose_behind _ _ _ (omega (arith, so_far.later, c.in-Ok.ensures.looks.later)) rises) short
@@ -179,8 +179,9 @@ returns-in-Err-take_all-clause-refused g c =
     let rest = joined (drop (c.loop-index.index + 1) (documents some.0)) (has_open_end some.0) in
     let behind = drop (stop.taken + 1) held ++ rest in
     let whole : fed ++ (run ++ behind) ≡ some.0
-    = all_behind fed held rest (stop.taken + 1) ∙ sym (append_assoc fed held rest) ∙ first_next texts before some.0 fed held c.loop-index.index c.loop-index.left c.requires.fits more given some.1.0 (is some.0 some.1.0) in
-    (behind, subst (λ n. n < 2 ^ 32) (some.1.0.size ∙ sym (ap length whole)) c.requires.fits.few, subst (IsPlanOf c.args.writer.now.plan) (sym whole) some.1.1))
+    = all_behind fed held rest (stop.taken + 1) ∙ sym (append_assoc fed held rest)
+    ∙ first_next texts before some.0 fed held c.loop-index.index c.loop-index.left c.requires.texts.fits more given some.1.0 (is some.0 some.1.0) in
+    (behind, subst (λ n. n < 2 ^ 32) (some.1.0.size ∙ sym (ap length whole)) c.requires.texts.fits.few, subst (IsPlanOf c.args.writer.now.plan) (sym whole) some.1.1))
     c.retold.ensures
     (λ more few. subst (λ plan. SecondStops rose (IsPlanOf plan (fed ++ (run ++ more))) c.in-Err-take_all.refusal) so_far.plan (stop.stops fed more has few))
 
@@ -231,9 +232,9 @@ loop-index-preserved g c =
     let is : ((collection : List ℕ) → TextsStand texts before collection → held ≡ closed_document (c.loop-index.index + 1) collection)
     = λ collection stand. c.bytes-in-loop-index.ensures ∙ c.in-Ok.ensures.held collection
     (record {
-      stands = texts_stay base texts (g.D.Documents.texts c.loop-index.texts) before middle collection c.requires.apart so_far.same so_far.others
+      stands = texts_stay base texts (g.D.Documents.texts c.loop-index.texts) before middle collection c.requires.texts.apart so_far.same so_far.others
           stand;
-      short = short_next texts before collection fed c.loop-index.index c.loop-index.left c.requires.fits more given stand;
+      short = short_next texts before collection fed c.loop-index.index c.loop-index.left c.requires.texts.fits more given stand;
     }) in
     let count : length c.bytes.result.now ≡ length held = ap (λ (bytes : List ℕ). length bytes) (c.bytes.ensures ∙ sym c.bytes-in-loop-index.ensures) in
     let within : length c.bytes.result.now ≤ c.loop-index.left = omega (arith, c.if-found-left.false) in
@@ -243,7 +244,7 @@ loop-index-preserved g c =
     let put_others : OthersSame base read now = subst (λ b. OthersSame b read now) so_far.base c.in-Ok-take_all.ensures.others in
     let same = texts_more texts (g.D.Documents.texts c.loop-index.texts) (g.D.Documents.texts c.read.new.self) so_far.same c.in-Ok.ensures.same in
     record {
-      fits = fits_stay base (g.D.Documents.texts c.read.new.self) read now (apart_still base texts (g.D.Documents.texts c.read.new.self) same c.requires.apart) put_others c.in-Ok.ensures.fits;
+      fits = fits_stay base (g.D.Documents.texts c.read.new.self) read now (apart_still base texts (g.D.Documents.texts c.read.new.self) same c.requires.texts.apart) put_others c.in-Ok.ensures.fits;
       same = same;
       base = c.in-Ok-take_all.ensures.base ∙ so_far.base;
       plan = c.in-Ok-take_all.ensures.plan ∙ so_far.plan;
@@ -254,7 +255,7 @@ loop-index-preserved g c =
       later = omega (arith, so_far.later, c.in-Ok.ensures.looks.later, c.in-Ok-take_all.ensures.later);
       put = (
         fed ++ held,
-        given_one_more texts before fed held c.loop-index.index c.loop-index.left (length c.bytes.result.now) c.requires.fits more given is count within,
+        given_one_more texts before fed held c.loop-index.index c.loop-index.left (length c.bytes.result.now) c.requires.texts.fits more given is count within,
         c.in-Ok-take_all.ensures.put fed has,
       );
     }
@@ -266,6 +267,6 @@ returns-clause-put g c =
     let so_far = c.loop-index.invariant in (
       so_far.put.0,
       given_each (g.D.Documents.texts c.args.texts.now) (g.S.Store.files c.args.store.now) so_far.put.0 c.loop-index.index c.loop-index.left
-          c.requires.fits (omega (arith, c.loop-index-test.false, c.documents-index-end.ensures)) so_far.put.1,
+          c.requires.texts.fits (omega (arith, c.loop-index-test.false, c.documents-index-end.ensures)) so_far.put.1,
       so_far.put.2,
     )

@@ -24,9 +24,10 @@ returns-in-Err g c = record {
 pub write_started-requires : goal.write_started-requires
 write_started-requires g c =
     let texts = g.D.Documents.texts c.args.texts.now in
-    let fits = fits_stay c.args.base.now texts (g.S.Store.files c.args.store.now) (g.S.Store.files c.start.new.store) c.requires.apart c.in-Ok.ensures.others c.requires.fits in
-    let apart = subst (λ base. AreApart base (g.D.Documents.texts c.args.texts.now)) (sym c.in-Ok.ensures.base) c.requires.apart in
-    λ k. ((refl, tt), (fits, (apart, c.in-Ok.ensures.put)))
+    let given = c.requires.texts in
+    let fits = fits_stay c.args.base.now texts (g.S.Store.files c.args.store.now) (g.S.Store.files c.start.new.store) given.apart c.in-Ok.ensures.others given.fits in
+    let apart = subst (λ base. AreApart base texts) (sym c.in-Ok.ensures.base) given.apart in
+    λ k. ((refl, tt), (record { fits = fits; apart = apart }, c.in-Ok.ensures.put))
 
 pub returns-in-Ok : goal.returns-in-Ok
 returns-in-Ok g c =
@@ -34,7 +35,8 @@ returns-in-Ok g c =
     let middle = store_at g.S.Store.files g.S.Store.reads g.S.Store.faults c.start.new.store in
     let now = store_at g.S.Store.files g.S.Store.reads g.S.Store.faults c.write_started.new.store in
     record {
-      written = written_before _ _ c.args.base.now texts _ middle now c.write_started.result c.requires.apart c.in-Ok.ensures.others (none_index _ _ c.in-Ok.ensures.reads) c.in-Ok.ensures.cause.later
+      written = written_before _ _ c.args.base.now texts _ middle now c.write_started.result c.requires.texts.apart c.in-Ok.ensures.others (none_index _ _ c.in-Ok.ensures.reads)
+          c.in-Ok.ensures.cause.later
           (λ told. c.empty_heads_stand_for_none.ensures c.args.base.now _
           (subst (λ base. file_at (g.S.Store.files c.start.new.store) (full_name base Head) ≡ Some []) c.in-Ok.ensures.base (c.in-Ok.ensures.put.head told)))
           (by_writer c.in-Ok.writer _ _ _ texts middle now c.write_started.result c.in-Ok.ensures.plan c.in-Ok.ensures.limit c.in-Ok.ensures.base c.write_started.ensures.written);

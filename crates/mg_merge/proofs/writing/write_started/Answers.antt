@@ -8,7 +8,7 @@ use Rattle.mg_merge.proofs.WrittenLaws.{not_written, put_plan, was_ended}
 use Rattle.mg_merge.proofs.writing.write_started.Goals as goal
 
 pub put_documents-requires : goal.put_documents-requires
-put_documents-requires g c = λ k. ((refl, tt), (c.requires.fits, (c.requires.apart, c.requires.nothing)))
+put_documents-requires g c = λ k. ((refl, tt), (c.requires.texts, c.requires.nothing))
 
 -- ---- not all documents were put
 
