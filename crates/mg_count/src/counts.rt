@@ -79,6 +79,22 @@ impl Counts {
         ensures refused { IfErr result (λ fault. (before : List Mark) → IsCounted self.old before →
             StopsAt before (marks_of met.now) fault) }
     {
+        if met.is_piece_alone() {
+            return self.piece_if(true, met.kind(), met.piece());
+        }
+        self.take_each(met)
+    }
+
+    // The same, asking for each of the four.
+    #[inline(never)]
+    fn take_each(&mut self, met: &Met) -> Result<(), Fault>
+        requires few { (before : List Mark) × IsCounted self.old before
+            × AreFew (before ++ marks_of met.now) }
+        ensures counted { OnOk result ((before : List Mark) → IsCounted self.old before →
+            IsCounted self.new (before ++ marks_of met.now)) }
+        ensures refused { IfErr result (λ fault. (before : List Mark) → IsCounted self.old before →
+            StopsAt before (marks_of met.now) fault) }
+    {
         marks_add_up();
         self.begin_if(met.begins())?;
         self.piece_if(met.has_piece(), met.kind(), met.piece())?;

@@ -3,7 +3,8 @@
 //! A byte may begin a document, end the piece before it and the document too. So at most four things
 //! are met with it, always in the same order, and the second of two pieces is empty: the other of a
 //! pair that the document's end leaves without one. One block of bytes serves for every piece.
-ghost use Rattle.std.specs.Prelude.{◌≡◌, ◌≤◌, [], length, take};
+ghost use Rattle.std.specs.Prelude.{◌≡◌, ◌≤◌, ◌∷◌, [], true, length, take};
+ghost use Rattle.mg_defs.specs.Marks.{piece as piece_mark};
 ghost use Rattle.mg_defs.specs.Pieces.{other_kind};
 ghost use Rattle.mg_count.specs.Meeting.{marks_of, restarted, with_end, with_other, with_piece};
 
@@ -113,6 +114,14 @@ impl Met {
         ensures { result ≡ self.now.has_piece }
     {
         self.has_piece
+    }
+
+    /// Whether a piece ends and nothing else is met, as mostly where one ends.
+    #[inline]
+    pub fn is_piece_alone(&self) -> bool
+        ensures { result ≡ true → marks_of self.now ≡ piece_mark self.now.kind self.now.bytes ∷ [] }
+    {
+        self.has_piece & !self.begins & !self.has_other & !self.ends
     }
 
     /// Whether an empty piece of the other kind follows.

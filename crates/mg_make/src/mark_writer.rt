@@ -69,6 +69,23 @@ pub(crate) fn put_marks<'a, S: Store, W: MarkWriter<'a, S>>(
     ensures { Between S.files S.reads S.faults store.old store.new
         (PassStep (W.pass writer.old) (W.pass writer.new) (marks_of met.now) result) }
 {
+    if met.is_piece_alone() {
+        return writer.piece_if(store, true, met.kind(), met.piece());
+    }
+    put_each(writer, store, met)
+}
+
+// The same, asking for each of the four.
+#[inline(never)]
+fn put_each<'a, S: Store, W: MarkWriter<'a, S>>(
+    writer: &mut W,
+    store: &mut S,
+    met: &Met,
+) -> Result<(), Fault>
+    requires next { IsNext (W.pass writer.old) (S.files store.old) (marks_of met.now) }
+    ensures { Between S.files S.reads S.faults store.old store.new
+        (PassStep (W.pass writer.old) (W.pass writer.new) (marks_of met.now) result) }
+{
     writer.begin_if(store, met.begins())?;
     writer.piece_if(store, met.has_piece(), met.kind(), met.piece())?;
     writer.piece_if(store, met.has_other(), met.other_kind(), &[])?;
