@@ -15,3 +15,4 @@ mod Standing
 mod Loading
 mod Numbering
 mod Collections
+mod Places

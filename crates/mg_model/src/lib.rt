@@ -19,6 +19,7 @@ mod laws;
 mod piece_key;
 mod pieces;
 mod reading;
+mod recent;
 mod room;
 mod stream_model;
 mod term_table;
@@ -32,6 +33,7 @@ pub use laws::{
     words_have_terms,
 };
 pub use mg_defs::Stream;
+pub use recent::Recent;
 pub use term_table::TermTable;
 pub use text_model::TextModel;
 pub use vocab::Vocab;

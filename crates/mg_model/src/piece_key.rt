@@ -20,6 +20,9 @@ const LONGER: u8 = 16;
 /// What the last of sixteen bytes is worth where the lowest comes first.
 const TOP: u128 = 1 << 120;
 
+/// An odd number near 2^64 over the golden ratio: its products spread over their high bits.
+const SPREAD: u64 = 0x9E37_79B9_7F4A_7C15;
+
 /// A key of sixteen bytes.
 ///
 /// The key of a piece of at most fifteen bytes is the piece's length and the piece, so that a look-up
@@ -89,6 +92,18 @@ impl PieceKey {
         ensures { result.entry ≡ short_key piece.now }
     {
         PieceKey::filled(piece.len() as u8, piece)
+    }
+
+    /// So many bits, from 1 to 32, in which the bytes of the key are mixed.
+    #[inline]
+    pub(crate) fn mixed(&self, bits: u32) -> usize
+        requires least { 1 ≤ bits }
+        requires most { bits ≤ 32 }
+    {
+        let low = eight_at(&self.entry, 0);
+        let high = eight_at(&self.entry, 8);
+        let mixed = (low ^ high.rotate_left(29)).wrapping_mul(SPREAD);
+        (mixed >> (64 - bits)) as usize
     }
 
     // The key of the longer piece with this number.

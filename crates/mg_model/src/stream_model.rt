@@ -18,10 +18,10 @@ ghost use Rattle.mg_model.specs.Loading.{LoadsStream};
 ghost use Rattle.mg_model.specs.Read.{code_read};
 ghost use Rattle.mg_model.specs.Vocabularies.{pieces_of};
 
-use crate::Vocab;
 use crate::dropping::without;
 use crate::pieces::Pieces;
 use crate::reading::{ReadPieces, checked_code, expect_room, read_pieces};
+use crate::{Recent, Vocab};
 use mg_canon::Canon;
 use mg_dev::{Bad, FileRef, Part, PartErr, PutErr, Store};
 use mg_front::FrontWriter;
@@ -209,6 +209,15 @@ impl StreamModel {
     {
         let _ = &self.lengths;
         self.pieces.symbol(piece)
+    }
+
+    /// The same, looked for first where one was found last.
+    #[inline]
+    pub fn symbol_near(&self, piece: &[u8], recent: &mut Recent) -> Option<u32>
+        ensures { result ≡ position (bytes_eq piece.now) self.now.pieces }
+    {
+        let _ = &self.lengths;
+        self.pieces.symbol_near(piece, recent)
     }
 
     /// The piece of a symbol.

@@ -18,7 +18,7 @@ ghost use Rattle.mg_model.specs.Read.{ToldUnread};
 
 use crate::dropping::without;
 use crate::stream_model::StreamModel;
-use crate::{Stream, Vocab};
+use crate::{Recent, Stream, Vocab};
 use mg_canon::Canon;
 use mg_dev::{FileRef, Part, PartErr, PutErr, Store};
 use std::alloc::{AllocError, Global};
@@ -174,6 +174,15 @@ impl TextModel {
         ensures { result ≡ position (bytes_eq piece.now) (code_of stream self.now).pieces }
     {
         self.stream(stream).symbol(piece)
+    }
+
+    /// The same. In a model that was made it is looked for first where `recent` has a place for it,
+    /// and what is found is kept there.
+    #[inline]
+    pub fn symbol_near(&self, stream: Stream, piece: &[u8], recent: &mut Recent) -> Option<u32>
+        ensures { result ≡ position (bytes_eq piece.now) (code_of stream self.now).pieces }
+    {
+        self.stream(stream).symbol_near(piece, recent)
     }
 
     /// The piece of a symbol, which is below the number of the stream's pieces.

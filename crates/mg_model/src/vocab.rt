@@ -11,6 +11,7 @@ ghost use Rattle.mg_model.specs.Vocabularies.{IsVocabulary, pieces_of, entry_cou
 use crate::VocabErr;
 use crate::block::SHORT;
 use crate::piece_key::{PieceKey, key_of, new_key, order, piece_of};
+use crate::recent::Recent;
 use indexmap::{IndexMap, IndexSet};
 use std::alloc::{AllocError, Global};
 use std::marker::Model;
@@ -28,6 +29,7 @@ const MOST_PIECES: usize = 1 << 22;
 pub struct Vocab {
     counts: IndexMap<PieceKey, u32>,
     longer: IndexSet<Vec<u8>>,
+    recent: Recent,
 }
 
 impl Model for Vocab {
@@ -52,6 +54,37 @@ fn place_in(counts: &IndexMap<PieceKey, u32>, key: &PieceKey) -> Option<u32>
     }
 }
 
+/// Whether the entry at a place has a key.
+#[inline]
+fn has_at(counts: &IndexMap<PieceKey, u32>, key: &PieceKey, place: u32) -> bool
+    ensures { result ≡ true →
+        position (λ k. bytes_eq key.now.entry k.entry) (keys counts.now) ≡ Some place }
+{
+    // For the proof: no two entries have the same key.
+    let _ = counts.len();
+    match counts.get_index(place as usize) {
+        Some((there, _)) => *there == *key,
+        None => false,
+    }
+}
+
+/// The place of a key in a map of at most 2^22, looked for first where one was found last.
+#[inline]
+fn place_near(counts: &IndexMap<PieceKey, u32>, key: &PieceKey, recent: &mut Recent) -> Option<u32>
+    requires { length counts.now.entries ≤ 2 ^ 22 }
+    ensures { result ≡ position (λ k. bytes_eq key.now.entry k.entry) (keys counts.now) }
+{
+    let kept = recent.place(key);
+    if has_at(counts, key, kept) {
+        return Some(kept);
+    }
+    let found = place_in(counts, key);
+    if let Some(place) = found {
+        recent.keep(key, place);
+    }
+    found
+}
+
 impl Vocab {
     /// A vocabulary with no entry.
     pub fn new(alloc: Global) -> Self
@@ -60,6 +93,7 @@ impl Vocab {
         Vocab {
             counts: IndexMap::new(alloc),
             longer: IndexSet::new(alloc),
+            recent: Recent::new(alloc),
         }
     }
 
@@ -86,13 +120,25 @@ impl Vocab {
         ensures known { has_piece self.old piece.now ≡ true → IsOk result }
         ensures err { OnErr result (self.new ≡ self.old) }
     {
-        match self.place_of(piece) {
+        match self.place_again(piece) {
             Some(place) => {
                 self.count_again(place as usize, piece);
                 Ok(())
             }
             None => self.add(piece),
         }
+    }
+
+    // The place of a piece among the entries. It is kept for the next time.
+    #[inline]
+    fn place_again(&mut self, piece: &[u8]) -> Option<u32>
+        ensures place { result ≡ position (bytes_eq piece.now) (pieces_of self.old) }
+        ensures same { self.new ≡ self.old }
+    {
+        if piece.len() <= SHORT {
+            return place_near(&self.counts, &PieceKey::short(piece), &mut self.recent);
+        }
+        self.place_by_key(piece)
     }
 
     // Adds one to the count of a piece that is there, at its place.
@@ -164,6 +210,17 @@ impl Vocab {
     {
         if piece.len() <= SHORT {
             return place_in(&self.counts, &PieceKey::short(piece));
+        }
+        self.place_by_key(piece)
+    }
+
+    /// The same, looked for first where one was found last.
+    #[inline]
+    pub(crate) fn place_near(&self, piece: &[u8], recent: &mut Recent) -> Option<u32>
+        ensures { result ≡ position (bytes_eq piece.now) (pieces_of self.now) }
+    {
+        if piece.len() <= SHORT {
+            return place_near(&self.counts, &PieceKey::short(piece), recent);
         }
         self.place_by_key(piece)
     }
