@@ -1,5 +1,6 @@
 -- What a lexicon's terms, entries and fields tell of each other.
-use Rattle.std.proofs.Common.{arith, ◌≡◌, ◌≢◌, ◌<◌, ◌≤◌, ◌^◌, ◌==◌, ◌||◌, ◌++◌, true, false, ℕ, List, [], ◌∷◌, length, map, take, drop, refl, sym, ◌∙◌, ap, subst, Some, None, slice_get, IsSome, is_some, unwrap_or, append_assoc, append-nil}
+use Rattle.std.proofs.Common.{arith, ◌≡◌, ◌≢◌, ◌<◌, ◌≤◌, ◌^◌, ◌==◌, ◌||◌, ◌++◌, true, false, ℕ, List, [], ◌∷◌, length, map, take, drop}
+use Rattle.std.proofs.Common.{refl, sym, ◌∙◌, ap, subst, Some, None, slice_get, IsSome, is_some, unwrap_or, append_assoc, append-nil}
 use Rattle.std.specs.declared.option.Option.{Option}
 use Rattle.std.specs.List.{enumerate_from}
 use Rattle.std.proofs.lemmas.List.{drop_at}
@@ -17,19 +18,20 @@ use Rattle.std.proofs.lemmas.List.{map-append}
 use Rattle.mg_dev.specs.Names.{full_name, same_part}
 use Rattle.mg_dev.specs.declared.part_err.PartErr.{PartErr}
 use Rattle.mg_dev.specs.declared.part_err.PartErr.TheVariants.{Device, Memory, Bad}
-use Rattle.std.specs.Prelude.{Err}
+use Rattle.std.specs.Prelude.{Ok, Err, OnOk, Result}
+use Rattle.mg_dev.specs.declared.device.PutErr.{PutErr}
 use Rattle.mg_dev.specs.Laws.{same_part_of_name}
 use Rattle.mg_dev.specs.declared.part.Part.TheVariants.{Lex, LexAt}
 use Rattle.mg_bits.specs.Writer.{Writing}
 use Rattle.mg_front.specs.Entries.{entry_of}
-use Rattle.mg_front.specs.Fronting.{Finished, IsOther, PlacesHold, Took}
+use Rattle.mg_front.specs.Fronting.{Finished, IsOther, PlacesHold, Took, WritesFront}
 use Rattle.mg_front.specs.Reading.{AnswersFind, FrontFits, Fronted, FrontStands, IsAbsent, IsReader, SameParts}
 use Rattle.mg_front.specs.Looks.{ReadLooks}
 use Rattle.mg_front.specs.declared.entry.FrontEntry.{FrontEntry}
 use Rattle.mg_layout.specs.Infos.{info_of as told_of}
 use Rattle.mg_layout.specs.declared.term_info.TermInfo as declared
 use Rattle.mg_lex.specs.Reading.{AnswersTerm, IsInfo, IsLexicon, IsNoTerm, LexStands}
-use Rattle.mg_lex.specs.Writing.{LexWriting, TermsStand, TookTerms, places_name}
+use Rattle.mg_lex.specs.Writing.{LexWriting, TermsStand, TookTerms, WritesLexicon, places_name}
 use Rattle.mg_lex.specs.Terms.{FitsField, Term, entries_of, entry_of_term, terms_of}
 use Rattle.mg_bits.proofs.CallerLemmas.{held_page_stays}
 use Rattle.mg_front.proofs.CallerLemmas.{front_small, took_stays}
@@ -189,6 +191,21 @@ other_name w files ts n took lex lex_at = by_places w.front.places took.places
     by_places : (p : Option Writing) → option_map (λ (q : Writing). q.name) p ≡ Some (full_name w.base LexAt) → IsOther n w.front.strings.name p
     by_places None is = absurd cc
     by_places (Some p) is = (λ same. lex (same ∙ took.strings), λ same. lex_at (same ∙ same_Some p.name (full_name w.base LexAt) is))
+
+-- what follows of three facts on a call that is not refused
+pub on_three : {P Q R S : Type 0} (result : Result (Unit {0}) PutErr) → OnOk result P → OnOk result Q → OnOk result R → (P → Q → R → S) → OnOk result S
+on_three (Ok u) p q r follows = follows p q r
+on_three (Err e) p q r follows = tt
+
+-- what a call writes of the entries of the terms that a writer took
+pub writes_lexicon : {w : LexWriting} {result : Result (Unit {0}) PutErr} {f g : Option Files} {ts : List Term} {r s : Reads} {m n : ℕ} → TookTerms w f ts →
+    WritesFront (λ name. IsOther name w.front.strings.name w.front.places) result f g r s m n → WritesLexicon w.base result f g r s m n
+writes_lexicon took step = record {
+  others = λ name lex lex_at. step.others name (other_name _ _ _ name took lex lex_at);
+  told = step.told;
+  reads = step.reads;
+  cause = step.cause;
+}
 
 pub finished_terms : (w : LexWriting) (f g : Option Files) (ts : List Term) → TookTerms w f ts → Finished w.front g (entries_of ts) → TermsStand w.base g ts
 finished_terms w f g ts took done = record {

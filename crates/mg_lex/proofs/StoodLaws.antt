@@ -1,15 +1,15 @@
 -- What stands for what a lexicon told of a term.
-use Rattle.std.proofs.Common.{◌≡◌, ◌/◌, ◌%◌, ℕ, List, take, Some, None, sym, ◌∙◌, ap, subst, IsSome}
+use Rattle.std.proofs.Common.{◌≡◌, ℕ, List, take, Some, sym, ◌∙◌, ap, subst}
 use Rattle.std.specs.declared.option.Option.{Option}
 use Rattle.mg_dev.specs.Files.{Files}
 use Rattle.mg_defs.specs.Lexicon.{info_bytes}
-use Rattle.mg_front.specs.Entries.{entry_of, string_of}
+use Rattle.mg_front.specs.Entries.{entry_of}
 use Rattle.mg_front.specs.Reading.{Fronted}
-use Rattle.mg_front.specs.Stood.{EntryStands, FindStands}
+use Rattle.mg_front.specs.Stood.{FindStands}
 use Rattle.mg_front.specs.declared.entry.FrontEntry.{FrontEntry}
 use Rattle.mg_layout.specs.Infos.{info_of}
 use Rattle.mg_layout.specs.declared.term_info.TermInfo.{TermInfo}
-use Rattle.mg_lex.specs.Stood.{TermStands, TermTold}
+use Rattle.mg_lex.specs.Stood.{TermTold}
 
 -- a string that was found
 pub term_stands : (r : Fronted) (files : Option Files) (term : List ℕ) (out : FrontEntry) (number : ℕ) (info : TermInfo) → r.width ≡ 16 → info.number ≡ number →

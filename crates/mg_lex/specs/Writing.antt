@@ -1,9 +1,12 @@
 -- A writer of a lexicon: what contracts see of it, and which terms it took.
-use Rattle.std.specs.Prelude.{◌≡◌, ◌≢◌, ◌≤◌, ◌^◌, ◌++◌, ◌∷◌, ℕ, List, [], length, Some}
+use Rattle.std.specs.Prelude.{◌≡◌, ◌≢◌, ◌≤◌, ◌+◌, ◌^◌, ◌++◌, ◌∷◌, ℕ, List, [], length, Some, IfOk, OnOk}
 use Rattle.std.specs.declared.option.Option.{Option}
+use Rattle.std.specs.declared.result.Result.{Result}
 use Rattle.std.specs.Option.{IsSome, is_some, option_map}
-use Rattle.mg_dev.specs.Files.{Files, bytes_at, file_at, written}
+use Rattle.mg_dev.specs.Causes.{HasPutCause}
+use Rattle.mg_dev.specs.Files.{Files, Reads, SameReads, bytes_at, file_at, written}
 use Rattle.mg_dev.specs.Names.{full_name}
+use Rattle.mg_dev.specs.declared.device.PutErr.{PutErr}
 use Rattle.mg_dev.specs.declared.part.Part.TheVariants.{Lex, LexAt}
 use Rattle.mg_defs.specs.Front.{front, whole_at}
 use Rattle.mg_defs.specs.Terms.{dictionary}
@@ -70,3 +73,56 @@ WhereBothStay one other files files_now holds = is_some files_now ≡ is_some fi
 abbrev pub WhereLexiconStays : List ℕ → Option Files → Option Files → Type 0 → Type 0
 WhereLexiconStays base files files_now holds = WhereBothStay (full_name base Lex) (full_name base LexAt) files files_now
     holds
+
+-- a call that writes the two parts of a lexicon
+pub record WritesLexicon {T : Type 0} (base : List ℕ) (result : Result T PutErr) (files_before files_now : Option Files)
+    (reads_before reads_now : Reads) (faults_before faults_now : ℕ) : Type 0
+  where
+    -- no other file changes
+    pub others : OnlyLexiconChanges base files_before files_now
+    -- the store tells its files where it told them before
+    pub told : is_some files_now ≡ is_some files_before
+    -- no part was read
+    pub reads : SameReads reads_before reads_now
+    -- a refusal has a cause
+    pub cause : HasPutCause faults_before faults_now result
+
+-- a writer under a base is made
+pub record StartsLexicon (under : List ℕ) (result : Result LexWriting PutErr) (files_before files_now : Option Files)
+    (reads_before reads_now : Reads) (faults_before faults_now : ℕ) : Type 0
+  where
+    -- it took no term
+    pub took : IfOk result (λ writer. TookTerms writer files_now [])
+    -- both parts are there and empty
+    pub empty : OnOk result (files_now ≡ with_empty_lexicon files_before under)
+    -- it writes under this base
+    pub base : IfOk result (λ writer. writer.base ≡ under)
+    -- whatever it answers, only the lexicon is written
+    pub writes : WritesLexicon under result files_before files_now reads_before reads_now faults_before faults_now
+    pub open writes use *
+
+-- a term more is written
+pub record PushesTerm (old new : LexWriting) (term : Term) (result : Result (Unit {0}) PutErr)
+    (files_before files_now : Option Files) (reads_before reads_now : Reads) (faults_before faults_now : ℕ) : Type 0
+  where
+    -- where the call is not refused, the writer took it behind the others
+    pub took : OnOk result (TookTermMore old new files_before files_now term)
+    -- so that there is one more
+    pub count : OnOk result (new.front.count ≡ old.front.count + 1)
+    -- and it is the last one
+    pub last : OnOk result (new.front.last ≡ term.string)
+    -- the writer writes under the same base
+    pub base : new.base ≡ old.base
+    -- whatever it answers, only the lexicon is written
+    pub writes : WritesLexicon old.base result files_before files_now reads_before reads_now faults_before faults_now
+    pub open writes use *
+
+-- what is held is written
+pub record FinishesLexicon (old : LexWriting) (result : Result (Unit {0}) PutErr) (files_before files_now : Option Files)
+    (reads_before reads_now : Reads) (faults_before faults_now : ℕ) : Type 0
+  where
+    -- where the call is not refused, the parts are the lexicon of the terms that the writer took
+    pub finished : OnOk result (TookTermsStand old files_before files_now)
+    -- whatever it answers, only the lexicon is written
+    pub writes : WritesLexicon old.base result files_before files_now reads_before reads_now faults_before faults_now
+    pub open writes use *

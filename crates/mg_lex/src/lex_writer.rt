@@ -1,11 +1,9 @@
 //! Terms into a lexicon, in order.
-ghost use Rattle.std.specs.Prelude.{◌≡◌, ◌≤◌, ◌<◌, ◌+◌, ◌^◌, ◌==◌, ◌||◌, List, [], IfOk, OnOk, length, true};
-ghost use Rattle.std.specs.Option.{is_some};
-ghost use Rattle.mg_dev.specs.Causes.{HasPutCause};
-ghost use Rattle.mg_dev.specs.Files.{SameReads};
+ghost use Rattle.std.specs.Prelude.{◌≡◌, ◌≤◌, ◌<◌, ◌^◌, ◌==◌, ◌||◌, List, length, true};
+ghost use Rattle.mg_dev.specs.Moments.{Between};
 ghost use Rattle.mg_defs.specs.Front.{is_below};
 ghost use Rattle.mg_lex.specs.Terms.{Term};
-ghost use Rattle.mg_lex.specs.Writing.{OnlyLexiconChanges, TookTermMore, TookTerms, TookTermsStand, told_term, with_empty_lexicon};
+ghost use Rattle.mg_lex.specs.Writing.{FinishesLexicon, PushesTerm, StartsLexicon, TookTerms, told_term};
 
 use mg_dev::{FileRef, Part, PutErr, Store};
 use mg_front::FrontWriter;
@@ -39,14 +37,8 @@ impl<'a> LexWriter<'a> {
     ///
     /// `Failed` where the store failed; `Memory` where the store or a page that is held back wants it.
     pub fn start<S: Store>(alloc: Global, store: &mut S, base: &'a str) -> Result<Self, PutErr>
-        ensures took { IfOk result (λ writer. TookTerms writer (S.files store.new) []) }
-        ensures empty { OnOk result (S.files store.new ≡
-            with_empty_lexicon (S.files store.old) base.entry.now) }
-        ensures base { IfOk result (λ writer. writer.base ≡ base.entry.now) }
-        ensures others { OnlyLexiconChanges base.entry.now (S.files store.old) (S.files store.new) }
-        ensures told { is_some (S.files store.new) ≡ is_some (S.files store.old) }
-        ensures reads { SameReads (S.reads store.old) (S.reads store.new) }
-        ensures cause { HasPutCause (S.faults store.old) (S.faults store.new) result }
+        ensures { Between S.files S.reads S.faults store.old store.new
+            (StartsLexicon base.entry.now result) }
     {
         let strings = FileRef {
             base,
@@ -56,8 +48,10 @@ impl<'a> LexWriter<'a> {
             base,
             part: Part::LexAt,
         };
-        let front = FrontWriter::start(alloc, store, strings, Some(places), 16)?;
-        Ok(LexWriter { base, front })
+        match FrontWriter::start(alloc, store, strings, Some(places), 16) {
+            Ok(front) => Ok(LexWriter { base, front }),
+            Err(refusal) => Err(refusal),
+        }
     }
 
     /// Writes what stands of one term more, of at most 255 bytes and above the last one. Its
@@ -77,18 +71,10 @@ impl<'a> LexWriter<'a> {
         requires short { length term.now ≤ 255 }
         requires above { (self.old.front.count == 0 || is_below self.old.front.last term.now)
             ≡ true }
-        ensures took { OnOk result (TookTermMore self.old self.new (S.files store.old)
-            (S.files store.new) (told_term term.now info.now)) }
-        ensures count { OnOk result (self.new.front.count ≡ self.old.front.count + 1) }
-        ensures last { OnOk result (self.new.front.last ≡ term.now) }
-        ensures base { self.new.base ≡ self.old.base }
-        ensures others { OnlyLexiconChanges self.old.base (S.files store.old) (S.files store.new) }
-        ensures told { is_some (S.files store.new) ≡ is_some (S.files store.old) }
-        ensures reads { SameReads (S.reads store.old) (S.reads store.new) }
-        ensures cause { HasPutCause (S.faults store.old) (S.faults store.new) result }
+        ensures { Between S.files S.reads S.faults store.old store.new
+            (PushesTerm self.old self.new (told_term term.now info.now) result) }
     {
-        self.front.push(store, term, &info.field())?;
-        Ok(())
+        self.front.push(store, term, &info.field())
     }
 
     /// Writes what is held. Then the parts are the lexicon of the terms that were pushed.
@@ -98,14 +84,9 @@ impl<'a> LexWriter<'a> {
     /// The store's: `Failed` where it failed, `Memory` where it wants memory.
     pub fn finish<S: Store>(&mut self, store: &mut S) -> Result<(), PutErr>
         requires took { (ts : List Term) × TookTerms self.old (S.files store.old) ts }
-        ensures finished { OnOk result
-            (TookTermsStand self.old (S.files store.old) (S.files store.new)) }
-        ensures others { OnlyLexiconChanges self.old.base (S.files store.old) (S.files store.new) }
-        ensures told { is_some (S.files store.new) ≡ is_some (S.files store.old) }
-        ensures reads { SameReads (S.reads store.old) (S.reads store.new) }
-        ensures cause { HasPutCause (S.faults store.old) (S.faults store.new) result }
+        ensures { Between S.files S.reads S.faults store.old store.new
+            (FinishesLexicon self.old result) }
     {
-        self.front.finish(store)?;
-        Ok(())
+        self.front.finish(store)
     }
 }

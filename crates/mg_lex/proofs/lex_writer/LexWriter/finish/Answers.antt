@@ -1,5 +1,6 @@
+use Rattle.std.proofs.lemmas.Result.{on_ok_weaker}
 use Rattle.mg_lex.specs.Terms.{entries_of}
-use Rattle.mg_lex.proofs.LexLaws.{finished_terms, other_name}
+use Rattle.mg_lex.proofs.LexLaws.{finished_terms, writes_lexicon}
 use Rattle.mg_lex.proofs.lex_writer.LexWriter.finish.Goals as goal
 
 pub finish-requires : goal.finish-requires
@@ -7,15 +8,12 @@ finish-requires g c =
     let took = rw (← c.self.view_is) at c.requires.took in
     record { took = (entries_of took.0, took.1.took) }
 
-pub returns-clause-finished : goal.returns-clause-finished
-returns-clause-finished g c = rw (← c.self.view_is) (λ ts took told. finished_terms _ _ _ ts took (c.in_ok-finish.ensures.finished (entries_of ts) took.took told))
-
-pub returns-clause-others : goal.returns-clause-others
-returns-clause-others g c =
+pub returns : goal.returns
+returns g c =
     let took = rw (← c.self.view_is) at c.requires.took in
-    rw (← c.self.view_is) (λ n lex lex_at. c.in_ok-finish.ensures.step.others n (other_name _ _ _ n took.1 lex lex_at))
-
-pub returns-in_err-finish-clause-others : goal.returns-in_err-finish-clause-others
-returns-in_err-finish-clause-others g c =
-    let took = rw (← c.self.view_is) at c.requires.took in
-    rw (← c.self.view_is) (λ n lex lex_at. c.finish.ensures.step.others n (other_name _ _ _ n took.1 lex lex_at))
+    let e = c.finish.ensures in
+    rw (← c.self.view_is)
+    (record {
+      finished = on_ok_weaker c.finish.result (λ finished ts took told. finished_terms _ _ _ ts took (finished (entries_of ts) took.took told)) e.finished;
+      writes = writes_lexicon took.1 e.step;
+    })
