@@ -1,5 +1,6 @@
 mod Comparing
 mod LexiconLaws
+mod PackedLaws
 mod RangedLaws
 mod SomeLaws
 mod WrittenLaws

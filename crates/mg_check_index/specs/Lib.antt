@@ -1,4 +1,5 @@
 pub mod Counting
+pub mod Packing
 pub mod Listing
 pub mod Anew
 pub mod InStore

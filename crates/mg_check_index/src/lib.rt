@@ -12,6 +12,7 @@ mod indexed;
 mod lexicon;
 mod lists;
 mod lists_of_range;
+mod packed_postings;
 mod range_lists;
 mod ranges;
 mod run_part;

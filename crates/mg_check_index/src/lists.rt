@@ -18,6 +18,7 @@ ghost use Rattle.mg_check_parts.specs.Looks.{LooksAtSet};
 
 use crate::indexed::Indexed;
 use crate::lexicon::Lexicon;
+use crate::packed_postings::Postings;
 use crate::some_lists::SomeLists;
 use mg_check_parts::{expect_more, wanted};
 use mg_defs::Posting;
@@ -124,7 +125,7 @@ impl<'a> NewLists<'a> {
     }
 
     // All postings of the list that was begun.
-    fn push_all(&mut self, postings: &[Posting], all: u32) -> Result<(), PartErr>
+    fn push_all(&mut self, postings: &Postings<'_>, all: u32) -> Result<(), PartErr>
         requires between { AreBetween ⟦<SureStore as Store>⟧.files self.old all }
         requires none { self.old.writer.pushed ≡ 0 }
         requires last { self.old.writer.last ≡ 0 }
@@ -138,8 +139,9 @@ impl<'a> NewLists<'a> {
         ensures step { WritesOn self.old self.new result }
     {
         let mut last = 0;
-        for posting in postings {
-            match self.push(*posting, last, all) {
+        for index in 0..postings.count() {
+            let posting = postings.at(index);
+            match self.push(posting, last, all) {
                 Ok(()) => {}
                 Err(refusal) => return Err(refusal),
             }
@@ -149,7 +151,12 @@ impl<'a> NewLists<'a> {
     }
 
     // A whole list of so many postings. Answers the byte where it begins and the number of its first skip entry.
-    fn write(&mut self, postings: &[Posting], count: u32, all: u32) -> Result<(u64, u32), PartErr>
+    fn write(
+        &mut self,
+        postings: &Postings<'_>,
+        count: u32,
+        all: u32,
+    ) -> Result<(u64, u32), PartErr>
         requires between { AreBetween ⟦<SureStore as Store>⟧.files self.old all }
         requires some { 1 ≤ count }
         requires within { count ≤ all }
@@ -163,9 +170,10 @@ impl<'a> NewLists<'a> {
             IfErr result (λ refusal. IsNotBad refusal) }
         ensures step { WritesOn self.old self.new result }
     {
-        if postings.len() != count as usize {
+        let found = postings.count();
+        if found != count as usize {
             let wanted = u64::from(count);
-            return Err(PartErr::Bad(other_list(postings.len() as u64, wanted, wanted)));
+            return Err(PartErr::Bad(other_list(found as u64, wanted, wanted)));
         }
         match self.writer.begin(&mut self.store, count) {
             Ok(()) => {}
@@ -198,7 +206,7 @@ impl<'a> NewLists<'a> {
             (index + 1) self.old self.new lexicon.old lexicon.new result }
     {
         let list = lists.list(index);
-        let at = match self.write(list.postings, list.docs, of.documents) {
+        let at = match self.write(&list.postings, list.docs, of.documents) {
             Ok(at) => at,
             Err(refusal) => return Err(refusal),
         };

@@ -5,8 +5,8 @@
 ghost use Rattle.std.specs.Prelude.{◌≡◌, ◌<◌, ◌≤◌, ◌+◌, ◌-◌, ◌^◌, length, slice_index};
 ghost use Rattle.mg_check_index.specs.Listing.{IsLaidOut, list_at, room_at, some_of};
 
+use crate::packed_postings::Postings;
 use crate::range_lists::RangeLists;
-use mg_defs::Posting;
 use std::marker::Model;
 
 /// Lists of a range from one on, so many of them.
@@ -33,7 +33,7 @@ impl<'r> Model for SomeLists<'r> {
 pub(crate) struct TermList<'r> {
     pub(crate) number: u32,
     pub(crate) docs: u32,
-    pub(crate) postings: &'r [Posting],
+    pub(crate) postings: Postings<'r>,
 }
 
 impl<'r> SomeLists<'r> {
@@ -70,7 +70,7 @@ impl<'r> SomeLists<'r> {
         ensures number { result.number ≡ self.now.first + index }
         ensures docs { result.docs ≡ room_at self.now index }
         ensures fits { slice_index self.now.starts (index + 1) < 2 ^ 32 }
-        ensures postings { result.postings.now ≡ list_at self.now index }
+        ensures postings { result.postings ≡ list_at self.now index }
     {
         let place = self.first + index;
         TermList {

@@ -1,6 +1,6 @@
 use Rattle.std.proofs.Common.{rules, arith, ◌<◌, ◌+◌, ◌∙◌, length, refl, sym, ap, subst}
 use Rattle.mg_check_parts.specs.TermsRead.{TermsRead}
-use Rattle.mg_dev.specs.declared.part_err.PartErr.TheVariants.{Bad}
+use Rattle.mg_dev.specs.declared.part_err.PartErr.TheVariants.{Bad, Memory}
 use Rattle.mg_defs.specs.Split.{documents}
 use Rattle.mg_check_index.specs.Listing.{HasRoomFor, HoldsLists, lists_upto, with_document}
 use Rattle.mg_check.proofs.DocumentLaws.{counted_is, holds_upto, range_in, room_upto}
@@ -13,8 +13,8 @@ returns-in-Err-clause-never_bad g c = λ collection stand holds room. c.in-Err.e
 pub returns-in-Err-clause-filled : goal.returns-in-Err-clause-filled
 returns-in-Err-clause-filled g c = record { laid = c.requires.fill.laid; rooms = record { first = refl; starts = refl; count = refl }; text = c.in-Err.ensures.text }
 
-pub returns-then-not-add_document-clause-never_bad : goal.returns-then-not-add_document-clause-never_bad
-returns-then-not-add_document-clause-never_bad g c = λ collection stand holds room.
+pub returns-in-Ok-false-clause-never_bad : goal.returns-in-Ok-false-clause-never_bad
+returns-in-Ok-false-clause-never_bad g c = λ collection stand holds room.
     let read = c.in-Ok.ensures.terms in
     let doc = doc_of_reader collection c.args.before read.doc read.doc (read.own collection stand) refl in
     let counted = counted_is _ c.args.table.now _ collection c.args.before _ _ _ doc c.requires.text.table_is stand read.terms.counted
@@ -23,27 +23,34 @@ returns-then-not-add_document-clause-never_bad g c = λ collection stand holds r
     let range = range_in c.args.lists.now c.args.table.now _ _ collection c.requires.text.table_is stand c.requires.fill.range in
     let there = subst (λ es. HasRoomFor c.args.lists.now (with_document (lists_upto c.args.before collection) (c.args.before + 1) es)) (sym counted)
     (room_upto c.args.lists.now collection c.args.before lt range room) in
-    let ok = c.add_document.ensures.room (lists_upto c.args.before collection) holds there in
+    let ok = c.in-Ok-false.ensures.room (lists_upto c.args.before collection) holds there in
     search rules
 
-pub returns-then-not-add_document-clause-filled : goal.returns-then-not-add_document-clause-filled
-returns-then-not-add_document-clause-filled g c = record {
+pub returns-in-Ok-false-clause-filled : goal.returns-in-Ok-false-clause-filled
+returns-in-Ok-false-clause-filled g c = record {
   laid = c.add_document.ensures.laid;
   rooms = c.add_document.ensures.same;
   text = text_bad (Bad c.damaged_document.result) c.in-Ok.ensures.text tt;
 }
 
-pub returns-clause-held : goal.returns-clause-held
-returns-clause-held g c = λ collection stand holds room.
+pub returns-in-Ok-true-clause-held : goal.returns-in-Ok-true-clause-held
+returns-in-Ok-true-clause-held g c = λ collection stand holds room.
     let read = c.in-Ok.ensures.terms in
     let doc = doc_of_reader collection c.args.before read.doc read.doc (read.own collection stand) refl in
     let counted = counted_is _ c.args.table.now _ collection c.args.before _ _ _ doc c.requires.text.table_is stand read.terms.counted
     (c.counted.ensures ∙ ap (λ (t : TermsRead). t.counted) c.terms.ensures) in
     let lt : c.args.before < length (documents collection) = omega (arith, c.requires.within, stand.documents) in
     let range = range_in c.args.lists.now c.args.table.now _ _ collection c.requires.text.table_is stand c.requires.fill.range in
-    let more = c.add_document.ensures.held (lists_upto c.args.before collection) (search rules) holds in
+    let more = c.in-Ok-true.ensures.held (lists_upto c.args.before collection) holds (search rules) in
     holds_upto c.add_document.new.self collection c.args.before lt (omega (arith, range, c.add_document.ensures.same.first, c.add_document.ensures.same.count))
     (subst (λ es. HoldsLists c.add_document.new.self (with_document (lists_upto c.args.before collection) (c.args.before + 1) es)) counted more)
 
-pub returns-clause-filled : goal.returns-clause-filled
-returns-clause-filled g c = record { laid = c.add_document.ensures.laid; rooms = c.add_document.ensures.same; text = text_ok c.in-Ok.ensures.text }
+pub returns-in-Ok-true-clause-filled : goal.returns-in-Ok-true-clause-filled
+returns-in-Ok-true-clause-filled g c = record { laid = c.add_document.ensures.laid; rooms = c.add_document.ensures.same; text = text_ok c.in-Ok.ensures.text }
+
+pub returns-in-Err-add_document-clause-filled : goal.returns-in-Err-add_document-clause-filled
+returns-in-Err-add_document-clause-filled g c = record {
+  laid = c.add_document.ensures.laid;
+  rooms = c.add_document.ensures.same;
+  text = text_bad Memory c.in-Ok.ensures.text tt;
+}

@@ -18,8 +18,8 @@ end_list-requires-clause-took c =
     let between = c.requires.between in
     (between.done, c.args.postings.now, c.in-Ok-push_all.ensures.took between.done (c.begin.ensures.took between.done between.took))
 
-pub returns-then-postings-count-clause-step : goal.returns-then-postings-count-clause-step
-returns-then-postings-count-clause-step c = record { same = names_same c.args.self.now.writer; own = tt }
+pub returns-then-found-count-clause-step : goal.returns-then-found-count-clause-step
+returns-then-found-count-clause-step c = record { same = names_same c.args.self.now.writer; own = tt }
 
 pub returns-in-Err-clause-step : goal.returns-in-Err-clause-step
 returns-in-Err-clause-step c = record { same = c.begin.ensures.same; own = tt }
