@@ -12,7 +12,7 @@ ghost use Rattle.mg_check_parts.specs.Refusals.{IsNotDevice};
 ghost use Rattle.mg_check.specs.Rest.{Compares, ComparesByText, ComparesTold, HaveSizes, IsTold, PartsStand, RestStands, SetChecked};
 ghost use Rattle.mg_model.specs.Terms.{terms_and_numbers};
 
-use crate::counting::check_terms;
+use crate::counting::{CountedSet, check_terms};
 use crate::index::check_index;
 use mg_check_index::{Indexed, SKIP_ENTRY_BYTES};
 use mg_check_text::{load_text, read_text};
@@ -123,7 +123,13 @@ fn check_parts<S: Store>(
 {
     let documents = head.documents;
     let size = run_size(head);
-    let counts = match check_terms(alloc, store, base, reader, table, size, documents) {
+    let counted = CountedSet {
+        base,
+        table,
+        cap: size,
+        documents,
+    };
+    let counts = match check_terms(alloc, store, reader, &counted) {
         Ok(counts) => counts,
         Err(refusal) => return Err(refusal),
     };

@@ -19,6 +19,15 @@ use mg_model::TermTable;
 use mg_text::TextReader;
 use std::alloc::{AllocError, Global};
 
+/// The base of a set, the terms of its text, how many occurrences go to a run, and how many documents there are.
+#[derive(Drop)]
+pub(crate) struct CountedSet<'t> {
+    pub(crate) base: &'t str,
+    pub(crate) table: &'t TermTable,
+    pub(crate) cap: u32,
+    pub(crate) documents: u32,
+}
+
 /// What the text tells of the terms of a collection.
 #[derive(Drop)]
 pub(crate) struct Counts {
@@ -112,27 +121,24 @@ fn count_text<S: Store>(
 pub(crate) fn check_terms<S: Store>(
     alloc: Global,
     store: &mut S,
-    base: &str,
     reader: &mut TextReader<'_, S>,
-    table: &TermTable,
-    cap: u32,
-    documents: u32,
+    of: &CountedSet<'_>,
 ) -> Result<Counts, PartErr>
-    requires text { HasTerms reader.old (S.files store.old) table.now documents }
-    requires least { least_cap ≤ cap }
-    requires most { cap ≤ greatest_cap }
+    requires text { HasTerms reader.old (S.files store.old) of.now.table.now of.now.documents }
+    requires least { least_cap ≤ of.now.cap }
+    requires most { of.now.cap ≤ greatest_cap }
     ensures counted { WhereTextStands reader.old (S.files store.old)
-        (λ text. IfOk result (IsCountOf base.entry.now (S.files store.old) cap text)) }
+        (λ text. IfOk result (IsCountOf of.now.base.now (S.files store.old) of.now.cap text)) }
     ensures other { WhereTextStands reader.old (S.files store.old)
-        (RefutesTerms (S.files store.old) base.entry.now cap result) }
+        (RefutesTerms (S.files store.old) of.now.base.now of.now.cap result) }
     ensures text { Between S.files S.reads S.faults store.old store.new
         (ReadsText reader.old reader.new result) }
 {
-    let mut tally = match Tally::new(alloc, base, table.count(), cap) {
+    let mut tally = match Tally::new(alloc, of.base, of.table.count(), of.cap) {
         Ok(tally) => tally,
         Err(AllocError) => return Err(PartErr::Memory),
     };
-    match count_text(alloc, store, reader, table, documents, &mut tally) {
+    match count_text(alloc, store, reader, of.table, of.documents, &mut tally) {
         Ok(()) => {}
         Err(refusal) => return Err(refusal),
     }

@@ -7,8 +7,8 @@ use Rattle.mg_check.proofs.counting.check_terms.Goals as goal
 
 pub count_text-requires-clause-tallied : goal.count_text-requires-clause-tallied
 count_text-requires-clause-tallied g c =
-    text_none c.in-Ok.tally (g.S.Store.files c.args.store.now) c.args.table.now.terms c.args.reader.now
-    (c.in-Ok.ensures.tallied (g.S.Store.files c.args.store.now) c.args.table.now.terms (sym c.count.ensures.count))
+    text_none c.in-Ok.tally (g.S.Store.files c.args.store.now) c.args.of.now.table.now.terms c.args.reader.now
+    (c.in-Ok.ensures.tallied (g.S.Store.files c.args.store.now) c.args.of.now.table.now.terms (sym c.count.ensures.count))
 
 pub returns-in-Err-clause-text : goal.returns-in-Err-clause-text
 returns-in-Err-clause-text g c = text_own Memory _ _ _ c.requires.text.fits tt
@@ -16,8 +16,8 @@ returns-in-Err-clause-text g c = text_own Memory _ _ _ c.requires.text.fits tt
 pub returns-in-Err-count_text-clause-other : goal.returns-in-Err-count_text-clause-other
 returns-in-Err-count_text-clause-other g c = λ text stand.
     let files = g.S.Store.files c.args.store.now in
-    refuted (AreOwn c.in-Ok.tally files text) (TermsStand c.args.base.now files c.args.cap text) {T = Unit {0}} (Err c.in-Err-count_text.refusal)
-    (stand_own c.in-Ok.tally files c.args.base.now c.args.cap text (record { weights = c.in-Ok.ensures.weights; run = c.in-Ok.ensures.run; cap_is = c.in-Ok.ensures.cap }))
+    refuted (AreOwn c.in-Ok.tally files text) (TermsStand c.args.of.now.base.now files c.args.of.now.cap text) {T = Unit {0}} (Err c.in-Err-count_text.refusal)
+    (stand_own c.in-Ok.tally files c.args.of.now.base.now c.args.of.now.cap text (record { weights = c.in-Ok.ensures.weights; run = c.in-Ok.ensures.run; cap_is = c.in-Ok.ensures.cap }))
     (c.in-Err-count_text.ensures.other text stand)
 
 pub returns-in-Err-count_text-clause-text : goal.returns-in-Err-count_text-clause-text
@@ -28,7 +28,7 @@ returns-clause-counted g c = λ text stand.
     let it = c.in-Ok-count_text.ensures.tallied text stand in
     record {
       stand =
-          own_stand c.in-Ok.tally (g.S.Store.files c.args.store.now) c.args.base.now c.args.cap text
+          own_stand c.in-Ok.tally (g.S.Store.files c.args.store.now) c.args.of.now.base.now c.args.of.now.cap text
           (record { weights = c.in-Ok.ensures.weights; run = c.in-Ok.ensures.run; cap_is = c.in-Ok.ensures.cap }) it.own;
       docs = c.docs.ensures ∙ it.docs;
       occurrences = c.occurrences-occurrences.ensures ∙ it.occurrences;
