@@ -46,33 +46,39 @@ impl CodedDoc {
     }
 }
 
+// One stream of a model.
+#[derive(Drop)]
+struct ModelStream<'m> {
+    model: &'m TextModel,
+    stream: Stream,
+}
+
 // Writes the codeword of a piece and counts it; None where the piece has none.
 fn put_piece<S: Store>(
     writer: &mut TextWriter<'_>,
     store: &mut S,
-    model: &TextModel,
-    stream: Stream,
+    of: &ModelStream<'_>,
     piece: &[u8],
     counts: &mut Vec<u64>,
     recent: &mut Recent,
 ) -> Result<Option<()>, PutErr>
     requires took { (bits : Bits) × IsOnText writer.old (S.files store.old) [] bits }
     requires more { 0 < writer.old.left }
-    requires turn { stream ≡ turn writer.old.left }
-    requires keeps { IsStreamCode (code_of stream model.now) }
-    requires room { HasRoom (code_of stream model.now) counts.old.items 1 }
-    ensures put { WherePut result (PutsPiece S.files store.old store.new stream model.now piece.now
-        writer.old writer.new counts.old.items counts.new.items) }
-    ensures unknown { WhereUnknown result (Contains (code_of stream model.now).pieces piece.now →
-        ⊥) }
+    requires turn { of.now.stream ≡ turn writer.old.left }
+    requires keeps { IsStreamCode (code_of of.now.stream of.now.model.now) }
+    requires room { HasRoom (code_of of.now.stream of.now.model.now) counts.old.items 1 }
+    ensures put { WherePut result (PutsPiece S.files store.old store.new of.now.stream
+        of.now.model.now piece.now writer.old writer.new counts.old.items counts.new.items) }
+    ensures unknown { WhereUnknown result
+        (Contains (code_of of.now.stream of.now.model.now).pieces piece.now → ⊥) }
 {
     // Laws of symbols.
     symbol_and_piece();
-    let symbol = match recent.symbol(model, stream, piece) {
+    let symbol = match recent.symbol(of.model, of.stream, piece) {
         Some(symbol) => symbol,
         None => return Ok(None),
     };
-    match writer.put_piece(store, model, stream, symbol) {
+    match writer.put_piece(store, of.model, of.stream, symbol) {
         Ok(()) => {}
         Err(refusal) => return Err(refusal),
     }
@@ -98,11 +104,14 @@ fn put_pair<S: Store>(
         (S.files store.new) uses.old uses.new) }
     ensures unknown { WhereUnknown result (HasCodewords model.now (pair_of pair.entry) → ⊥) }
 {
+    let words = ModelStream {
+        model,
+        stream: Stream::Words,
+    };
     match put_piece(
         writer,
         store,
-        model,
-        Stream::Words,
+        &words,
         pair.word,
         &mut uses.words,
         &mut uses.recent_words,
@@ -111,11 +120,14 @@ fn put_pair<S: Store>(
         Ok(None) => return Ok(None),
         Err(refusal) => return Err(refusal),
     }
+    let others = ModelStream {
+        model,
+        stream: Stream::Others,
+    };
     put_piece(
         writer,
         store,
-        model,
-        Stream::Others,
+        &others,
         pair.other,
         &mut uses.others,
         &mut uses.recent_others,
