@@ -4,7 +4,8 @@
 //! this in nothing: each document, pair and piece is compared with the plan, and a difference is
 //! refused with both numbers. So whatever a store does between the passes, no writer below is handed
 //! what it can't take.
-ghost use Rattle.std.specs.Prelude.{◌≡◌, ◌≤◌, ◌<◌, ◌*◌, ◌+◌, ◌/◌, ◌-◌, ◌∷◌, ℕ, List, [], length, get_or, IfOk, Some, slice_get};
+ghost use Rattle.std.specs.Prelude.{◌≡◌, ◌≤◌, ◌<◌, ◌*◌, ◌+◌, ◌/◌, ◌-◌, ◌∷◌, ℕ, List, [], length, get_or, IfOk, Some, position, slice_get};
+ghost use Rattle.std.specs.Str.{bytes_eq};
 ghost use Rattle.mg_dev.specs.Moments.{Between};
 ghost use Rattle.mg_defs.specs.Marks.{code_of, piece as piece_mark};
 ghost use Rattle.mg_count.specs.DocCounting.{AreDocCounts};
@@ -21,12 +22,40 @@ use crate::inverter::Inverter;
 use crate::mark_writer::MarkWriter;
 use mg_count::{DocCounts, Plan};
 use mg_dev::{Fault, PutErr, Store, What};
-use mg_model::{symbol_and_piece, terms_are_the_dictionary, words_have_terms};
+use mg_model::{Recent, TextModel, symbol_and_piece, terms_are_the_dictionary, words_have_terms};
 use mg_parse::Stream;
 use mg_runs::{Pool, runs_stay};
 use mg_text_writer::{TextWriter, pieces_make_documents};
 use std::alloc::Global;
 use std::marker::Model;
+
+/// Where the pieces of both streams stand that were looked up last.
+#[derive(Drop)]
+struct RecentPieces {
+    words: Recent,
+    others: Recent,
+}
+
+impl RecentPieces {
+    // No piece was looked up.
+    fn new(alloc: Global) -> Self {
+        RecentPieces {
+            words: Recent::new(alloc),
+            others: Recent::new(alloc),
+        }
+    }
+
+    // The symbol of a piece of the stream, as the model tells it.
+    #[inline]
+    fn symbol(&mut self, model: &TextModel, stream: Stream, piece: &[u8]) -> Option<u32>
+        ensures { result ≡ position (bytes_eq piece.now) (code_of stream model.now).pieces }
+    {
+        match stream {
+            Stream::Words => model.symbol_near(stream, piece, &mut self.words),
+            Stream::Others => model.symbol_near(stream, piece, &mut self.others),
+        }
+    }
+}
 
 /// Writes documents by the plan of the first pass, and the occurrences of their terms as runs.
 #[derive(Drop)]
@@ -35,6 +64,7 @@ pub(crate) struct SecondPass<'a> {
     plan: &'a Plan,
     text: TextWriter<'a>,
     index: Inverter<'a>,
+    recent: RecentPieces,
     doc: u32,
     left: u64,
 }
@@ -80,6 +110,7 @@ impl<'a> SecondPass<'a> {
             plan,
             text,
             index,
+            recent: RecentPieces::new(alloc),
             doc: 0,
             left: 0,
         })
@@ -98,15 +129,35 @@ impl<'a> SecondPass<'a> {
         ensures { Between S.files S.reads S.faults store.old store.new
             (PassStep self.old self.new (piece_mark stream piece.now ∷ []) result) }
     {
+        let plan = self.plan;
+        let symbol = match self.recent.symbol(&plan.model, stream, piece) {
+            Some(symbol) => symbol,
+            None => return Err(unknown(stream)),
+        };
+        self.put_symbol(store, stream, symbol, piece)
+    }
+
+    // The same of a piece whose symbol is found.
+    #[inline]
+    fn put_symbol<S: Store>(
+        &mut self,
+        store: &mut S,
+        stream: Stream,
+        symbol: u32,
+        _piece: &[u8],
+    ) -> Result<(), Fault>
+        requires next { IsNext self.old (S.files store.old) (piece_mark stream _piece.now ∷ []) }
+        requires more { 0 < self.old.left }
+        requires symbol { position (bytes_eq _piece.now) (code_of stream self.old.plan.code).pieces
+            ≡ Some symbol }
+        ensures { Between S.files S.reads S.faults store.old store.new
+            (PassStep self.old self.new (piece_mark stream _piece.now ∷ []) result) }
+    {
         // Laws: of the stream whose turn it is, of runs while the text is written, of symbols.
         pieces_make_documents();
         runs_stay();
         symbol_and_piece();
         let plan = self.plan;
-        let symbol = match plan.model.symbol(stream, piece) {
-            Some(symbol) => symbol,
-            None => return Err(unknown(stream)),
-        };
         match self.text.put_piece(store, &plan.model, stream, symbol) {
             Ok(()) => {}
             Err(refusal) => return Err(Fault::of_store(refusal)),
