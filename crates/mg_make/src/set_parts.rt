@@ -86,19 +86,20 @@ pub(crate) fn open_parts<'a, S: Store>(
 /// Ends what was put: what is met at the end is written, and then text and runs are ended.
 pub(crate) fn end_pass<'a, S: Store, W: MarkWriter<'a, S> + Drop>(
     store: &mut S,
-    scanner: &mut Scanner,
+    scanner: Scanner,
     writer: W,
 ) -> Result<Inverted<'a>, Fault>
-    requires put { (fed : List ℕ) × (met : List Mark) × HasMet scanner.old fed met
+    requires put { (fed : List ℕ) × (met : List Mark) × HasMet scanner fed met
         × HasWritten (W.pass writer) (S.files store.old) met × (length fed < 2 ^ 32) }
-    ensures handed { ForScanned scanner.old (W.pass writer) (S.files store.old)
+    ensures handed { ForScanned scanner (W.pass writer) (S.files store.old)
         (HandsFor (W.pass writer) (S.files store.old) (S.files store.new) result) }
     ensures step { Between S.files S.reads S.faults store.old store.new
         (SortStep OfSecond (W.pass writer).base) }
-    ensures refused { ScannedRefused scanner.old (W.pass writer) S.files S.faults store.old
+    ensures refused { ScannedRefused scanner (W.pass writer) S.files S.faults store.old
         store.new result }
-    ensures tells { ScannedTells scanner.old (W.pass writer) (S.files store.old) result }
+    ensures tells { ScannedTells scanner (W.pass writer) (S.files store.old) result }
 {
+    let mut scanner = scanner;
     let mut writer = writer;
     scanner.finish();
     match put_marks(&mut writer, store, scanner.met()) {

@@ -185,14 +185,14 @@ impl<'a> SetWriter<'a> {
             base,
             plan,
             limit,
-            mut scanner,
+            scanner,
             pass,
             sums,
             size,
         } = self;
         // By this law Text and Places hold the documents that were written.
         text_has_its_documents();
-        let mut inverted = match end_pass(store, &mut scanner, pass) {
+        let mut inverted = match end_pass(store, scanner, pass) {
             Ok(inverted) => inverted,
             Err(refusal) => return Err(refusal),
         };

@@ -12,7 +12,7 @@ use Rattle.mg_make.proofs.set_parts.end_pass.Goals as goal
 pub put_marks-requires : goal.put_marks-requires
 put_marks-requires g c =
     let next = marks_of c.met.result.now in
-    let whole : ((fed : List ℕ) (met : List Mark) → HasMet c.args.scanner.now fed met → marks fed ≡ met ++ next)
+    let whole : ((fed : List ℕ) (met : List Mark) → HasMet c.args.scanner fed met → marks fed ≡ met ++ next)
     = λ fed met h. subst (λ (m : Meeting). marks fed ≡ met ++ marks_of m) (sym c.met.ensures) (c.finish.ensures.met fed met h) in
     λ k. (
       (refl, tt),
@@ -23,7 +23,7 @@ put_marks-requires g c =
 pub returns-in-Err-clause-refused : goal.returns-in-Err-clause-refused
 returns-in-Err-clause-refused g c = λ fed met scanned written few.
     let next = marks_of c.met.result.now in
-    let whole : ((fed : List ℕ) (met : List Mark) → HasMet c.args.scanner.now fed met → marks fed ≡ met ++ next)
+    let whole : ((fed : List ℕ) (met : List Mark) → HasMet c.args.scanner fed met → marks fed ≡ met ++ next)
     = λ fed met h. subst (λ (m : Meeting). marks fed ≡ met ++ marks_of m) (sym c.met.ensures) (c.finish.ensures.met fed met h) in
     stops_before (g.W.MarkWriter.pass c.args.writer) (g.S.Store.files c.args.store.now) fed met next
     (Rose (g.S.Store.faults c.args.store.now) (g.S.Store.faults c.put_marks.new.store)) c.in-Err.refusal written (whole fed met scanned) few c.in-Err.ensures.refused
@@ -31,7 +31,7 @@ returns-in-Err-clause-refused g c = λ fed met scanned written few.
 pub end_marks-requires : goal.end_marks-requires
 end_marks-requires g c =
     let next = marks_of c.met.result.now in
-    let whole : ((fed : List ℕ) (met : List Mark) → HasMet c.args.scanner.now fed met → marks fed ≡ met ++ next)
+    let whole : ((fed : List ℕ) (met : List Mark) → HasMet c.args.scanner fed met → marks fed ≡ met ++ next)
     = λ fed met h. subst (λ (m : Meeting). marks fed ≡ met ++ marks_of m) (sym c.met.ensures) (c.finish.ensures.met fed met h) in
     λ k. (
       (refl, tt),
@@ -43,7 +43,7 @@ end_marks-requires g c =
 pub returns-clause-handed : goal.returns-clause-handed
 returns-clause-handed g c = λ fed met scanned written few.
     let next = marks_of c.met.result.now in
-    let whole : ((fed : List ℕ) (met : List Mark) → HasMet c.args.scanner.now fed met → marks fed ≡ met ++ next)
+    let whole : ((fed : List ℕ) (met : List Mark) → HasMet c.args.scanner fed met → marks fed ≡ met ++ next)
     = λ fed met h. subst (λ (m : Meeting). marks fed ≡ met ++ marks_of m) (sym c.met.ensures) (c.finish.ensures.met fed met h) in
     let all : HasWritten (g.W.MarkWriter.pass c.put_marks.new.writer) (g.S.Store.files c.put_marks.new.store) (marks fed)
     = all_written (g.W.MarkWriter.pass c.args.writer) (g.W.MarkWriter.pass c.put_marks.new.writer) (g.S.Store.files c.args.store.now) (g.S.Store.files c.put_marks.new.store) fed met next c.in-Ok.ensures.written written (whole fed met scanned) in
@@ -60,15 +60,15 @@ returns-clause-step g c = sort_more (sort_pass c.in-Ok.ensures) (sort_for c.in-O
 pub returns-clause-refused : goal.returns-clause-refused
 returns-clause-refused g c =
     let next = marks_of c.met.result.now in
-    let whole : ((fed : List ℕ) (met : List Mark) → HasMet c.args.scanner.now fed met → marks fed ≡ met ++ next)
+    let whole : ((fed : List ℕ) (met : List Mark) → HasMet c.args.scanner fed met → marks fed ≡ met ++ next)
     = λ fed met h. subst (λ (m : Meeting). marks fed ≡ met ++ marks_of m) (sym c.met.ensures) (c.finish.ensures.met fed met h) in
-    end_refused c.end_marks.result c.args.scanner.now (g.W.MarkWriter.pass c.args.writer) (g.W.MarkWriter.pass c.put_marks.new.writer) (g.S.Store.files c.args.store.now) (g.S.Store.files c.put_marks.new.store) next _ _
+    end_refused c.end_marks.result c.args.scanner (g.W.MarkWriter.pass c.args.writer) (g.W.MarkWriter.pass c.put_marks.new.writer) (g.S.Store.files c.args.store.now) (g.S.Store.files c.put_marks.new.store) next _ _
     (λ rose. rose_behind _ _ _ c.in-Ok.ensures.faults rose) c.in-Ok.ensures.same c.in-Ok.ensures.wrote.told c.in-Ok.ensures.written whole c.end_marks.ensures.refused
 
 pub returns-in-Err-clause-tells : goal.returns-in-Err-clause-tells
 returns-in-Err-clause-tells g c = λ fed met scanned written few.
     let next = marks_of c.met.result.now in
-    let whole : ((fed : List ℕ) (met : List Mark) → HasMet c.args.scanner.now fed met → marks fed ≡ met ++ next)
+    let whole : ((fed : List ℕ) (met : List Mark) → HasMet c.args.scanner fed met → marks fed ≡ met ++ next)
     = λ fed met h. subst (λ (m : Meeting). marks fed ≡ met ++ marks_of m) (sym c.met.ensures) (c.finish.ensures.met fed met h) in
     tells_before (g.W.MarkWriter.pass c.args.writer) (g.S.Store.files c.args.store.now) fed met next
     (Rose (g.S.Store.faults c.args.store.now) (g.S.Store.faults c.put_marks.new.store)) c.in-Err.refusal written (whole fed met scanned) few c.in-Err.ensures.refused
@@ -76,7 +76,7 @@ returns-in-Err-clause-tells g c = λ fed met scanned written few.
 pub returns-clause-tells : goal.returns-clause-tells
 returns-clause-tells g c =
     let next = marks_of c.met.result.now in
-    let whole : ((fed : List ℕ) (met : List Mark) → HasMet c.args.scanner.now fed met → marks fed ≡ met ++ next)
+    let whole : ((fed : List ℕ) (met : List Mark) → HasMet c.args.scanner fed met → marks fed ≡ met ++ next)
     = λ fed met h. subst (λ (m : Meeting). marks fed ≡ met ++ marks_of m) (sym c.met.ensures) (c.finish.ensures.met fed met h) in
-    end_tells c.end_marks.result c.args.scanner.now (g.W.MarkWriter.pass c.args.writer) (g.W.MarkWriter.pass c.put_marks.new.writer) (g.S.Store.files c.args.store.now)
+    end_tells c.end_marks.result c.args.scanner (g.W.MarkWriter.pass c.args.writer) (g.W.MarkWriter.pass c.put_marks.new.writer) (g.S.Store.files c.args.store.now)
     (g.S.Store.files c.put_marks.new.store) next c.in-Ok.ensures.same c.in-Ok.ensures.written whole c.end_marks.ensures.tells
