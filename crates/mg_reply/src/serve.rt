@@ -148,6 +148,74 @@ fn serve_line<O: Sink, A: Answerer>(
     }
 }
 
+// The same, where the reader of the lines has read nothing.
+fn serve_from<I: Source, O: Sink, A: Answerer>(
+    hearing: Hearing,
+    answerer: &mut A,
+    dev: &mut A::Dev,
+    reader: &mut LineReader,
+    input: &mut I,
+    out: &mut O,
+) -> Result<(), ServeErr>
+    requires fits { A.fits (A.state answerer.old dev.old) }
+    requires unread { reader.old ≡ record { held = []; line = []; used = 0 } }
+    ensures all { ForEach (A.answers (A.state answerer.old dev.old))
+        (PrintsAll I.left O.written input.old out.old out.new result (heard_session hearing)) }
+    ensures prefix { ForEach (A.answers (A.state answerer.old dev.old))
+        (PrintsPrefix I.left O.written input.old out.old out.new (heard_session hearing)) }
+    // Whatever the state answers by, each line was answered.
+    ensures printed { ForSome (I.left input.old) (λ bytes. OnOk result
+        (InputPrints hearing (A.prints (A.state answerer.old dev.old))
+        (O.written out.old) (O.written out.new) bytes)) }
+    ensures left { ForSome (I.left input.old)
+        (λ bytes. OnOk result (LeftEnough bytes (I.left input.new))) }
+    ensures within { ForSome (I.left input.old) (λ bytes.
+        OnOk result (is_too_much input_limit bytes ≡ false)) }
+    ensures answered { AnsweredSome hearing A.after (A.state answerer.old dev.old)
+        (A.state answerer.new dev.new) (I.left input.old) }
+    ensures in_turn { ForEach (A.answers (A.state answerer.old dev.old))
+        (λ reply. RepliedInTurn hearing A.after (A.state answerer.old dev.old)
+        (A.state answerer.new dev.new)
+        reply (I.left input.old) (I.left input.new) (O.written out.old) (O.written out.new)) }
+    // Where the input failed, no whole line was left without its reply.
+    ensures broken { ForEach (A.answers (A.state answerer.old dev.old)) (λ reply.
+        IsErrOf result serve.Read → ForSome (I.left input.old) (RepliedBroken hearing reply
+        (O.written out.old) (O.written out.new) (I.left input.new))) }
+    ensures answered_broken { IsErrOf result serve.Read → ForSome (I.left input.old)
+        (AnsweredBroken hearing (A.prints (A.state answerer.old dev.old))
+        (O.written out.old) (O.written out.new) (I.left input.new)) }
+    ensures read_later { I.faults input.old ≤ I.faults input.new }
+    ensures write_later { O.faults out.old ≤ O.faults out.new }
+    ensures cause { EndsWhere I.left I.faults O.faults A.state A.may_stop input.old input.new
+        out.old out.new
+        answerer.old answerer.new dev.old dev.new result }
+{
+    let mut now = Settings::start();
+    'lines: loop {
+        match reader.next(input) {
+            Ok(LineEvent::End) => return Ok(()),
+            Ok(LineEvent::TooLong) => match put_too_long(out) {
+                Ok(()) => {}
+                Err(error) => return Err(ServeErr::Show(refused_put(error))),
+            },
+            Ok(LineEvent::Line) => match serve_line(
+                hearing,
+                answerer,
+                dev,
+                reader.line(),
+                &mut now,
+                out,
+            ) {
+                Ok(false) => {}
+                Ok(true) => return Ok(()),
+                Err(error) => return Err(ServeErr::Show(error)),
+            },
+            Err(LineErr::Read) => return Err(ServeErr::Read),
+            Err(LineErr::TooMuch) => return Err(ServeErr::TooMuch),
+        }
+    }
+}
+
 /// Answers the lines of an input in turn, to its end or to a line `.quit`.
 ///
 /// It reads ahead, so bytes of the input behind a line `.quit` may be taken too. Where the input is
@@ -199,31 +267,5 @@ pub fn serve_lines<I: Source, O: Sink, A: Answerer>(
         answerer.old answerer.new dev.old dev.new result }
 {
     let mut reader = LineReader::new();
-    let mut now = Settings::start();
-    'lines: loop {
-        let event = match reader.next(input) {
-            Ok(event) => event,
-            Err(LineErr::Read) => return Err(ServeErr::Read),
-            Err(LineErr::TooMuch) => return Err(ServeErr::TooMuch),
-        };
-        match event {
-            LineEvent::End => return Ok(()),
-            LineEvent::TooLong => match put_too_long(out) {
-                Ok(()) => {}
-                Err(error) => return Err(ServeErr::Show(refused_put(error))),
-            },
-            LineEvent::Line => match serve_line(
-                hearing,
-                answerer,
-                dev,
-                reader.line(),
-                &mut now,
-                out,
-            ) {
-                Ok(false) => {}
-                Ok(true) => return Ok(()),
-                Err(error) => return Err(ServeErr::Show(error)),
-            },
-        }
-    }
+    serve_from(hearing, answerer, dev, &mut reader, input, out)
 }

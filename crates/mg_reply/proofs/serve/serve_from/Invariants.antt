@@ -4,7 +4,7 @@ use Rattle.mg_dev.specs.Streams.{prepended}
 use Rattle.mg_defs.specs.Limits.{input_limit}
 use Rattle.mg_reply.specs.PrintedLines.{AnsweredLines}
 use Rattle.mg_reply.specs.Served.{Served, Counted}
-use Rattle.mg_reply.proofs.serve.serve_lines.Given as goal
+use Rattle.mg_reply.proofs.serve.serve_from.Given as goal
 
 abbrev pub invariant-lines : goal.invariant-lines
 invariant-lines g l = record {
