@@ -1,8 +1,6 @@
-use Rattle.std.proofs.Common.{arith, ◌+◌, refl}
+use Rattle.std.proofs.Common.{refl}
 use Rattle.mg_dev.specs.declared.part_err.PartErr.TheVariants.{Memory}
-use Rattle.mg_check_index.proofs.CallerLemmas.{same_more}
-use Rattle.mg_check.proofs.DocumentLaws.{room_for_all, room_stays, upto_all, upto_none}
-use Rattle.mg_check_text.proofs.CallerLemmas.{stands_on, terms_here, text_none, text_own, text_then}
+use Rattle.mg_check_text.proofs.CallerLemmas.{text_own}
 use Rattle.mg_check.proofs.postings.read_postings.Goals as goal
 
 pub returns-in-Err-clause-filled : goal.returns-in-Err-clause-filled
@@ -11,57 +9,3 @@ returns-in-Err-clause-filled g c = record {
   rooms = record { first = refl; starts = refl; count = refl };
   text = text_own Memory _ _ _ c.requires.text.fits tt;
 }
-
-pub loop-before-init : goal.loop-before-init
-loop-before-init g c = record {
-  text = text_none _ _ _ c.requires.text.fits;
-  laid = c.requires.fill.laid;
-  rooms = record { first = refl; starts = refl; count = refl };
-  held = λ collection stand room. upto_none c.args.lists.now collection c.requires.empty;
-}
-
-pub read_document-requires-clause-text : goal.read_document-requires-clause-text
-read_document-requires-clause-text g c = let text = c.loop-before.invariant.text in terms_here text.fits text.same c.requires.text
-
-pub read_document-requires-clause-within : goal.read_document-requires-clause-within
-read_document-requires-clause-within g c = omega (arith, c.loop-before-test.true, c.requires.text.all, c.loop-before.invariant.text.same.documents)
-
-pub read_document-requires-clause-fill : goal.read_document-requires-clause-fill
-read_document-requires-clause-fill g c =
-    let inv = c.loop-before.invariant in
-    record { laid = inv.laid; range = omega (arith, c.requires.fill.range, inv.rooms.first, inv.rooms.count) }
-
-pub returns-in-Err-read_document-clause-never_bad : goal.returns-in-Err-read_document-clause-never_bad
-returns-in-Err-read_document-clause-never_bad g c = λ collection stand room.
-    let inv = c.loop-before.invariant in
-    let there = stands_on _ _ _ _ collection inv.text.same inv.text.looks.files stand in
-    let enough = room_for_all c.loop-before.lists collection (c.loop-before.before + 1)
-    (omega (arith, c.loop-before-test.true, c.requires.text.all, stand.documents)) (room_stays _ _ collection inv.rooms room).each in
-    c.in-Err-read_document.ensures.never_bad collection there (inv.held collection stand room) enough
-
-pub returns-in-Err-read_document-clause-filled : goal.returns-in-Err-read_document-clause-filled
-returns-in-Err-read_document-clause-filled g c =
-    let inv = c.loop-before.invariant in
-    let filled = c.in-Err-read_document.ensures.filled in
-    record { laid = filled.laid; rooms = same_more _ _ _ inv.rooms filled.rooms; text = text_then inv.text filled.text }
-
-pub loop-before-preserved : goal.loop-before-preserved
-loop-before-preserved g c =
-    let inv = c.loop-before.invariant in
-    record {
-      text = text_then inv.text c.in-Ok-read_document.ensures.filled.text;
-      laid = c.in-Ok-read_document.ensures.filled.laid;
-      rooms = same_more _ _ _ inv.rooms c.in-Ok-read_document.ensures.filled.rooms;
-      held = λ collection stand room.
-          c.in-Ok-read_document.ensures.held collection (stands_on _ _ _ _ collection inv.text.same inv.text.looks.files stand) (inv.held collection stand room)
-          (room_for_all c.loop-before.lists collection (c.loop-before.before + 1) (omega (arith, c.loop-before-test.true, c.requires.text.all, stand.documents))
-          (room_stays _ _ collection inv.rooms room).each);
-    }
-
-pub returns-clause-held : goal.returns-clause-held
-returns-clause-held g c = λ collection stand room.
-    upto_all c.loop-before.lists collection c.loop-before.before
-    (omega (arith, c.loop-before-test.false, c.loop-before.auto, c.requires.text.all, stand.documents)) (c.loop-before.invariant.held collection stand room)
-
-pub returns-clause-filled : goal.returns-clause-filled
-returns-clause-filled g c = let inv = c.loop-before.invariant in record { laid = inv.laid; rooms = inv.rooms; text = inv.text }

@@ -3,7 +3,7 @@ use Rattle.mg_dev.specs.Moments.{Between}
 use Rattle.mg_text.specs.Reading.{TextStands}
 use Rattle.mg_check_index.specs.Listing.{HasRoomForAll, HoldsLists, IsLaidOut, SameRooms, lists_upto}
 use Rattle.mg_check_text.specs.Reads.{HasReadText}
-use Rattle.mg_check.proofs.postings.read_postings.Given as goal
+use Rattle.mg_check.proofs.postings.read_documents.Given as goal
 
 abbrev pub invariant-loop-before : goal.invariant-loop-before
 invariant-loop-before g l = record {
