@@ -1,5 +1,5 @@
 -- The lines of faults.
-use Rattle.std.specs.Prelude.{ℕ, List, [], ◌∷◌, codes, decimal}
+use Rattle.std.specs.Prelude.{⊤, ℕ, List, [], ◌∷◌, codes, decimal}
 use Rattle.std.specs.List.{concat}
 use Rattle.mg_defs.specs.Limits.{input_limit, most_rotations, version_2}
 use Rattle.mg_defs.specs.declared.Stream.{Stream}
@@ -45,3 +45,15 @@ fault_line InputTooLong = concat (codes "mg: the input is longer than " ∷ deci
 fault_line SameName = codes "mg: both names are the same\n"
 fault_line (TooManyRotations count) = concat (codes "mg: the terms have " ∷ decimal count ∷
     codes " rotations, more than " ∷ decimal most_rotations ∷ codes "\n" ∷ [])
+
+-- its line has a limit, a number or a name in it
+abbrev pub HasPieces : Fault → Type 0
+HasPieces (Damaged bad) = ⊤
+HasPieces (TooLarge size most) = ⊤
+HasPieces TooManyDocuments = ⊤
+HasPieces (TooManyPieces stream) = ⊤
+HasPieces (Changed what first second) = ⊤
+HasPieces (NameClash part) = ⊤
+HasPieces InputTooLong = ⊤
+HasPieces (TooManyRotations count) = ⊤
+HasPieces fixed = ⊥

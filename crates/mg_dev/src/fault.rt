@@ -6,10 +6,11 @@ ghost use Rattle.mg_dev.specs.declared.fault.Fault.TheVariants.{Memory};
 use crate::{Bad, Part, PartErr, PutErr, ShowErr, What};
 use mg_defs::Stream;
 use std::alloc::{AllocError, AllocFailed};
+use std::fmt;
 
 /// Why a run stopped. Each has a status number, with which the program ends, and a line that the
 /// program writes to its standard error.
-#[derive(Clone, Copy, Debug, PartialEq, Eq)]
+#[derive(Clone, Copy, PartialEq, Eq)]
 pub enum Fault {
     /// The words after the program's name are no words of a tool.
     Usage,
@@ -46,6 +47,28 @@ pub enum Fault {
 }
 
 impl Fault {
+    /// The variant's name.
+    fn name(&self) -> &'static str {
+        match self {
+            Fault::Usage => "Usage",
+            Fault::StoreFault => "StoreFault",
+            Fault::ReadFault => "ReadFault",
+            Fault::WriteFault => "WriteFault",
+            Fault::NotBuilt => "NotBuilt",
+            Fault::Damaged(_) => "Damaged",
+            Fault::NoCollection => "NoCollection",
+            Fault::TooLarge { .. } => "TooLarge",
+            Fault::TooManyDocuments => "TooManyDocuments",
+            Fault::TooManyPieces { .. } => "TooManyPieces",
+            Fault::Changed { .. } => "Changed",
+            Fault::Memory => "Memory",
+            Fault::NameClash { .. } => "NameClash",
+            Fault::InputTooLong => "InputTooLong",
+            Fault::SameName => "SameName",
+            Fault::TooManyRotations { .. } => "TooManyRotations",
+        }
+    }
+
     /// The status number of a run that stopped for this.
     pub fn number(&self) -> u8
         ensures { result ≡ fault_number self.now }
@@ -89,6 +112,69 @@ impl Fault {
             PutErr::Memory => Fault::Memory,
         }
     }
+}
+
+// What is derived writes all fields of all variants in one function, which is dear to prove.
+impl fmt::Debug for Fault {
+    fn fmt<W: fmt::Write>(&self, f: &mut fmt::Formatter<W>) -> fmt::Result {
+        let name = self.name();
+        match self {
+            Fault::Damaged(bad) => debug_damaged(f, bad),
+            Fault::TooLarge { size, most } => debug_numbers(
+                f,
+                name,
+                ("size", *size),
+                ("most", *most),
+            ),
+            Fault::TooManyPieces { stream } => debug_field(f, name, "stream", stream),
+            Fault::Changed {
+                what,
+                first,
+                second,
+            } => debug_changed(f, *what, *first, *second),
+            Fault::NameClash { part } => debug_field(f, name, "part", part),
+            Fault::TooManyRotations { count } => debug_field(f, name, "count", count),
+            _ => f.write_str(name),
+        }
+    }
+}
+
+fn debug_damaged<W: fmt::Write>(f: &mut fmt::Formatter<W>, bad: &Bad) -> fmt::Result {
+    f.debug_tuple("Damaged").field(bad).finish()
+}
+
+fn debug_field<W: fmt::Write, T: fmt::Debug>(
+    f: &mut fmt::Formatter<W>,
+    name: &str,
+    field: &str,
+    value: &T,
+) -> fmt::Result {
+    f.debug_struct(name).field(field, value).finish()
+}
+
+fn debug_numbers<W: fmt::Write>(
+    f: &mut fmt::Formatter<W>,
+    name: &str,
+    first: (&str, u64),
+    second: (&str, u64),
+) -> fmt::Result {
+    f.debug_struct(name)
+        .field(first.0, &first.1)
+        .field(second.0, &second.1)
+        .finish()
+}
+
+fn debug_changed<W: fmt::Write>(
+    f: &mut fmt::Formatter<W>,
+    what: What,
+    first: u64,
+    second: u64,
+) -> fmt::Result {
+    f.debug_struct("Changed")
+        .field("what", &what)
+        .field("first", &first)
+        .field("second", &second)
+        .finish()
 }
 
 impl From<PartErr> for Fault {

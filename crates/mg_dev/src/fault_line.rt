@@ -1,9 +1,9 @@
 //! The line of a fault.
-ghost use Rattle.std.specs.Prelude.{◌≡◌};
+ghost use Rattle.std.specs.Prelude.{◌≡◌, IfSome, None};
 ghost use Rattle.std.specs.List.{flat_map};
 ghost use Rattle.mg_dev.specs.Streams.{AfterPut};
 ghost use Rattle.mg_dev.specs.Causes.{HasPutCause, HasLack};
-ghost use Rattle.mg_dev.specs.FaultLines.{piece_text, fault_line, stream_name};
+ghost use Rattle.mg_dev.specs.FaultLines.{piece_text, fault_line, stream_name, HasPieces};
 
 use crate::{Bad, Fault, Part, PutErr, Sink, What};
 use itoa::Buffer;
@@ -195,22 +195,35 @@ fn put_too_many_rotations<O: Sink>(out: &mut O, count: u64) -> Result<(), PutErr
     put_pieces(out, &pieces)
 }
 
-/// Writes the fault's line, with its line feed.
+/// The line of a fault in which no limit, number or name stands.
 #[tactic(auto, unfolding(crate::specs::FaultLines::fault_line))]
-pub fn put_fault_line<O: Sink>(out: &mut O, fault: &Fault) -> Result<(), PutErr>
-    ensures content { AfterPut (O.written out.old) (O.written out.new) (fault_line fault.now)
-        result }
+fn fixed_line(fault: &Fault) -> Option<&'static str>
+    ensures is { IfSome result (λ line. line.now ≡ fault_line fault.now) }
+    ensures none { result ≡ None → HasPieces fault.now }
+{
+    match *fault {
+        Fault::Usage => Some("mg: the words are not understood\n"),
+        Fault::StoreFault => Some("mg: the store failed\n"),
+        Fault::ReadFault => Some("mg: the input could not be read\n"),
+        Fault::WriteFault => Some("mg: the output could not be written\n"),
+        Fault::NotBuilt => Some("mg: nothing is built under this name\n"),
+        Fault::NoCollection => Some("mg: there is no such collection\n"),
+        Fault::Memory => Some("mg: out of memory\n"),
+        Fault::SameName => Some("mg: both names are the same\n"),
+        _ => None,
+    }
+}
+
+/// Writes the line of a fault by its pieces.
+fn put_by_pieces<O: Sink>(out: &mut O, fault: &Fault) -> Result<(), PutErr>
+    requires { HasPieces fault.now }
+    ensures content { AfterPut (O.written out.old) (O.written out.new)
+        (fault_line fault.now) result }
     ensures cause { HasPutCause (O.faults out.old) (O.faults out.new) result }
     ensures lack { HasLack (O.lacks out.old) (O.lacks out.new) result }
 {
     match *fault {
-        Fault::Usage => out.put(b"mg: the words are not understood\n"),
-        Fault::StoreFault => out.put(b"mg: the store failed\n"),
-        Fault::ReadFault => out.put(b"mg: the input could not be read\n"),
-        Fault::WriteFault => out.put(b"mg: the output could not be written\n"),
-        Fault::NotBuilt => out.put(b"mg: nothing is built under this name\n"),
         Fault::Damaged(bad) => put_damaged(out, bad),
-        Fault::NoCollection => out.put(b"mg: there is no such collection\n"),
         Fault::TooLarge { size, most } => put_too_large(out, size, most),
         Fault::TooManyDocuments => put_too_many_documents(out),
         Fault::TooManyPieces { stream } => put_too_many_pieces(out, stream),
@@ -219,10 +232,22 @@ pub fn put_fault_line<O: Sink>(out: &mut O, fault: &Fault) -> Result<(), PutErr>
             first,
             second,
         } => put_changed(out, what, first, second),
-        Fault::Memory => out.put(b"mg: out of memory\n"),
         Fault::NameClash { part } => put_name_clash(out, part),
         Fault::InputTooLong => put_input_too_long(out),
-        Fault::SameName => out.put(b"mg: both names are the same\n"),
         Fault::TooManyRotations { count } => put_too_many_rotations(out, count),
+        _ => unreachable!(),
+    }
+}
+
+/// Writes the fault's line, with its line feed.
+pub fn put_fault_line<O: Sink>(out: &mut O, fault: &Fault) -> Result<(), PutErr>
+    ensures content { AfterPut (O.written out.old) (O.written out.new) (fault_line fault.now)
+        result }
+    ensures cause { HasPutCause (O.faults out.old) (O.faults out.new) result }
+    ensures lack { HasLack (O.lacks out.old) (O.lacks out.new) result }
+{
+    match fixed_line(fault) {
+        Some(line) => out.put(line.as_bytes()),
+        None => put_by_pieces(out, fault),
     }
 }
