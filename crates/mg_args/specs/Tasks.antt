@@ -138,14 +138,9 @@ task_of (tool ∷ rest) =
 -- a task as the clauses see it
 abbrev pub as_task : Request → Task
 as_task (request.Build collection name budget) = build collection.now name.now budget
-as_task (request.Query name) = query name.now
-as_task (request.Decode name) = decode name.now
-as_task (request.Scan collection) = scan collection.now
+as_task (request.Named tool name) = task_at tool name.now
 as_task (request.Trial seed docs) = trial seed docs
 as_task (request.Migrate name new) = migrate name.now new.now
-as_task (request.Check name) = check name.now
-as_task (request.Wild name) = wild name.now
-as_task (request.Phrase name) = phrase name.now
 as_task (request.Merge first second new) = merge first.now second.now new.now
 
 -- the budget, and the number of documents, lie within their bounds

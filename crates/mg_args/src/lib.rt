@@ -17,5 +17,6 @@ mod taken;
 mod task;
 
 pub use laws::refused_words_ask_nothing;
+pub use name_tool::NameTool;
 pub use read::read_words;
 pub use task::Task;

@@ -1,18 +1,22 @@
 //! The tools that take one name.
 ghost use Rattle.std.specs.Prelude.{◌≡◌};
 ghost use Rattle.mg_args.specs.Commands.{IsOwnId};
-ghost use Rattle.mg_args.specs.Tasks.{as_task, name_id, task_at, IsWithin};
+ghost use Rattle.mg_args.specs.Tasks.{name_id};
 
-use crate::task::Task;
-
-/// A tool that takes one name.
-#[derive(Clone, Copy)]
-pub(crate) enum NameTool {
+/// A tool that takes one name: that of a set, or of the collection where the tool is `Scan`.
+#[derive(Clone, Copy, Debug, PartialEq, Eq)]
+pub enum NameTool {
+    /// Answers lines from the set.
     Query,
+    /// Prints the collection of the set.
     Decode,
+    /// Answers lines from the collection.
     Scan,
+    /// Decides whether the set stands for a collection.
     Check,
+    /// Answers patterns from the set.
     Wild,
+    /// Answers phrases from the set.
     Phrase,
 }
 
@@ -25,21 +29,6 @@ impl NameTool {
         match self {
             NameTool::Scan => "collection",
             _ => "name",
-        }
-    }
-
-    /// The task of the tool at this name.
-    pub(crate) fn task<'a>(self, name: &'a str) -> Task<'a>
-        ensures is { as_task result ≡ task_at self name.entry.now }
-        ensures within { IsWithin (as_task result) }
-    {
-        match self {
-            NameTool::Query => Task::Query { name },
-            NameTool::Decode => Task::Decode { name },
-            NameTool::Scan => Task::Scan { collection: name },
-            NameTool::Check => Task::Check { name },
-            NameTool::Wild => Task::Wild { name },
-            NameTool::Phrase => Task::Phrase { name },
         }
     }
 }

@@ -4,7 +4,7 @@ ghost use Rattle.std.specs.Option.{option_copied};
 ghost use Rattle.mg_args.specs.Commands.{name_app, IsOwnId, IsRefusedBy};
 ghost use Rattle.mg_args.specs.Tasks.{as_task, task_of, name_asked, build_asked, trial_asked, migrate_asked, merge_asked, named_asked, words_at, build_words, trial_words, migrate_words, merge_words, plain_name as plain_name_spec, AsksOf, IsWithin, IsRefused};
 
-use crate::name_tool::NameTool;
+use crate::NameTool;
 use crate::plain_words::{plain_build, plain_merge, plain_migrate, plain_name, plain_trial};
 use crate::taken::{build_taken, merge_taken, migrate_taken, name_taken, trial_taken};
 use crate::task::Task;
@@ -61,7 +61,7 @@ fn read_named<'a>(
         (named_asked named tool.entry.now (map string_bytes rest.entry.now)) result }
 {
     match read_name(alloc, tool, named.id(), rest, words)? {
-        Some(name) => Ok(Some(named.task(name))),
+        Some(name) => Ok(Some(Task::Named { tool: named, name })),
         None => Ok(None),
     }
 }

@@ -1,5 +1,7 @@
 //! What a command line asks for.
 
+use crate::NameTool;
+
 /// A tool, and the values of its arguments.
 #[derive(Clone, Copy, Debug, PartialEq, Eq)]
 pub enum Task<'a> {
@@ -9,17 +11,10 @@ pub enum Task<'a> {
         name: &'a str,
         budget: u64,
     },
-    /// Answers lines from the set `name`.
-    Query {
+    /// What a tool of one name does with it.
+    Named {
+        tool: NameTool,
         name: &'a str,
-    },
-    /// Prints the collection of the set `name`.
-    Decode {
-        name: &'a str,
-    },
-    /// Answers lines from the collection.
-    Scan {
-        collection: &'a str,
     },
     /// Tries the tools on a collection of `docs` documents that is made from `seed`.
     Trial {
@@ -30,18 +25,6 @@ pub enum Task<'a> {
     Migrate {
         name: &'a str,
         new: &'a str,
-    },
-    /// Decides whether the set `name` stands for a collection.
-    Check {
-        name: &'a str,
-    },
-    /// Answers patterns from the set `name`.
-    Wild {
-        name: &'a str,
-    },
-    /// Answers phrases from the set `name`.
-    Phrase {
-        name: &'a str,
     },
     /// Makes the set `new` of the sets `first` and `second` joined.
     Merge {

@@ -1,5 +1,5 @@
 //! What words ask, in rows.
-use mg_args::{Task, read_words};
+use mg_args::{NameTool, Task, read_words};
 use std::alloc::{AllocError, Global};
 use std::test::Fail;
 
@@ -39,12 +39,48 @@ static ASKED: [Row; 29] = [
     (&["build", "k", "n", "--budget=+04096"], LEAST),
     (&["build", "--budget=4096", "--", "k", "n"], LEAST),
     // Each tool has its words.
-    (&["query", "n"], Task::Query { name: "n" }),
-    (&["decode", "n"], Task::Decode { name: "n" }),
-    (&["scan", "k"], Task::Scan { collection: "k" }),
-    (&["check", "n"], Task::Check { name: "n" }),
-    (&["wild", "n"], Task::Wild { name: "n" }),
-    (&["phrase", "n"], Task::Phrase { name: "n" }),
+    (
+        &["query", "n"],
+        Task::Named {
+            tool: NameTool::Query,
+            name: "n",
+        },
+    ),
+    (
+        &["decode", "n"],
+        Task::Named {
+            tool: NameTool::Decode,
+            name: "n",
+        },
+    ),
+    (
+        &["scan", "k"],
+        Task::Named {
+            tool: NameTool::Scan,
+            name: "k",
+        },
+    ),
+    (
+        &["check", "n"],
+        Task::Named {
+            tool: NameTool::Check,
+            name: "n",
+        },
+    ),
+    (
+        &["wild", "n"],
+        Task::Named {
+            tool: NameTool::Wild,
+            name: "n",
+        },
+    ),
+    (
+        &["phrase", "n"],
+        Task::Named {
+            tool: NameTool::Phrase,
+            name: "n",
+        },
+    ),
     (
         &["migrate", "n", "m"],
         Task::Migrate {
@@ -64,10 +100,34 @@ static ASKED: [Row; 29] = [
         },
     ),
     // Names that begin with a dash stand behind two.
-    (&["scan", "--", "-x"], Task::Scan { collection: "-x" }),
-    (&["query", "--", "--"], Task::Query { name: "--" }),
-    (&["check", "--", "-h"], Task::Check { name: "-h" }),
-    (&["wild", "help"], Task::Wild { name: "help" }),
+    (
+        &["scan", "--", "-x"],
+        Task::Named {
+            tool: NameTool::Scan,
+            name: "-x",
+        },
+    ),
+    (
+        &["query", "--", "--"],
+        Task::Named {
+            tool: NameTool::Query,
+            name: "--",
+        },
+    ),
+    (
+        &["check", "--", "-h"],
+        Task::Named {
+            tool: NameTool::Check,
+            name: "-h",
+        },
+    ),
+    (
+        &["wild", "help"],
+        Task::Named {
+            tool: NameTool::Wild,
+            name: "help",
+        },
+    ),
     (
         &["migrate", "n", "--", "--budget"],
         Task::Migrate {

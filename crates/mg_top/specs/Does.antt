@@ -1,5 +1,5 @@
 -- What a run does for what the words ask: a line a tool.
-use Rattle.std.specs.Prelude.{◌≡◌, ◌⊎◌, ⊤, List, Some, None, String, map, string_bytes}
+use Rattle.std.specs.Prelude.{◌≡◌, ◌⊎◌, List, Some, None, String, map, string_bytes}
 use Rattle.std.specs.declared.option.Option.{Option}
 use Rattle.mg_dev.specs.declared.fault.Fault.TheVariants.{Usage, Memory}
 use Rattle.mg_args.specs.Plain.{Word}
@@ -54,11 +54,3 @@ RanFor words run = Ran (map string_bytes words) run
 abbrev pub RanOnceTold : {A : Type 0} → List (String A) → Run → Type 0
 RanOnceTold words run = ToldWhy run.status run.err.written run.err_now.written run.err.faults run.err_now.faults
     run.err.lacks run.err_now.lacks → RanFor words run
-
--- a task that asks nothing of the input
-abbrev pub ReadsNoInput : Task → Type 0
-ReadsNoInput (query name) = ⊥
-ReadsNoInput (scan name) = ⊥
-ReadsNoInput (phrase name) = ⊥
-ReadsNoInput (wild name) = ⊥
-ReadsNoInput other = ⊤

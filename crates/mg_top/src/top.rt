@@ -1,9 +1,9 @@
 //! The words of a command line are carried out.
 ghost use Rattle.std.specs.Prelude.{Some};
-ghost use Rattle.mg_args.specs.Tasks.{as_task, IsWithin};
+ghost use Rattle.mg_args.specs.Tasks.{as_task, task_at, IsWithin};
 ghost use Rattle.mg_reply.specs.Printed.{Runs};
-ghost use Rattle.mg_top.specs.Running.{RunsBy, RunsByStore};
-ghost use Rattle.mg_top.specs.Does.{Does, RanFor, RanOnceTold, ReadsNoInput};
+ghost use Rattle.mg_top.specs.Running.{RunsBy};
+ghost use Rattle.mg_top.specs.Does.{Does, RanFor, RanOnceTold};
 
 use crate::ending::ended;
 use crate::tool_build::run_build;
@@ -16,7 +16,7 @@ use crate::tool_query::run_query;
 use crate::tool_scan::run_scan;
 use crate::tool_trial::run_trial;
 use crate::tool_wild::run_wild;
-use mg_args::{Task, read_words};
+use mg_args::{NameTool, Task, read_words};
 use mg_dev::{Fault, Sink, Source, Status, Store};
 use std::alloc::{AllocError, Global};
 
@@ -86,37 +86,36 @@ fn run_task<S: Store, I: Source, O: Sink>(
         result (Does (Some (as_task task.entry))) }
 {
     match task {
-        Task::Query { name } => run_query(alloc, name, store, input, out),
-        Task::Scan { collection } => run_scan(alloc, collection, store, input, out),
-        Task::Phrase { name } => run_phrase(alloc, name, store, input, out),
-        Task::Wild { name } => run_wild(alloc, name, store, input, out),
-        other => run_unasked(alloc, other, store, out),
-    }
-}
-
-// Carries out a task that asks nothing of the input.
-fn run_unasked<S: Store, O: Sink>(
-    alloc: Global,
-    task: Task<'_>,
-    store: &mut S,
-    out: &mut O,
-) -> Result<(), Fault>
-    requires within { IsWithin (as_task task) }
-    requires unasked { ReadsNoInput (as_task task) }
-    ensures { RunsByStore S.Store O.Sink store.old store.new out.old out.new result
-        (Does (Some (as_task task.entry))) }
-{
-    match task {
+        Task::Named { tool, name } => run_named(alloc, tool, name, store, input, out),
         Task::Build {
             collection,
             name,
             budget,
         } => run_build(alloc, collection, name, budget, store, out),
-        Task::Decode { name } => run_decode(alloc, name, store, out),
         Task::Migrate { name, new } => run_migrate(alloc, name, new, store, out),
-        Task::Check { name } => run_check(alloc, name, store, out),
         Task::Merge { first, second, new } => run_merge(alloc, first, second, new, store, out),
         Task::Trial { seed, docs } => run_trial(alloc, seed, docs, out),
-        _ => unreachable!(),
+    }
+}
+
+// Carries out what a tool does with its one name.
+fn run_named<S: Store, I: Source, O: Sink>(
+    alloc: Global,
+    tool: NameTool,
+    name: &str,
+    store: &mut S,
+    input: &mut I,
+    out: &mut O,
+) -> Result<(), Fault>
+    ensures { Runs S.Store I.Source O.Sink store.old store.new input.old input.new out.old out.new
+        result (Does (Some (task_at tool name.now))) }
+{
+    match tool {
+        NameTool::Query => run_query(alloc, name, store, input, out),
+        NameTool::Decode => run_decode(alloc, name, store, out),
+        NameTool::Scan => run_scan(alloc, name, store, input, out),
+        NameTool::Check => run_check(alloc, name, store, out),
+        NameTool::Wild => run_wild(alloc, name, store, input, out),
+        NameTool::Phrase => run_phrase(alloc, name, store, input, out),
     }
 }
