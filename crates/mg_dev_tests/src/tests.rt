@@ -5,7 +5,7 @@ use mg_defs::Stream;
 use mg_dev::*;
 use mg_host::HostStore;
 use mg_mem::*;
-use std::alloc::Global;
+use std::alloc::{AllocError, Global};
 use std::fs;
 use std::test::Fail;
 
@@ -123,6 +123,36 @@ fn have_lines(alloc: Global, faults: &[Fault], lines: &str) -> Result<bool, PutE
         put_fault_line(&mut out, fault)?;
     }
     Ok(out.bytes() == lines.as_bytes())
+}
+
+/// How some faults print for a programmer: one of each kind of fields.
+const DEBUGGED: &str = "Usage
+Damaged(Bad { part: Text, at: 0, low: 2, high: 2, found: 1 })
+TooLarge { size: 4294967296, most: 4294967295 }
+TooManyPieces { stream: Others }
+Changed { what: Pairs, first: 3, second: 4 }
+NameClash { part: MergeA }
+TooManyRotations { count: 134217729 }
+";
+
+// Whether the faults print so. They print one after the other.
+fn print_so(alloc: Global, faults: &[Fault], wanted: &str) -> Result<bool, AllocError> {
+    let mut printed = String::new(alloc);
+    for fault in faults {
+        let line = format!(in alloc; "{fault:?}\n")?;
+        printed.push_str(line.as_str())?;
+    }
+    Ok(printed.as_str() == wanted)
+}
+
+// Its `Debug` is written by hand.
+#[test]
+fn faults_print_for_a_programmer(rt: HostRuntime) -> Result<(), Fail> {
+    let some = [
+        FAULTS[0], FAULTS[5], FAULTS[7], FAULTS[9], FAULTS[10], FAULTS[12], FAULTS[15],
+    ];
+    assert!(rt; print_so(rt.alloc(), &some, DEBUGGED)?);
+    Ok(())
 }
 
 #[test]
