@@ -3,7 +3,7 @@ use Rattle.std.proofs.Common.{◌≡◌, ℕ, zero, suc, ◌+◌, ◌-◌, ◌*�
 use Rattle.std.proofs.Common.{arith, take, get_or, ◌⊎◌, inl, inr, ⊎_elim, add-one}
 use Rattle.std.proofs.lemmas.Grind.{common_steps}
 use Rattle.std.proofs.lemmas.List.{get_or_default, get_or_append_left, get_or_push, length_push}
-use Rattle.std.proofs.lemmas.Nat.{shr-shr}
+use Rattle.std.proofs.lemmas.Nat.{shl-shr, shl_below, shr-shr}
 use Rattle.std.proofs.lemmas.Bool.{cases_lt, cases_eq}
 use Rattle.std.specs.Prelude.{◌==◌}
 use Rattle.mg_defs.specs.Bits.{Bits, Begins, digits, is_odd}
@@ -313,31 +313,38 @@ next_value next read value short is =
     let whole : 2 * value + cond (is_odd (next / 2 ^ (56 - read))) 1 0 ≡ next / 2 ^ (56 - read) = omega (arith, odd_or_not (next / 2 ^ (56 - read)), half) in
     whole ∙ ap (λ k. next / 2 ^ k) (sym f)
 
--- 57 bits begin with what their first ten begin with
-pub of_first_ten : (next size : ℕ) → size ≤ 10 → next / 2 ^ 47 / 2 ^ (10 - size) ≡ next / 2 ^ (57 - size)
-of_first_ten next size h =
-    let e : 47 + (10 - size) ≡ 57 - size = omega arith in
-    shr-shr next 47 (10 - size) ∙ ap (λ k. next / 2 ^ k) e
+-- 57 bits begin with what their first ones begin with
+pub of_front : (next width size : ℕ) → width ≤ 57 → size ≤ width → next / 2 ^ (57 - width) / 2 ^ (width - size) ≡ next / 2 ^ (57 - size)
+of_front next width size few short =
+    let e : 57 - width + (width - size) ≡ 57 - size = omega arith in
+    shr-shr next (57 - width) (width - size) ∙ ap (λ k. next / 2 ^ k) e
 
--- the same of ten bits that are followed by none
-pub of_ten_alone : (first_ten size : ℕ) → size ≤ 10 → first_ten * 2 ^ 47 / 2 ^ (57 - size) ≡ first_ten / 2 ^ (10 - size)
-of_ten_alone first_ten size h =
-    let e : first_ten * 2 ^ 47 / 2 ^ 47 ≡ first_ten = omega arith in
-    sym (of_first_ten (first_ten * 2 ^ 47) size h) ∙ ap (λ n. n / 2 ^ (10 - size)) e
+-- the same of bits that are followed by none
+pub of_front_alone : (front width size : ℕ) → width ≤ 57 → size ≤ width → front * 2 ^ (57 - width) / 2 ^ (57 - size) ≡ front / 2 ^ (width - size)
+of_front_alone front width size few short =
+    sym (of_front (front * 2 ^ (57 - width)) width size few short) ∙ ap (λ n. n / 2 ^ (width - size)) (shl-shr front (57 - width))
+
+-- they are no more than 57 bits
+pub front_below : (front width : ℕ) → width ≤ 57 → front < 2 ^ width → front * 2 ^ (57 - width) < 2 ^ 57
+front_below front width few below =
+    let e : width + (57 - width) ≡ 57 = omega arith in
+    subst (λ k. front * 2 ^ (57 - width) < 2 ^ k) e (shl_below front width (57 - width) below)
 
 pub start_value : (next : ℕ) → next < 2 ^ 57 → 0 ≡ next / 2 ^ (57 - 0)
 start_value next small = omega arith
 
--- an entry that was read tells what the ten bits of its place begin with
-pub entry_is : (lengths : List ℕ) (entries : List Found) (i : ℕ) (found : Found) → AreBeginnings lengths entries → i < length entries → found ≡ get_or entries i found → IsBeginning lengths i found
-entry_is lengths entries i found told h e = subst (λ f. IsBeginning lengths i f) (sym (e ∙ get_or_default entries i found no_codeword h)) (told i h)
+-- an entry that was read tells what the bits of its place begin with
+pub entry_is : (lengths : List ℕ) (width : ℕ) (entries : List Found) (i : ℕ) (found : Found) → AreBeginnings lengths width entries → i < length entries → found ≡ get_or entries i found →
+    IsBeginning lengths width i found
+entry_is lengths width entries i found told h e = subst (λ f. IsBeginning lengths width i f) (sym (e ∙ get_or_default entries i found no_codeword h)) (told i h)
 
 -- an entry more
-pub entry_more : (lengths : List ℕ) (entries : List Found) (found : Found) → AreBeginnings lengths entries → IsBeginning lengths (length entries) found → AreBeginnings lengths (entries ++ found ∷ [])
-entry_more lengths entries found told begins = λ i h. ⊎_elim
-    (λ lt. subst (λ f. IsBeginning lengths i f) (sym (get_or_append_left entries (found ∷ []) no_codeword i lt)) (told i lt))
+pub entry_more : (lengths : List ℕ) (width : ℕ) (entries : List Found) (found : Found) → AreBeginnings lengths width entries → IsBeginning lengths width (length entries) found →
+    AreBeginnings lengths width (entries ++ found ∷ [])
+entry_more lengths width entries found told begins = λ i h. ⊎_elim
+    (λ lt. subst (λ f. IsBeginning lengths width i f) (sym (get_or_append_left entries (found ∷ []) no_codeword i lt)) (told i lt))
     (λ le.
     let e : i ≡ length entries = omega (arith, length_push entries found, h) in
-    subst (λ k. IsBeginning lengths k (get_or (entries ++ found ∷ []) k no_codeword)) (sym e)
-    (subst (λ f. IsBeginning lengths (length entries) f) (sym (get_or_push entries found no_codeword (length entries) refl)) begins))
+    subst (λ k. IsBeginning lengths width k (get_or (entries ++ found ∷ []) k no_codeword)) (sym e)
+    (subst (λ f. IsBeginning lengths width (length entries) f) (sym (get_or_push entries found no_codeword (length entries) refl)) begins))
     (cases_lt i (length entries))

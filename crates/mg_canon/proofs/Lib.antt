@@ -2,3 +2,4 @@ mod Refused
 mod Placing
 mod Decoding
 mod SymbolReads
+mod Pairs

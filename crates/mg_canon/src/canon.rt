@@ -29,8 +29,9 @@ use std::marker::Model;
 /// It holds no tree. The codewords of one length are consecutive numbers, so two small tables by
 /// length, of the first number and of the place of its symbol, and one of the symbols sorted by
 /// length turn bits into a symbol; a table of the codewords' numbers turns a symbol into bits. That
-/// is 9 bytes a symbol. A codeword of at most ten bits is found by one look at a table of what each
-/// ten bits begin with, which takes 8 KiB.
+/// is 9 bytes a symbol. A codeword of at most twelve bits is found by one look at a table of what
+/// each twelve bits begin with, which takes 32 KiB; a code of fewer than 4,096 symbols looks at ten
+/// bits, in 8 KiB, so that it is soon made.
 #[derive(Drop)]
 pub struct Canon {
     lengths: Vec<u8>,
@@ -38,6 +39,8 @@ pub struct Canon {
     firsts: ByLength,
     offsets: ByLength,
     symbols: Vec<u32>,
+    // How many bits an entry of `beginnings` is found by.
+    width: u32,
     beginnings: Vec<Found>,
 }
 
@@ -49,7 +52,7 @@ impl Model for Canon {
 
     ghost view = { λ c. c.lengths.items };
 
-    ghost invariant = { λ c. AreTablesWithBeginnings c.lengths.items c.values.items c.firsts c.offsets c.symbols.items c.beginnings.items };
+    ghost invariant = { λ c. AreTablesWithBeginnings c.lengths.items c.values.items c.firsts c.offsets c.symbols.items c.width c.beginnings.items };
 }
 
 impl Canon {
@@ -173,14 +176,14 @@ impl Canon {
     /// The symbol whose codeword 57 bits begin with: none is longer than 48. There is one but for a
     /// single symbol and a one-bit.
     #[inline]
-    fn first_of(&self, next: u64) -> Option<Found>
+    pub(crate) fn first_of(&self, next: u64) -> Option<Found>
         requires next { next < 2 ^ 57 }
         requires some { 0 < length self.now }
         ensures { FirstFound self.now next result }
     {
-        let first_ten = (next >> 47) as usize;
-        if first_ten < self.beginnings.len() {
-            let found = self.beginnings[first_ten];
+        let front = (next >> (57 - self.width)) as usize;
+        if front < self.beginnings.len() {
+            let found = self.beginnings[front];
             if found.size > 0 {
                 return Some(found);
             }
@@ -189,6 +192,7 @@ impl Canon {
     }
 
     /// The same by the lengths of codewords, from the shortest one on.
+    #[inline(never)]
     fn first_by_lengths(&self, next: u64) -> Option<Found>
         requires next { next < 2 ^ 57 }
         requires some { 0 < length self.now }
@@ -213,15 +217,15 @@ impl Canon {
         })
     }
 
-    /// Behind how many bits the way by lengths may begin, as the table of first ten bits tells. Nothing is
+    /// Behind how many bits the way by lengths may begin, as the table of beginnings tells. Nothing is
     /// promised of it: the way begins there only where all codewords that these bits begin are longer.
     #[inline]
     fn hint(&self, next: u64) -> usize
         ensures { result ≤ 32 }
     {
-        let first_ten = (next >> 47) as usize;
-        if first_ten < self.beginnings.len() {
-            let found = self.beginnings[first_ten];
+        let front = (next >> (57 - self.width)) as usize;
+        if front < self.beginnings.len() {
+            let found = self.beginnings[front];
             if found.size == 0 && found.symbol <= 32 {
                 return found.symbol as usize;
             }
@@ -229,44 +233,49 @@ impl Canon {
         10
     }
 
-    /// The most bits, up to 32, than which all codewords that ten bits begin are longer, and at least ten.
-    fn passed(&self, first_ten: u64) -> u32
-        requires { first_ten < 2 ^ 10 }
+    /// The most bits, up to 32, than which all codewords that these bits begin are longer, and at least
+    /// as many as they are.
+    fn passed(&self, width: u32, front: u64) -> u32
+        requires width { width ≤ 12 }
+        requires front { front < 2 ^ width }
     {
-        for read in 11..33 {
-            let last = ((first_ten + 1) << (read - 10)) - 1;
-            if last >= u64::from(self.firsts[read]) {
-                return read as u32 - 1;
+        for read in width + 1..33 {
+            let last = ((front + 1) << (read - width)) - 1;
+            if last >= u64::from(self.firsts[read as usize]) {
+                return read - 1;
             }
         }
         32
     }
 
-    /// What ten bits begin with.
-    fn beginning(&self, first_ten: u64) -> Found
-        requires bits { first_ten < 2 ^ 10 }
+    /// What so many bits begin with.
+    fn beginning(&self, width: u32, front: u64) -> Found
+        requires width { width ≤ 12 }
+        requires front { front < 2 ^ width }
         requires some { 0 < length self.now }
-        ensures { IsBeginning self.now first_ten result }
+        ensures { IsBeginning self.now width front result }
     {
-        match self.first_by_lengths(first_ten << 47) {
-            Some(found) if found.size <= 10 => found,
+        match self.first_by_lengths(front << (57 - width)) {
+            Some(found) if found.size <= width => found,
             _ => Found {
-                symbol: self.passed(first_ten),
+                symbol: self.passed(width, front),
                 size: 0,
             },
         }
     }
 
-    /// The code with the table of what each ten bits begin with.
+    /// The code with the table of what its first bits begin with.
     fn with_beginnings(self, alloc: Global) -> Result<Canon, AllocError>
         ensures { IfOk result (λ code. code ≡ self) }
     {
         if self.count() == 0 {
             return Ok(self);
         }
-        let mut beginnings = Vec::with_capacity(alloc, 1024)?;
-        for first_ten in 0..1024 {
-            beginnings.push(self.beginning(first_ten))?;
+        let width = self.width;
+        let count = 1u64 << width;
+        let mut beginnings = Vec::with_capacity(alloc, count as usize)?;
+        for front in 0..count {
+            beginnings.push(self.beginning(width, front))?;
         }
         let mut code = self;
         code.beginnings = beginnings;
@@ -356,6 +365,13 @@ fn start_of(firsts: &ByLength, next: u64, at: usize) -> Walked
     Walked { read: 0, value: 0 }
 }
 
+/// By how many first bits a code of so many symbols is looked up.
+fn width_of(symbols: usize) -> u32
+    ensures { result ≤ 12 }
+{
+    if symbols < 4096 { 10 } else { 12 }
+}
+
 /// The code of good lengths.
 fn made(alloc: Global, lengths: &[u8]) -> Result<Canon, AllocError>
     requires few { length lengths.now ≤ 2 ^ 22 }
@@ -367,6 +383,7 @@ fn made(alloc: Global, lengths: &[u8]) -> Result<Canon, AllocError>
     let firsts = first_codewords(&counts);
     let offsets = first_places(&counts);
     let numbered = number(alloc, lengths, &firsts, &offsets)?;
+    let symbols = lengths.len();
     let lengths = lengths.to_vec(alloc)?;
     let code = Canon {
         lengths,
@@ -374,6 +391,7 @@ fn made(alloc: Global, lengths: &[u8]) -> Result<Canon, AllocError>
         firsts,
         offsets,
         symbols: numbered.symbols,
+        width: width_of(symbols),
         beginnings: Vec::new(alloc),
     };
     code.with_beginnings(alloc)

@@ -13,7 +13,9 @@ mod canon;
 mod canon_err;
 mod check;
 mod found;
+mod pair;
 mod tables;
 
 pub use canon::Canon;
 pub use canon_err::CanonErr;
+pub use pair::get_pair_held;

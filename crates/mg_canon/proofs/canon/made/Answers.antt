@@ -31,5 +31,6 @@ invariant_of-code c =
     } in
     record {
       tables = subst (λ l. AreTables l c.in_ok-numbered.numbered.values.items c.first_codewords-firsts.result c.first_places-offsets.result c.in_ok-numbered.numbered.symbols.items) (sym items) tables;
+      narrow = c.width_of.ensures;
       entries = λ i h. absurd (omega arith);
     }

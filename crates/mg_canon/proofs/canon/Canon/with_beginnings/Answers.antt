@@ -6,5 +6,6 @@ pub invariant_of-code : goal.invariant_of-code
 invariant_of-code c =
     record {
       tables = c.self.invariant.tables;
-      entries = subst (λ l. AreBeginnings l c.loop-first_ten.beginnings.items) (sym c.self.view_is) c.loop-first_ten.invariant.entries;
+      narrow = c.self.invariant.narrow;
+      entries = subst (λ l. AreBeginnings l c.self.inside.width c.loop-front.beginnings.items) (sym c.self.view_is) c.loop-front.invariant.entries;
     }

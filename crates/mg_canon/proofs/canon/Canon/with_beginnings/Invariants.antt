@@ -2,8 +2,8 @@ use Rattle.std.proofs.Common.{◌≡◌, length}
 use Rattle.mg_canon.specs.Tables.{AreBeginnings}
 use Rattle.mg_canon.proofs.canon.Canon.with_beginnings.Given as goal
 
-abbrev pub invariant-loop-first_ten : goal.invariant-loop-first_ten
-invariant-loop-first_ten l = record {
-  size : length l.beginnings.items ≡ l.first_ten;
-  entries : AreBeginnings l.fn.self l.beginnings.items;
+abbrev pub invariant-loop-front : goal.invariant-loop-front
+invariant-loop-front l = record {
+  size : length l.beginnings.items ≡ l.front;
+  entries : AreBeginnings l.fn.self l.width l.beginnings.items;
 }
