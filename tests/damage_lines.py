@@ -1,6 +1,6 @@
-"""The line of each kind of damage of a head, of models, of a text and of places: the part, the place, what was found there and
-what may stand there; and what a session prints before it comes to a damage. The numbers are worked by hand from the form of the
-parts.
+"""The line of each kind of damage of a head, of models, of a text, of places and of the counts of a lexicon: the part, the place,
+what was found there and what may stand there; and what a session prints before it comes to a damage. The numbers are worked by
+hand from the form of the parts.
 """
 
 import pathlib
@@ -9,7 +9,7 @@ import sys
 sys.path.insert(0, str(pathlib.Path(__file__).parent / "reference"))
 
 from files import BUDGET, K, remove
-from parts import build
+from parts import build, front, read_front
 from sessions import session
 from standing import write_parts
 from texts import Collection
@@ -319,4 +319,46 @@ def sessions(suite):
     remove(suite, "set")
 
 
-PARTS = [heads, parts, models, heads_of_less, sessions, lines_over_damage]
+# How many documents a lexicon tells of terms of MANY, a ranked line, and the term whose damage is told. The terms are late, rare
+# and x, of which the set has 1, 1 and 200 documents of its 200.
+COUNTS = [
+    ({"late": 0}, "late", "late"),
+    ({"rare": 0}, "rare", "rare"),
+    ({"rare": 201}, "rare", "rare"),
+    ({"x": 0}, "x", "x"),
+    ({"x": 201}, "x", "x"),
+    ({"x": (1 << 32) - 1}, "late x", "x"),
+    # Of several the first in the line is told, and one that is not in the line is not looked at.
+    ({"late": 0, "x": 0}, "x rare late", "x"),
+    ({"late": 0, "x": 0}, "rare late x", "late"),
+    ({"late": 0}, "rare x", None),
+]
+
+
+def with_counts(lex, terms, counts):
+    """The lexicon with other numbers of documents of some terms."""
+    _, fields = read_front("lex", lex, 16)
+    for term, count in counts.items():
+        number = terms.index(term.encode())
+        fields[number] = count.to_bytes(4, "big") + fields[number][4:]
+    return front(terms, fields)[0]
+
+
+def counts_of_terms(suite):
+    """A ranked line tells which term the lexicon counts wrongly: a term that no document has, or more than there are."""
+    collection = Collection(MANY)
+    sound = build(collection, BUDGET, 2)
+    terms = collection.distinct_terms
+    for counts, words, damaged in COUNTS:
+        write_parts(suite.folder / "set", sound | {"lex": with_counts(sound["lex"], terms, counts)})
+        asked = b"zebra\n.set query ranked\n" + words.encode() + b"\n"
+        wanted = (0, session(collection, asked), b"")
+        if damaged:
+            place = terms.index(damaged.encode())
+            line = f"mg: damaged: part lex at {place}: found {counts[damaged]}, wanted 1 to {len(collection)}\n"
+            wanted = (6, session(collection, b"zebra\n"), line.encode())
+        suite.check(f"{words}, ranked, over a lexicon that tells {counts}", suite.run(["query", "set"], asked), wanted)
+    remove(suite, "set")
+
+
+PARTS = [heads, parts, models, heads_of_less, sessions, lines_over_damage, counts_of_terms]

@@ -1,5 +1,5 @@
 -- A cursor over the whole list of a term, which is walked from posting to posting.
-use Rattle.std.specs.Prelude.{◌≡◌, ◌≢◌, ℕ, ◌+◌, ◌≤◌, List, Option, Result, Err, IfOk, IfSome, OnOk}
+use Rattle.std.specs.Prelude.{◌≡◌, ◌≢◌, ℕ, ◌+◌, ◌≤◌, List, Option, Result, Err, IfErr, IfOk, IfSome, OnOk}
 use Rattle.mg_dev.specs.Files.{Files, Reads}
 use Rattle.mg_dev.specs.PartCauses.{HasPartCause}
 use Rattle.mg_dev.specs.declared.part_err.PartErr.{PartErr}
@@ -8,7 +8,7 @@ use Rattle.mg_defs.specs.declared.Posting.{Posting}
 use Rattle.mg_defs.specs.Lists.{block_count, postings}
 use Rattle.mg_defs.specs.PageBounds.{list_pages, numbers_in}
 use Rattle.mg_post.specs.Answers.{AnswersList}
-use Rattle.mg_post.specs.Cursor.{CursorFits, Cursoring, GoesToNext, IsFrom, SameList, SkipRises, next_doc, post_pages, skip_pages}
+use Rattle.mg_post.specs.Cursor.{CursorFits, Cursoring, GoesToNext, IsFrom, NamesItsPart, SameList, SkipRises, next_doc, post_pages, skip_pages}
 use Rattle.mg_post.specs.Finding.{entries_pages}
 use Rattle.mg_post.specs.PagesOnce.{ReadsOnce, span_pages}
 use Rattle.mg_post.specs.Shown.{AnswersShown, StandsShown}
@@ -54,6 +54,8 @@ pub record WalkStep (c v : Cursoring) (last : ℕ) (result : Result (Option Post
     -- whatever the parts have, what is answered is shown by blocks that stand and to which the entries lead
     pub shows : (n : ℕ) → n ≤ last + 1 → StandsShown c files_before n →
         IfOk result (AnswersShown c v files_before files_now (last + 1))
+    -- a damage is one of Post or Skip
+    pub part : IfErr result NamesItsPart
     pub reads : ReadsLists reads_before reads_now
     pub files : files_now ≡ files_before
     pub memory : result ≢ Err err.Memory

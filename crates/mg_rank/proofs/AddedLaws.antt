@@ -8,6 +8,7 @@ use Rattle.mg_defs.proofs.ListLaws.{last_append}
 use Rattle.mg_layout.specs.declared.term_info.TermInfo.{TermInfo}
 use Rattle.mg_post.specs.Cursor.{Cursoring, GoesToNext, IsFrom, count_behind, next_doc}
 use Rattle.mg_rank.specs.Added.{AddedTo, AddsWhole, AreRising, with_all}
+use Rattle.mg_rank.specs.Damages.{HasSome}
 use Rattle.mg_rank.specs.Sums.{with_more}
 
 -- so many postings of the list were added, and the others are left behind the cursor's current one
@@ -51,8 +52,9 @@ adding_next all info last weight old sums new c v p a goes from is more = record
   next = sym goes.1;
 }
 
-pub adding_end : (all : ℕ) (info : TermInfo) (last : ℕ) (old new : List (ℕ × ℕ)) (c : Cursoring) → Adding all info last old new c → count_behind c ≡ 0 → AddsWhole all info old new
-adding_end all info last old new c a none = record { list = a.list; count = omega (arith, a.count, none); rising = a.rising; added = a.added }
+pub adding_end : (all : ℕ) (info : TermInfo) (last : ℕ) (old new : List (ℕ × ℕ)) (c : Cursoring) → Adding all info last old new c → count_behind c ≡ 0 → HasSome all info →
+    AddsWhole all info old new
+adding_end all info last old new c a none docs = record { list = a.list; count = omega (arith, a.count, none); docs = docs; rising = a.rising; added = a.added }
 
 pub added_next : (all : ℕ) (terms : List TermInfo) (k : ℕ) (d : TermInfo) (before sums : List (ℕ × ℕ)) → k < length terms → AddedTo all terms k before →
     AddsWhole all (slice_index_or terms k d) before sums → AddedTo all terms (k + 1) sums

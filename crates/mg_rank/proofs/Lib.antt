@@ -9,6 +9,7 @@ mod KeptLaws
 mod RowLaws
 mod EndLaws
 mod AddedLaws
+mod DamageLaws
 mod ListWalk
 mod RowWalk
 mod SizeLaws

@@ -1,6 +1,6 @@
 -- A list that is added, as far as it has come: what the loop keeps, and what each way out of it promises.
 use Rattle.std.proofs.Common.{arith, ◌≡◌, ◌+◌, ◌-◌, ◌*◌, ◌^◌, ◌≤◌, ◌<◌, ℕ, List, length, refl, sym, subst, ◌∙◌, Option, Some, None, Ok, Err}
-use Rattle.std.specs.Prelude.{Result, OnOk}
+use Rattle.std.specs.Prelude.{Result, IfErr, OnOk}
 use Rattle.mg_dev.specs.Files.{Files, Reads}
 use Rattle.mg_dev.specs.PartCauses.{HasPartCause}
 use Rattle.mg_dev.specs.declared.part.Part.TheVariants as part
@@ -23,20 +23,23 @@ use Rattle.mg_post.specs.WholeLists.{WalkStep}
 use Rattle.mg_post.proofs.CallerLemmas.{cursor_later, none_at}
 use Rattle.mg_rank.specs.Added.{AddsWhole}
 use Rattle.mg_rank.specs.Calls.{AddsBehind, AddsList, IsBefore}
+use Rattle.mg_rank.specs.Damages.{TellsTerm}
 use Rattle.mg_rank.specs.Ranked.{AddsTerm, ListFor, SumsFor, list_entries}
 use Rattle.mg_rank.specs.Sums.{AreApart, AreWithin, sum_of, with_more}
 use Rattle.mg_rank.specs.WeightReads.{ascents_in}
 use Rattle.mg_rank.proofs.AddedLaws.{Adding, adding_end, adding_next, adding_start}
 use Rattle.mg_rank.proofs.Adding.{apart_more, within_more}
 use Rattle.mg_rank.proofs.AscentLaws.{AddsAscent, ascent_next, ascent_start}
+use Rattle.mg_rank.proofs.DamageLaws.{lists_not_lex, not_lex, other_tells}
 use Rattle.mg_rank.proofs.EndLaws.{list_third, lists_on}
 use Rattle.mg_rank.proofs.SumLaws.{Bounded, Walking, bounded_next, bounded_start, head_sound, walk_end, walk_next, walk_start}
 use Rattle.mg_rank.proofs.WalkLaws.{or_list, told}
 
 -- nothing was read yet, and the sums are as they were
 pub adds_nothing : {base : List ℕ} {info : TermInfo} {all : ℕ} {old new : List (ℕ × ℕ)} {f : Option Files} {r : Reads} {n : ℕ} (e : PartErr) → new ≡ old →
-    AddsTerm {T = Unit {0}} base f info all old new (Err e) → HasPartCause {T = Unit {0}} n n (Err e) → AddsList base info all old new (Err e) f f r r n n
-adds_nothing {old = old} e same answer cause = record {
+    AddsTerm {T = Unit {0}} base f info all old new (Err e) → HasPartCause {T = Unit {0}} n n (Err e) → TellsTerm all info e →
+    AddsList base info all old new (Err e) f f r r n n
+adds_nothing {old = old} e same answer cause lexicon = record {
   answer = answer;
   whole = tt;
   small = λ k small d. subst (λ s. sum_of d s ≤ k + 2 ^ 29) (sym same) (omega (arith, small d));
@@ -49,6 +52,7 @@ adds_nothing {old = old} e same answer cause = record {
   reads = record { later = λ p. omega arith; others = λ p a b. refl };
   files = refl;
   cause = cause;
+  lexicon = lexicon;
 }
 
 -- The postings up to a document were added, and the cursor stands on that of it. This holds whichever list it is.
@@ -126,8 +130,8 @@ module _ {base : List ℕ} {info : TermInfo} {all last : ℕ} {old now : List (�
 
   -- the cursor was asked for the next posting, and none was added to the sums
   adds_now : (answer : Result (Unit {0}) PartErr) (new : List (ℕ × ℕ)) → new ≡ now → AddsTerm base f info all old new answer → OnOk answer (AddsWhole all info old new) →
-      HasPartCause l n answer → AddsList base info all old new answer f h r t l n
-  adds_now answer new same is whole cause = record {
+      HasPartCause l n answer → IfErr answer (TellsTerm all info) → AddsList base info all old new answer f h r t l n
+  adds_now answer new same is whole cause lexicon = record {
     answer = is;
     whole = whole;
     small = λ n small d. subst (λ s. sum_of d s ≤ n + 2 ^ 29) (sym same) ((k.bounded n small).each d);
@@ -144,6 +148,7 @@ module _ {base : List ℕ} {info : TermInfo} {all last : ℕ} {old now : List (�
     reads = lists_on k.reads w.reads;
     files = w.files ∙ k.files;
     cause = cause;
+    lexicon = lexicon;
   }
 
 -- the list has no posting more
@@ -155,8 +160,8 @@ walk_none {start} {c} {v} {weight} {last} {old} {now} k w = λ base info is weig
     (λ collection t done stand i all_is s.
     let a = w.answer base collection t (stand_now k.going u w collection stand) (u.list collection t stand i all_is) in
     walk_end collection done t last now (u.walk collection t done stand i all_is s) (λ d low le. none_at collection t last d (sym a.found_is) low le))
-    (adding_end start.all info last old now c u.whole (w.next u.whole.next).0)
-    (cause_ok (omega (arith, k.going.faults, w.cause.later)))
+    (adding_end start.all info last old now c u.whole (w.next u.whole.next).0 is.docs)
+    (cause_ok (omega (arith, k.going.faults, w.cause.later))) tt
 
 -- the cursor refused
 pub walk_err : {start c v : Cursoring} {weight last : ℕ} {old now : List (ℕ × ℕ)} {f g h : Option Files} {r s t : Reads} {l m n : ℕ} (e : PartErr) →
@@ -165,21 +170,21 @@ walk_err {now = now} e k w = λ base info is weight_is.
     let u = k.under base info is weight_is in
     adds_now k.going u w (Err e) now refl
     (λ collection t done stand i all_is s. or_list e _ _ (w.answer base collection t (stand_now k.going u w collection stand) (u.list collection t stand i all_is)))
-    tt (cause_err k.going.faults w.cause)
+    tt (cause_err k.going.faults w.cause) (other_tells _ e (lists_not_lex e w.part))
 
 -- memory was wanting for a sum more
 pub walk_lack : {start c v : Cursoring} {weight last : ℕ} {old now new : List (ℕ × ℕ)} {p : Posting} {f g h : Option Files} {r s t : Reads} {l m n : ℕ} → new ≡ now →
     Keeps start weight last old now c f g r s l m → WalkStep c v last (Ok (Some p)) g h s t m n → AddsBehind start weight old new (Err err.Memory) f h r t l n
 walk_lack {new = new} same k w = λ base info is weight_is.
     adds_now k.going (k.under base info is weight_is) w (Err err.Memory) new same (λ collection t done stand i all_is s. tt) tt
-    (record { later = omega (arith, k.going.faults, w.cause.later); device = tt })
+    (record { later = omega (arith, k.going.faults, w.cause.later); device = tt }) tt
 
 -- no set has so many documents
-pub walk_over : {start c : Cursoring} {weight last : ℕ} {old now : List (ℕ × ℕ)} {f g : Option Files} {r s : Reads} {l m : ℕ} (bad : Bad) →
+pub walk_over : {start c : Cursoring} {weight last : ℕ} {old now : List (ℕ × ℕ)} {f g : Option Files} {r s : Reads} {l m : ℕ} (bad : Bad) → bad.part ≡ part.Post →
     Keeps start weight last old now c f g r s l m → 2 ^ 32 - 1 ≤ last →
     ((base collection t : List ℕ) → ListFor base collection t last c → (post_pages c ≤ list_pages collection t) × (post_pages c ≤ span_pages collection t)) →
     AddsBehind start weight old now (Err (err.Bad bad)) f g r s l m
-walk_over bad k over few = λ base info is weight_is.
+walk_over bad post k over few = λ base info is weight_is.
     let u = k.under base info is weight_is in
     record {
       answer = λ collection t done stand i all_is s. absurd (omega (arith, over, k.going.most, all_is, stand.few));
@@ -194,6 +199,7 @@ walk_over bad k over few = λ base info is weight_is.
       reads = k.going.reads;
       files = k.going.files;
       cause = record { later = k.going.faults; device = tt };
+      lexicon = λ is. absurd (not_lex bad post (λ same. cc) is);
     }
 
 -- a posting was added

@@ -24,6 +24,7 @@ use Rattle.mg_post.specs.Answers.{AnswersList}
 use Rattle.mg_rank.specs.declared.best.Kept.{Kept}
 use Rattle.mg_rank.specs.Best.{TakesRow, kept_cmp}
 use Rattle.mg_rank.specs.Calls.{AreSums, FindsFirst, FindsIn}
+use Rattle.mg_rank.specs.Damages.{IsNotOfLex}
 use Rattle.mg_rank.specs.Ranked.{AnswersOr, ForSums, ForWeight, ReadsWeights, SumsFor, WeightsStand}
 use Rattle.mg_rank.specs.Rows.{AreNumbered, hit_in, hits_in}
 use Rattle.mg_rank.specs.WeightReads.{weight_page}
@@ -64,6 +65,7 @@ rows_lack = record {
   reads = record { later = λ p. omega arith; others = λ p o. refl };
   files = refl;
   cause = record { later = omega arith; device = tt };
+  lexicon = tt;
 }
 
 -- no row is wanted, and no weight is read
@@ -76,6 +78,7 @@ rows_none {all = all} rows none zero = record {
   reads = record { later = λ p. omega arith; others = λ p o. refl };
   files = refl;
   cause = record { later = omega arith; device = tt };
+  lexicon = tt;
 }
 
 -- the rows of the documents in so many places were offered
@@ -126,25 +129,26 @@ module _ {name : List ℕ} {sums : List (ℕ × ℕ)} {all most k : ℕ} {weight
       (weight_small (document collection x.0)) (weight_stands collection _ x.0 bytes_are a.low (omega (arith, a.high, all_is)))
 
   rows_err : (e : PartErr) → ((base : List ℕ) → name ≡ full_name base part.Weights → ForSums base f all sums (λ collection ts. AnswersOr {T = Vec Kept Global} (Err e) (λ rows. ⊥))) →
-      HasPartCause {T = ℕ} m n (Err e) → FindsIn name sums all most (Err e) f h r t l n
-  rows_err e answer cause = λ base is. record {
+      HasPartCause {T = ℕ} m n (Err e) → IsNotOfLex e → FindsIn name sums all most (Err e) f h r t l n
+  rows_err e answer cause lexicon = λ base is. record {
     answer = λ collection ts stand all_is of. or_or e _ _ (answer base is collection ts stand all_is of);
     range = tt;
     weights = read_refused all k _ _ _ sums (0, 0) x _ a.there a.is a.low a.high own_read u.weights_read;
     reads = reads_on u.own u.reads looked;
     files = looked.files ∙ u.files;
     cause = cause_err u.faults cause;
+    lexicon = lexicon;
   }
 
   -- the weight was refused
   pub rows_refused : (e : PartErr) → (IsSome g → ForWeight weights g x.0 (λ w. AnswersList (Err e) (λ v. v ≡ w))) → HasPartCause {T = ℕ} m n (Err e) →
-      FindsIn name sums all most (Err e) f h r t l n
-  rows_refused e told cause =
-      rows_err e (λ base is collection ts stand all_is of. or_list {B = Vec Kept Global} e _ _ (weight_told told base is collection ts stand all_is of)) cause
+      IsNotOfLex e → FindsIn name sums all most (Err e) f h r t l n
+  rows_refused e told cause lexicon =
+      rows_err e (λ base is collection ts stand all_is of. or_list {B = Vec Kept Global} e _ _ (weight_told told base is collection ts stand all_is of)) cause lexicon
 
   -- memory was wanting for a row more
   pub rows_short : FindsIn name sums all most (Err err.Memory) f h r t l n
-  rows_short = rows_err err.Memory (λ base is collection ts stand all_is of. tt) (record { later = looked.faults; device = tt })
+  rows_short = rows_err err.Memory (λ base is collection ts stand all_is of. tt) (record { later = looked.faults; device = tt }) tt
 
   -- a row was offered
   pub rows_next : {later : Paging} {w : ℕ} {row : Kept} {new : List Kept} → SameFile weights later → Fits later h → later.held ≡ Some (weight_page x.0) →
@@ -180,4 +184,5 @@ rows_found {sums = sums} {all = all} {most = most} {k = k} {best = best} rows ar
   reads = u.reads;
   files = u.files;
   cause = cause_ok u.faults;
+  lexicon = tt;
 }

@@ -11,7 +11,10 @@ use Rattle.mg_defs.specs.Stands.{weights_part}
 use Rattle.mg_defs.specs.Weights.{weight}
 use Rattle.mg_defs.proofs.FrontParts.{four_long}
 use Rattle.mg_layout.specs.Sizes.{AnswersSize}
+use Rattle.mg_layout.specs.declared.term_info.TermInfo.{TermInfo}
+use Rattle.mg_rank.specs.Damages.{TellsFirstOf}
 use Rattle.mg_rank.specs.Ranked.{AnswersTop}
+use Rattle.mg_rank.proofs.DamageLaws.{not_lex}
 
 fours_long : (ns : List ℕ) → length (flat_map four ns) ≡ 4 * length ns
 fours_long [] = omega arith
@@ -30,3 +33,9 @@ pub not_sized : (e : PartErr) (bytes collection : List ℕ) (ts : List (List ℕ
 not_sized Device bytes collection ts wanted most same answer = tt
 not_sized Memory bytes collection ts wanted most same answer = absurd answer
 not_sized (Bad bad) bytes collection ts wanted most same answer = absurd (answer.0 same)
+
+-- weights of another size are no damage of the lexicon
+pub size_not_lex : (all : ℕ) (terms : List TermInfo) (e : PartErr) (bytes : List ℕ) (wanted : ℕ) → AnswersSize Weights wanted bytes (Err e) → TellsFirstOf all terms e
+size_not_lex all terms Device bytes wanted answer = tt
+size_not_lex all terms Memory bytes wanted answer = tt
+size_not_lex all terms (Bad bad) bytes wanted answer = λ is. absurd (not_lex bad answer.1.part_is (λ same. cc) is)

@@ -4,6 +4,7 @@ use Rattle.mg_defs.specs.declared.Posting.{Posting}
 use Rattle.mg_defs.specs.Weights.{weight_in_doc, weight_of_term}
 use Rattle.mg_layout.specs.declared.term_info.TermInfo.{TermInfo}
 use Rattle.mg_post.specs.Cursor.{IsFrom}
+use Rattle.mg_rank.specs.Damages.{HasSome}
 use Rattle.mg_rank.specs.Ranked.{Ranking}
 use Rattle.mg_rank.specs.Sums.{with_more}
 
@@ -17,10 +18,11 @@ abbrev pub AreRising : ℕ → ℕ → List Posting → Type 0
 AreRising all before [] = Unit {0}
 AreRising all before (p ∷ ps) = IsFrom (before + 1) all p × AreRising all p.doc ps
 
--- a list was added that has as many postings as the lexicon tells of its term
+-- a list was added that has as many postings as the lexicon tells of its term, which are of 1 to so many documents
 pub record AddsWhole (all : ℕ) (info : TermInfo) (old new : List (ℕ × ℕ)) : Type 0 where
   pub list : List Posting
   pub count : length list ≡ info.docs
+  pub docs : HasSome all info
   pub rising : AreRising all 0 list
   pub added : new ≡ with_all (weight_of_term info.docs all) list old
 

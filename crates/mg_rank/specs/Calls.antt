@@ -1,5 +1,5 @@
 -- What the calls promise that make a ranked answer, told of the two moments before and after.
-use Rattle.std.specs.Prelude.{◌≡◌, ℕ, ◌+◌, ◌*◌, ◌^◌, ◌≤◌, ◌<◌, List, [], length, sum_by, take, Vec, IfOk, OnOk}
+use Rattle.std.specs.Prelude.{◌≡◌, ℕ, ◌+◌, ◌*◌, ◌^◌, ◌≤◌, ◌<◌, List, [], length, sum_by, take, Vec, IfErr, IfOk, OnOk}
 use Rattle.std.specs.List.{All}
 use Rattle.std.specs.declared.option.Option.{Option}
 use Rattle.std.specs.declared.result.Result.{Result}
@@ -17,6 +17,7 @@ use Rattle.mg_post.specs.Cursor.{Cursoring, count_behind, post_pages, skip_pages
 use Rattle.mg_post.specs.PagesOnce.{span_pages}
 use Rattle.mg_post.specs.TermLists.{CursorForInfo, IsOverInfo, ReadsLists}
 use Rattle.mg_rank.specs.Added.{AddedTo, AddsWhole, CountsWhole}
+use Rattle.mg_rank.specs.Damages.{HasSome, IsNotOfLex, TellsFirstOf, TellsTerm}
 use Rattle.mg_rank.specs.Ranked.{AddsTerm, AnswersOr, AnswersTop, ForRanked, ForSums, ForTerm, ForTerms, IsNumbered, Ranking, ReadsRanked, ReadsWeights, SumsFor, list_entries}
 use Rattle.mg_rank.specs.Rows.{AreFirst, AreNumbered}
 use Rattle.mg_rank.specs.Sums.{AreApart, AreWithin, sum_of}
@@ -56,6 +57,8 @@ pub record AddsList (base : List ℕ) (info : TermInfo) (all : ℕ) (old new : L
   pub files : files_now ≡ files_before
   -- a device's failure has a cause
   pub cause : HasPartCause faults_before faults_now result
+  -- a damage of the lexicon is that of the term, and is told at its number
+  pub lexicon : IfErr result (TellsTerm all info)
 
 -- a cursor stands before the list of which the lexicon tells this, and has read nothing
 pub record IsBefore (base : List ℕ) (info : TermInfo) (all : ℕ) (c : Cursoring) : Type 0 where
@@ -64,6 +67,8 @@ pub record IsBefore (base : List ℕ) (info : TermInfo) (all : ℕ) (c : Cursori
   -- all postings are left
   pub held : c.held ≡ []
   pub whole : count_behind c ≡ info.docs
+  -- they are of 1 to so many documents
+  pub docs : HasSome all info
   pub post : post_pages c ≡ 0
   pub skip : skip_pages c ≡ 0
 
@@ -95,6 +100,8 @@ pub record SumsTerms (base : List ℕ) (terms : List TermInfo) (all : ℕ) (resu
   pub files : files_now ≡ files_before
   -- a device's failure has a cause
   pub cause : HasPartCause faults_before faults_now result
+  -- a damage of the lexicon is that of the first term that has one, and is told at its number
+  pub lexicon : IfErr result (TellsFirstOf all terms)
 
 -- the first rows of the documents with these sums are found, at most so many
 pub record FindsFirst (base : List ℕ) (sums : List (ℕ × ℕ)) (all most : ℕ) (result : Result (Vec Kept Global) PartErr)
@@ -112,6 +119,8 @@ pub record FindsFirst (base : List ℕ) (sums : List (ℕ × ℕ)) (all most : �
   pub files : files_now ≡ files_before
   -- a device's failure has a cause
   pub cause : HasPartCause faults_before faults_now result
+  -- no damage of the lexicon is told
+  pub lexicon : IfErr result IsNotOfLex
 
 -- they are found by the weights in a file of this name
 abbrev pub FindsIn : List ℕ → List (ℕ × ℕ) → ℕ → ℕ → Result (Vec Kept Global) PartErr → StoreStep
@@ -137,6 +146,8 @@ pub record RanksSums (base : List ℕ) (sums : List (ℕ × ℕ)) (all most : �
   pub files : files_now ≡ files_before
   -- a device's failure has a cause
   pub cause : HasPartCause faults_before faults_now result
+  -- no damage of the lexicon is told
+  pub lexicon : IfErr result IsNotOfLex
 
 -- the first documents with one of the terms are found, at most so many
 pub record RanksTerms (base : List ℕ) (terms : List TermInfo) (all most : ℕ) (result : Result Ranking PartErr)
@@ -161,3 +172,5 @@ pub record RanksTerms (base : List ℕ) (terms : List TermInfo) (all most : ℕ)
   pub files : files_now ≡ files_before
   -- a device's failure has a cause
   pub cause : HasPartCause faults_before faults_now result
+  -- a damage of the lexicon is that of the first term that has one, and is told at its number
+  pub lexicon : IfErr result (TellsFirstOf all terms)

@@ -1,9 +1,10 @@
 //! What the list of a term adds to the sums.
-ghost use Rattle.std.specs.Prelude.{◌≡◌, ◌≢◌, ℕ, ◌*◌, ◌≤◌, ◌<◌, ◌^◌, Ok, Err, IfOk, OnOk, OnErr};
+ghost use Rattle.std.specs.Prelude.{◌≡◌, ℕ, ◌*◌, ◌≤◌, ◌<◌, ◌^◌, Ok, IfErr, IfOk, OnOk, OnErr};
 ghost use Rattle.mg_dev.specs.Moments.{Between};
 ghost use Rattle.mg_defs.specs.Weights.{weight_of_term, weight_in_doc};
 ghost use Rattle.mg_post.specs.Cursor.{CursorFits};
 ghost use Rattle.mg_rank.specs.Calls.{AddsBehind, AddsList};
+ghost use Rattle.mg_rank.specs.Damages.{HasSome, RefusesTerm};
 ghost use Rattle.mg_rank.specs.Sums.{sum_of, with_more};
 
 use crate::sums::Sums;
@@ -14,23 +15,26 @@ use mg_layout::TermInfo;
 use mg_post::{Cursor, cursor_pages_are_within, each_page_is_read_once};
 use std::alloc::{AllocError, Global};
 
-/// The weight of a term by how many documents have it.
-fn weight_of_list(docs: u32, all: u32) -> Result<u32, PartErr>
-    ensures is { 1 ≤ docs → docs ≤ all → result ≡ Ok (weight_of_term docs all) }
-    ensures told { IfOk result (λ weight. weight ≡ weight_of_term docs all) }
+/// The weight of a term by how many documents have it. Where the lexicon tells none, or more than
+/// there are, its entry of the term is damaged.
+fn weight_of_list(info: &TermInfo, all: u32) -> Result<u32, PartErr>
+    ensures is { 1 ≤ info.now.docs → info.now.docs ≤ all →
+        result ≡ Ok (weight_of_term info.now.docs all) }
+    ensures told { IfOk result (λ weight. weight ≡ weight_of_term info.now.docs all) }
     ensures high { IfOk result (λ weight. weight < 2 ^ 14) }
-    ensures calm { result ≢ Err PartErr.Device }
+    ensures some { OnOk result (HasSome all info.now) }
+    ensures lexicon { IfErr result (RefusesTerm all info.now) }
 {
-    if docs == 0 || all < docs {
+    if info.docs == 0 || all < info.docs {
         return Err(PartErr::Bad(Bad {
             part: Part::Lex,
-            at: 0,
+            at: u64::from(info.number),
             low: 1,
             high: u64::from(all),
-            found: u64::from(docs),
+            found: u64::from(info.docs),
         }));
     }
-    Ok(term_weight(docs, all))
+    Ok(term_weight(info.docs, all))
 }
 
 /// The weight of a term that comes so often in a document.
@@ -117,7 +121,7 @@ pub(crate) fn add_list<S: Store>(
     ensures { Between S.files S.reads S.faults store.old store.new
         (AddsList base.now info.now all sums.old sums.new result) }
 {
-    let weight = match weight_of_list(info.docs, all) {
+    let weight = match weight_of_list(info, all) {
         Ok(weight) => weight,
         Err(refusal) => return Err(refusal),
     };

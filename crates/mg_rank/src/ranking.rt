@@ -1,5 +1,5 @@
 //! A ranked answer.
-ghost use Rattle.std.specs.Prelude.{◌≡◌, ◌≢◌, ◌*◌, ◌<◌, ◌≤◌, ◌^◌, IfOk, OnOk, IsSome, length, slice_index_or, sum_by};
+ghost use Rattle.std.specs.Prelude.{◌≡◌, ◌≢◌, ◌*◌, ◌<◌, ◌≤◌, ◌^◌, IfErr, IfOk, OnOk, IsSome, length, slice_index_or, sum_by};
 ghost use Rattle.std.specs.List.{All};
 ghost use Rattle.mg_dev.specs.Files.{bytes_at};
 ghost use Rattle.mg_dev.specs.Moments.{Between};
@@ -10,6 +10,7 @@ ghost use Rattle.mg_defs.specs.Weights.{Hit};
 ghost use Rattle.mg_defs.specs.PageBounds.{ranked_bound};
 ghost use Rattle.mg_post.specs.PagesOnce.{span_pages};
 ghost use Rattle.mg_rank.specs.Calls.{AreSums, RanksSums, RanksTerms, SumsTerms};
+ghost use Rattle.mg_rank.specs.Damages.{IsNotOfLex, TellsFirstOf};
 ghost use Rattle.mg_rank.specs.Ranked.{AnswersTop, IsNumbered, ReadsRanked, PostWithin, SkipWithin, ForTerms, ForRanked, list_entries};
 ghost use Rattle.mg_rank.specs.Added.{CountsWhole};
 ghost use Rattle.mg_rank.specs.WeightReads.{WeightsWithin, weight_pages};
@@ -126,6 +127,7 @@ fn count(sums: &Sums) -> Result<u32, PartErr>
     ensures is { length sums.now < 2 ^ 32 → result ≡ Ok (length sums.now) }
     ensures told { IfOk result (λ count. count ≡ length sums.now) }
     ensures calm { result ≢ Err PartErr.Device }
+    ensures lexicon { IfErr result IsNotOfLex }
 {
     let count = sums.len();
     if count > 4294967295 {
@@ -192,12 +194,13 @@ fn rank_sized<S: Store>(
 /// is read once, and the weights of the documents that were met; where no row is wanted, no weight is
 /// read. Over any parts every call returns, and no sum passes its type: 64 terms add less than 2^35 to
 /// a document. Whatever the parts have, an answer counts whole lists: each has as many postings as its
-/// `TermInfo` tells, of rising documents.
+/// `TermInfo` tells, which are of 1 to `all` rising documents.
 ///
 /// # Errors
 ///
-/// `Bad` for weights of another size than 4 bytes a document, and for lists and weights that are
-/// damaged; `Device` where the store failed; `Memory`.
+/// `Bad` for weights of another size than 4 bytes a document, for lists and weights that are damaged,
+/// and for the lexicon where a term's `TermInfo` tells no document or more than `all`: at the term's
+/// number, with how many it tells. `Device` where the store failed; `Memory`.
 pub fn rank<S: Store>(
     alloc: Global,
     store: &mut S,
@@ -225,6 +228,7 @@ pub fn rank<S: Store>(
     ensures none { most ≡ 0 → S.reads store.new part.Weights ≡ S.reads store.old part.Weights }
     ensures files { S.files store.new ≡ S.files store.old }
     ensures cause { HasPartCause (S.faults store.old) (S.faults store.new) result }
+    ensures lexicon { IsSome (S.files store.old) → IfErr result (TellsFirstOf all terms.now) }
 {
     let weights = FileRef {
         base,

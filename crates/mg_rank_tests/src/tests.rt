@@ -1,5 +1,5 @@
-//! What no clause says: that calls succeed, rows over parts that another implementation made, which refusal comes of a term
-//! that no document has, and that each failing call is told.
+//! What no clause says: that calls succeed, rows over parts that another implementation made, that a term of no documents or of
+//! too many is refused as damage, and that each failing call is told.
 ghost use Rattle.std.specs.Prelude.{◌≤◌, length};
 
 use mg_dev::{Part, PartErr, Store};
@@ -172,8 +172,16 @@ static OF_FOUR: TermInfo = TermInfo {
 };
 
 static OF_NONE: TermInfo = TermInfo {
-    number: 0,
+    number: 7,
     docs: 0,
+    post_at: 0,
+    skip_at: 0,
+};
+
+// One that more documents have than there are.
+static OF_THIRTEEN: TermInfo = TermInfo {
+    number: 3000,
+    docs: 13,
     post_at: 0,
     skip_at: 0,
 };
@@ -190,10 +198,20 @@ fn refusal(
     Ok((told, store.calls()))
 }
 
+// Whether a term is refused at its number, by how many documents have it.
+fn is_told(alloc: Global, term: &TermInfo) -> Result<bool, AllocError> {
+    let (told, _) = refusal(alloc, term, 1000)?;
+    let (number, docs) = (u64::from(term.number), u64::from(term.docs));
+    Ok(matches!(told, Some(PartErr::Bad(bad))
+        if bad.part == Part::Lex && bad.at == number && bad.found == docs))
+}
+
 #[test]
-fn a_term_that_no_document_has_is_damage_of_the_lexicon(rt: HostRuntime) -> Result<(), Fail> {
-    let (told, _) = refusal(rt.alloc(), &OF_NONE, 1000)?;
-    assert!(rt; matches!(told, Some(PartErr::Bad(bad)) if bad.part == Part::Lex && bad.found == 0));
+fn a_term_of_no_documents_or_of_too_many_is_told_by_its_number(
+    rt: HostRuntime,
+) -> Result<(), Fail> {
+    let alloc = rt.alloc();
+    assert!(rt; is_told(alloc, &OF_NONE)? && is_told(alloc, &OF_THIRTEEN)?);
     Ok(())
 }
 

@@ -1,4 +1,4 @@
-use Rattle.std.proofs.Common.{arith, ◌^◌}
+use Rattle.std.proofs.Common.{arith, ◌^◌, refl}
 use Rattle.mg_defs.specs.Lists.{postings}
 use Rattle.mg_defs.specs.PageBounds.{numbers_in}
 use Rattle.mg_rank.proofs.ListWalk.{walk_err, walk_first, walk_lack, walk_more, walk_none, walk_over}
@@ -29,7 +29,7 @@ loop-last-preserved g c = walk_more c.loop-last.invariant (rw c.in-Ok-Some.field
 -- no set has so many documents
 pub returns : goal.returns
 returns g c =
-    walk_over _ c.loop-last.invariant (omega (arith, c.loop-last-test.false))
+    walk_over _ refl c.loop-last.invariant (omega (arith, c.loop-last-test.false))
     (λ base collection t list. (
       omega (
         arith,

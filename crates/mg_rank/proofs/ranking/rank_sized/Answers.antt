@@ -1,9 +1,10 @@
 use Rattle.std.proofs.Common.{arith, sym, ◌∙◌, subst}
-use Rattle.std.proofs.lemmas.Result.{IfOk-weaker}
+use Rattle.std.proofs.lemmas.Result.{IfErr-weaker, IfOk-weaker}
 use Rattle.mg_dev.proofs.CallerLemmas.{cause_err, cause_then}
 use Rattle.mg_dev.specs.declared.part.Part.TheVariants as part
 use Rattle.mg_rank.specs.Ranked.{WeightsStand}
 use Rattle.mg_rank.proofs.AscentLaws.{terms_most}
+use Rattle.mg_rank.proofs.DamageLaws.{other_tells}
 use Rattle.mg_rank.proofs.EndLaws.{ranked_both, ranked_lists, top_err, top_over}
 use Rattle.mg_rank.proofs.ranking.rank_sized.Goals as goal
 
@@ -24,6 +25,7 @@ returns-in-Err g c =
       reads = ranked_lists e.reads;
       files = e.files;
       cause = cause_err (omega arith) e.cause;
+      lexicon = e.lexicon;
     }
 
 -- the documents have their sums
@@ -46,6 +48,7 @@ returns-in-Ok g c =
       reads = ranked_both e.reads f.reads;
       files = f.files ∙ e.files;
       cause = cause_then c.rank_sums.result e.cause.later f.cause;
+      lexicon = IfErr-weaker c.rank_sums.result _ _ (other_tells _) f.lexicon;
     }
 
 pub rank_sums-requires : goal.rank_sums-requires

@@ -17,6 +17,7 @@ returns-in-Err g c = record {
   reads = record { later = λ p. omega arith; others = λ p o. refl };
   files = refl;
   cause = calm_cause c.in-Err.refusal (λ is. c.in-Err.ensures.calm (ap Err is)) (omega arith);
+  lexicon = c.in-Err.ensures.lexicon;
 }
 
 -- the rows are found
@@ -34,6 +35,7 @@ returns-in-Ok-first_rows g c =
       reads = f.reads;
       files = f.files;
       cause = record { later = f.cause.later; device = tt };
+      lexicon = tt;
     }
 
 -- a weight was refused
@@ -49,4 +51,5 @@ returns-in-Err-first_rows g c =
       reads = f.reads;
       files = f.files;
       cause = cause_err (omega arith) f.cause;
+      lexicon = f.lexicon;
     }

@@ -5,6 +5,7 @@ use Rattle.mg_post.specs.PagesOnce.{span_pages}
 use Rattle.mg_post.specs.TermLists.{ListsStand}
 use Rattle.mg_rank.specs.Added.{AddedTo}
 use Rattle.mg_rank.proofs.AddedLaws.{added_next}
+use Rattle.mg_rank.proofs.DamageLaws.{first_of}
 use Rattle.mg_rank.proofs.EndLaws.{info_at, lists_on, once_end, once_next, post_end, skips_end, skips_next, sums_end, sums_next}
 use Rattle.mg_rank.proofs.WalkLaws.{or_or}
 use Rattle.mg_rank.proofs.ranking.sum_lists.Goals as goal
@@ -37,6 +38,7 @@ returns-in-Err g c =
       reads = lists_on inv.reads e.reads;
       files = e.files ∙ inv.files;
       cause = cause_err inv.faults e.cause;
+      lexicon = first_of c.args.all c.args.terms.now k _ _ c.in-Err.refusal (omega arith) inv.added e.lexicon;
     }
 
 pub loop-info-preserved : goal.loop-info-preserved
@@ -85,4 +87,5 @@ returns g c =
       reads = inv.reads;
       files = inv.files;
       cause = cause_ok inv.faults;
+      lexicon = tt;
     }

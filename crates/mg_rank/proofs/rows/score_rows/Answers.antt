@@ -26,7 +26,7 @@ pub returns-in-Err : goal.returns-in-Err
 returns-in-Err g c =
     let lt : c.loop-place.place < length c.args.sums.now = omega (arith, c.loop-place-test.true, c.len-place-end.ensures, c.loop-place.auto.place-end) in
     let e = c.in-Err.ensures in
-    rows_refused c.loop-place.invariant (entry_at c.requires.sums lt (c.at-document.ensures (0, 0))) e.looked e.read c.in-Err.refusal e.told e.cause
+    rows_refused c.loop-place.invariant (entry_at c.requires.sums lt (c.at-document.ensures (0, 0))) e.looked e.read c.in-Err.refusal e.told e.cause e.lexicon
 
 pub returns-in-Err-offer : goal.returns-in-Err-offer
 returns-in-Err-offer g c =

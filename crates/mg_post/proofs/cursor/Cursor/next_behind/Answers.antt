@@ -29,6 +29,7 @@ returns g c =
       sound = e.sound;
       next = e.next;
       shows = e.shows;
+      part = e.part;
       reads = e.reads;
       files = e.files;
       memory = e.memory;
