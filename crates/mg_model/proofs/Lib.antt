@@ -5,6 +5,7 @@ mod Counting
 mod Order
 mod Sorting
 mod Blocks
+mod SortedBlocks
 mod Seeking
 mod Entries
 mod Damages

@@ -1,6 +1,7 @@
 -- Pieces by entries of sixteen bytes, and the bytes of the longer ones.
-use Rattle.std.specs.Prelude.{ℕ, ◌+◌, ◌*◌, ◌^◌, ◌<◌, ◌≤◌, nat_le, if◌then◌else◌, List, length, take, drop, slice_index}
+use Rattle.std.specs.Prelude.{ℕ, Bool, ◌+◌, ◌^◌, ◌<◌, ◌≤◌, nat_le, if◌then◌else◌, List, length, take, drop, slice_index}
 use Rattle.std.specs.List.{AllByRecursion}
+use Rattle.std.specs.Str.{bytes_eq}
 use Rattle.mg_defs.specs.Numbers.{four_at}
 
 -- the piece that an entry holds: its length, and then its bytes
@@ -20,8 +21,11 @@ pub record IsPieceEntry (size : ℕ) (entry : List ℕ) : Type 0 where
   pub byte : slice_index entry 0 ≤ 255
   pub within : 15 < slice_index entry 0 → four_at entry 1 + slice_index entry 0 ≤ size
 
+-- whether two entries have the same piece
+abbrev pub same_piece : List ℕ → List ℕ → List ℕ → Bool
+same_piece long one other = bytes_eq (piece_of long one) (piece_of long other)
+
 -- each entry is one over the bytes of the longer pieces
 pub record IsBlock (entries : List (List ℕ)) (long : List ℕ) : Type 0 where
   pub few : length entries ≤ 2 ^ 22
-  pub long_few : length long ≤ 255 * length entries
   pub entries_are : AllByRecursion (IsPieceEntry (length long)) entries

@@ -1,10 +1,9 @@
 -- The numbers of the terms of words.
-use Rattle.std.specs.Prelude.{◌≡◌, ℕ, ◌<◌, List, Option, None, Some, length, map, position, slice_get, if◌then◌else◌}
+use Rattle.std.specs.Prelude.{◌≡◌, ℕ, ◌<◌, ◌-◌, ◌^◌, ◌==◌, List, Option, None, Some, length, map, position, slice_get, if◌then◌else◌}
 use Rattle.std.specs.Str.{bytes_eq}
 use Rattle.mg_defs.specs.Marks.{term_in}
 use Rattle.mg_defs.specs.Sorted.{sorted_distinct}
 use Rattle.mg_defs.specs.Terms.{folded, is_empty, terms_of_words}
-use Rattle.mg_defs.specs.Vocabulary.{counted}
 
 -- the terms in the order of their bytes, and the number of each word's term
 pub record TermNumbers : Type 0 where
@@ -41,6 +40,9 @@ HasNumberAt it symbol word = slice_get it.numbers symbol ≡ Some (term_in it.te
 abbrev pub place_in : List (List ℕ) → List ℕ → Option ℕ
 place_in terms word = if is_empty word then None else position (bytes_eq (folded word)) terms
 
--- the terms with their counts after one word more
-abbrev pub counted_term : List ℕ → List (List ℕ × ℕ) → List (List ℕ × ℕ)
-counted_term word entries = if is_empty word then entries else counted (folded word) entries
+-- the number of a term by what is kept of it: the greatest that four bytes hold tells that there is none
+abbrev pub number_kept : ℕ → Option ℕ
+number_kept kept = if kept == 2 ^ 32 - 1 then None else Some kept
+
+abbrev pub numbers_kept : List ℕ → List (Option ℕ)
+numbers_kept kept = map number_kept kept

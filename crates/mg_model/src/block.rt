@@ -1,12 +1,13 @@
 //! Pieces in entries of sixteen bytes, and the bytes of the longer ones in one block.
-ghost use Rattle.std.specs.Prelude.{◌≡◌, ℕ, List, ◌+◌, ◌<◌, ◌≤◌, ◌^◌, ◌++◌, ◌∷◌, [], length, position, slice_get, slice_index, slice_index_or, Some, IfOk, IfSome, OnOk, OnErr};
-ghost use Rattle.std.specs.List.{AllByRecursion};
-ghost use Rattle.std.specs.List.Sorted.{IsStrictlySortedBy};
+ghost use Rattle.std.specs.Prelude.{◌≡◌, ℕ, List, ◌+◌, ◌<◌, ◌≤◌, ◌^◌, ◌++◌, ◌∷◌, [], length, map, position, slice_get, slice_index, slice_index_or, Some, IfOk, IfSome, OnOk, OnErr};
+ghost use Rattle.std.specs.List.{AllByRecursion, dedup};
+ghost use Rattle.std.specs.List.Sorted.{IsPermutation, IsSorted, IsStrictlySortedBy};
 ghost use Rattle.std.specs.Ordering.{nat_cmp};
 ghost use Rattle.std.specs.Cmp.Lexicographic.{slice_cmp};
 ghost use Rattle.std.specs.Str.{bytes_eq};
 ghost use Rattle.mg_defs.specs.Numbers.{four_at};
-ghost use Rattle.mg_model.specs.Blocks.{short_piece, long_piece, piece_of, IsPieceEntry};
+ghost use Rattle.mg_defs.specs.Sorted.{sorted_distinct};
+ghost use Rattle.mg_model.specs.Blocks.{short_piece, long_piece, piece_of, same_piece, IsPieceEntry};
 
 use crate::room::{make_room, make_room_for};
 use mg_fields::{four_at, four_bytes};
@@ -99,6 +100,49 @@ fn piece_of<'a>(entry: &'a [u8; 16], long: &'a [u8]) -> &'a [u8]
     }
 }
 
+/// The piece of an entry, or as much of it as is there: so it asks for nothing, and serves to compare.
+fn piece_there<'a>(entry: &'a [u8; 16], long: &'a [u8]) -> &'a [u8]
+    ensures { result.now ≡ piece_of long.now entry.now }
+{
+    let length = usize::from(entry[0]);
+    if length <= SHORT {
+        return short_piece(entry);
+    }
+    let start = long.len().min(four_at(entry, 1) as usize);
+    let end = long.len().min(start + length);
+    &long[start..end]
+}
+
+/// The order of the pieces of two entries.
+fn order(long: &[u8], one: &[u8; 16], other: &[u8; 16]) -> Ordering
+    ensures { result ≡ slice_cmp nat_cmp (piece_of long.now one.now) (piece_of long.now other.now) }
+{
+    piece_there(one, long).cmp(piece_there(other, long))
+}
+
+/// Whether two entries have the same piece.
+fn same_piece(long: &[u8], one: &[u8; 16], other: &[u8; 16]) -> bool
+    ensures { result ≡ same_piece long.now one.now other.now }
+{
+    piece_there(one, long) == piece_there(other, long)
+}
+
+/// Sorts entries by the bytes of their pieces.
+fn sort_entries(entries: &mut Vec<[u8; 16]>, long: &[u8])
+    ensures permutation { IsPermutation entries.old.items entries.new.items }
+    ensures sorted { IsSorted (slice_cmp nat_cmp) (map (piece_of long.now) entries.new.items) }
+{
+    entries.sort_unstable_by(|one, other| order(long, one, other));
+}
+
+/// Takes the entries away whose piece is that of the entry before.
+fn leave_each_once(entries: &mut Vec<[u8; 16]>, long: &[u8])
+    ensures entries { entries.new.items ≡ dedup (same_piece long.now) entries.old.items }
+    ensures fewer { length entries.new.items ≤ length entries.old.items }
+{
+    entries.dedup_by(|one, before| same_piece(long, one, before));
+}
+
 impl PieceBlock {
     /// A block of no piece.
     pub fn new(alloc: Global) -> Self
@@ -142,17 +186,29 @@ impl PieceBlock {
             self.entries.push_reserved(short_entry(piece));
             return Ok(());
         }
+        let Ok(place) = u32::try_from(self.long.len()) else {
+            return Err(AllocError);
+        };
         make_room_for(&mut self.long, piece.len())?;
-        let entry = long_entry(piece.len() as u8, self.long.len() as u32);
+        let entry = long_entry(piece.len() as u8, place);
         self.long.extend_from_slice(piece)?;
         self.entries.push_reserved(entry);
         Ok(())
     }
 
-    /// Gives back the memory that the longer pieces do not need.
+    /// Sorts the pieces by their bytes, and leaves each once. It takes no memory.
+    pub fn sort_distinct(&mut self)
+        ensures { self.new ≡ sorted_distinct self.old }
+    {
+        sort_entries(&mut self.entries, &self.long);
+        leave_each_once(&mut self.entries, &self.long);
+    }
+
+    /// Gives back the memory that the pieces do not need.
     pub fn shrink(&mut self)
         ensures { self.new ≡ self.old }
     {
+        self.entries.shrink_to_fit();
         self.long.shrink_to_fit();
     }
 

@@ -1,40 +1,44 @@
 //! The numbers of terms.
-ghost use Rattle.std.specs.Prelude.{◌≡◌, ◌-◌, ◌<◌, ◌≤◌, ◌^◌, [], length, take, slice_get, Some, IfOk, OnOk};
+ghost use Rattle.std.specs.Prelude.{◌≡◌, ◌-◌, ◌<◌, ◌≤◌, ◌^◌, ◌++◌, [], length, take, slice_get, Some, IfOk, IfSome, OnOk, ◌∷◌};
 ghost use Rattle.std.specs.List.Sorted.{IsStrictlySortedBy};
 ghost use Rattle.std.specs.Ordering.{nat_cmp};
 ghost use Rattle.std.specs.Cmp.Lexicographic.{slice_cmp};
-ghost use Rattle.mg_defs.specs.Terms.{folded, is_empty};
-ghost use Rattle.mg_defs.specs.Vocabulary.{total};
-ghost use Rattle.mg_model.specs.Terms.{counted_term, place_in, terms_and_numbers};
-ghost use Rattle.mg_model.specs.Vocabularies.{pieces_of};
+ghost use Rattle.mg_defs.specs.Terms.{folded, is_empty, terms_of_words};
+ghost use Rattle.mg_model.specs.Terms.{number_kept, numbers_kept, place_in, terms_and_numbers};
 
+use crate::block::PieceBlock;
 use crate::dropping::without;
-use crate::{Stream, TextModel, Vocab};
+use crate::{Stream, TextModel};
 use mg_parse::{PIECE_BYTES, fold};
 use std::alloc::{AllocError, Global};
 use std::marker::Model;
 
+/// What is kept of a word without a term: no term has this number.
+const NO_TERM: u32 = u32::MAX;
+
 /// The distinct terms of a model's words in the order of their bytes, numbered from 0, and the
 /// number of each word's term. Words that fold together have one term, and the empty word has none.
+///
+/// A term takes an entry of sixteen bytes, and its own bytes beside it where it has more than
+/// fifteen. A word takes four. While the table is made, each word has an entry.
 #[derive(Drop)]
 pub struct TermTable {
-    terms: Vocab,
-    numbers: Vec<Option<u32>>,
+    terms: PieceBlock,
+    numbers: Vec<u32>,
 }
 
 impl Model for TermTable {
-    ghost use Rattle.mg_model.specs.Terms.{TermNumbers};
+    ghost use Rattle.mg_model.specs.Terms.{TermNumbers, numbers_kept};
 
     ghost Value = { TermNumbers };
 
     ghost use Rattle.std.specs.Cmp.Lexicographic.{slice_cmp};
     ghost use Rattle.std.specs.List.Sorted.{IsStrictlySortedBy};
     ghost use Rattle.std.specs.Ordering.{nat_cmp};
-    ghost use Rattle.mg_model.specs.Vocabularies.{pieces_of};
 
-    ghost view = { λ t. record { terms = pieces_of t.terms; numbers = t.numbers.items } };
+    ghost view = { λ t. record { terms = t.terms; numbers = numbers_kept t.numbers.items } };
 
-    ghost invariant = { λ t. IsStrictlySortedBy (slice_cmp nat_cmp) (pieces_of t.terms) };
+    ghost invariant = { λ t. IsStrictlySortedBy (slice_cmp nat_cmp) t.terms };
 }
 
 /// Whether a word is empty.
@@ -56,28 +60,25 @@ fn fold_into(word: &[u8], term: &mut [u8; PIECE_BYTES]) -> usize
     fold(word, term)
 }
 
-/// Counts the term of a word. There are fewer than 2^22 terms, so that there are never too many.
-fn count_term(terms: &mut Vocab, word: &[u8]) -> Result<(), AllocError>
-    requires total { total terms.old < 2 ^ 32 - 1 }
+/// Adds the term of a word, which is not empty, behind others. There are fewer than 2^22 before.
+fn push_term(terms: &mut PieceBlock, word: &[u8]) -> Result<(), AllocError>
     requires few { length terms.old < 2 ^ 22 }
     requires short { length word.now ≤ 255 }
-    ensures counted { OnOk result (terms.new ≡ counted_term word.now terms.old) }
+    ensures { OnOk result (terms.new ≡ terms.old ++ terms_of_words (word.now ∷ [])) }
 {
     if is_empty(word) {
         return Ok(());
     }
     let mut term = [0; PIECE_BYTES];
     let length = fold_into(word, &mut term);
-    match terms.count(&term[..length]) {
-        Ok(()) => Ok(()),
-        Err(_) => Err(AllocError),
-    }
+    terms.push(&term[..length])
 }
 
 /// The place of a word's term among the terms.
-fn number_of(terms: &Vocab, word: &[u8]) -> Option<u32>
-    requires { length word.now ≤ 255 }
-    ensures { result ≡ place_in (pieces_of terms.now) word.now }
+fn number_of(terms: &PieceBlock, word: &[u8]) -> Option<u32>
+    requires rising { IsStrictlySortedBy (slice_cmp nat_cmp) terms.now }
+    requires short { length word.now ≤ 255 }
+    ensures { result ≡ place_in terms.now word.now }
 {
     if is_empty(word) {
         return None;
@@ -85,6 +86,25 @@ fn number_of(terms: &Vocab, word: &[u8]) -> Option<u32>
     let mut term = [0; PIECE_BYTES];
     let length = fold_into(word, &mut term);
     terms.place_of(&term[..length])
+}
+
+/// What is kept of the number of a word's term.
+fn kept(number: Option<u32>) -> u32
+    requires { IfSome number (λ number. number < 2 ^ 22) }
+    ensures { number_kept result ≡ number }
+{
+    match number {
+        Some(number) => number,
+        None => NO_TERM,
+    }
+}
+
+/// The number by what is kept of it.
+#[inline]
+fn number_kept(kept: u32) -> Option<u32>
+    ensures { result ≡ number_kept kept }
+{
+    if kept == NO_TERM { None } else { Some(kept) }
 }
 
 impl TermTable {
@@ -125,53 +145,59 @@ impl TermTable {
         requires { symbol < length self.now.numbers }
         ensures { slice_get self.now.numbers symbol ≡ Some result }
     {
-        self.numbers[symbol as usize]
+        number_kept(self.numbers[symbol as usize])
     }
 }
 
 /// The terms of a model's words, in the order of their bytes.
-fn sorted_terms(alloc: Global, model: &TextModel) -> Result<Vocab, AllocError>
-    ensures { IfOk result (λ terms. pieces_of terms
-        ≡ (terms_and_numbers model.now.words.pieces).terms) }
+fn sorted_terms(alloc: Global, model: &TextModel) -> Result<PieceBlock, AllocError>
+    ensures { IfOk result (λ terms. terms ≡ (terms_and_numbers model.now.words.pieces).terms) }
 {
-    let mut terms = Vocab::new(alloc);
-    match count_terms(&mut terms, model) {
+    let words = model.canon(Stream::Words).count();
+    let mut terms = match PieceBlock::with_capacity(alloc, words) {
+        Ok(terms) => terms,
+        Err(refusal) => return Err(refusal),
+    };
+    match put_terms(&mut terms, model) {
         Ok(()) => Ok(terms),
         Err(refusal) => Err(without(terms, refusal)),
     }
 }
 
-/// Counts the terms of a model's words, and sorts them.
-fn count_terms(terms: &mut Vocab, model: &TextModel) -> Result<(), AllocError>
+/// Puts the terms of a model's words where there are none, in the order of their bytes.
+fn put_terms(terms: &mut PieceBlock, model: &TextModel) -> Result<(), AllocError>
     requires none { terms.old ≡ [] }
-    ensures { OnOk result (pieces_of terms.new
-        ≡ (terms_and_numbers model.now.words.pieces).terms) }
+    ensures { OnOk result (terms.new ≡ (terms_and_numbers model.now.words.pieces).terms) }
 {
     let words = model.canon(Stream::Words).count();
     for symbol in 0..words {
-        match count_term(terms, model.piece(Stream::Words, symbol)) {
+        match push_term(terms, model.piece(Stream::Words, symbol)) {
             Ok(()) => {}
             Err(refusal) => return Err(refusal),
         }
     }
-    terms.sort()
+    terms.sort_distinct();
+    terms.shrink();
+    Ok(())
 }
 
-/// The number of the term of each of a model's words.
+/// What is kept of the number of the term of each of a model's words.
 fn term_numbers(
     alloc: Global,
     model: &TextModel,
-    terms: &Vocab,
-) -> Result<Vec<Option<u32>>, AllocError>
-    requires { pieces_of terms.now ≡ (terms_and_numbers model.now.words.pieces).terms }
+    terms: &PieceBlock,
+) -> Result<Vec<u32>, AllocError>
+    requires { terms.now ≡ (terms_and_numbers model.now.words.pieces).terms }
     ensures { IfOk result (λ numbers.
-        numbers.items ≡ (terms_and_numbers model.now.words.pieces).numbers) }
+        numbers_kept numbers.items ≡ (terms_and_numbers model.now.words.pieces).numbers) }
 {
     let words = model.canon(Stream::Words).count();
     let mut numbers = Vec::with_capacity(alloc, words as usize)?;
     for symbol in 0..words {
         let number = number_of(terms, model.piece(Stream::Words, symbol));
-        numbers.push(number)?;
+        // For the proof: there are at most 2^22 terms.
+        let _ = terms.len();
+        numbers.push(kept(number))?;
     }
     Ok(numbers)
 }
