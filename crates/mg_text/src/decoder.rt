@@ -1,14 +1,12 @@
 //! The bytes of a document, decoded piece by piece.
-ghost use Rattle.std.specs.Prelude.{◌≡◌, ◌≤◌, ◌<◌, ℕ, List, [], IfSome, slice_index};
+ghost use Rattle.std.specs.Prelude.{◌≡◌, []};
 ghost use Rattle.std.specs.Bool.{OnFalse};
-ghost use Rattle.mg_defs.specs.CodedText.{codeword_of};
 ghost use Rattle.mg_defs.specs.Marks.{code_of};
-ghost use Rattle.mg_model.specs.Blocks.{short_piece};
-ghost use Rattle.mg_text.specs.Decoding.{Decodes, DocumentCame, DocumentSent, IsIn, PairCame, PairsCame, PieceCame, PieceStood, ReadsHeld, ShowsPiece, ShowsPairs, ShowsWhole, ShowsPair, ShowsDoc, StoodHeld};
+ghost use Rattle.mg_text.specs.Decoding.{Decodes, DocumentCame, DocumentSent, PairCame, PairsCame, PieceCame, ShowsPiece, ShowsPairs, ShowsWhole, ShowsPair, ShowsDoc};
 ghost use Rattle.mg_text.specs.HeldPairs.{HoldsPair};
 
 use crate::show_buffer::ShowBuffer;
-use crate::symbols::{get_count, get_symbol, held_symbol};
+use crate::symbols::{get_count, get_symbol, held_symbols};
 use mg_bits::{BitReader, Feed};
 use mg_dev::{ShowErr, Sink, refused_put};
 use mg_model::{Stream, TextModel};
@@ -59,34 +57,6 @@ fn show_pair<F: Feed, O: Sink>(
     show_piece(model, Stream::Others, r, dev, buffer, out)
 }
 
-/// The entry of the piece of the stream whose codeword stands at the place, where the reader holds
-/// the codeword's bits and the model has an entry of the piece. At `None` the place may be another one.
-#[inline]
-fn held_entry<'a, F: Feed>(
-    model: &'a TextModel,
-    stream: Stream,
-    r: &mut BitReader<F>,
-) -> Option<&'a [u8; 16]>
-    ensures feed { r.new.feed ≡ r.old.feed }
-    ensures short { IfSome result (λ entry. slice_index entry.now 0 ≤ 15) }
-    ensures told { IfSome result (λ entry. (piece : List ℕ) →
-        IsIn (code_of stream model.now) piece →
-        ReadsHeld F.feeding (F.fits r.old.feed) r.old r.new
-        (codeword_of (code_of stream model.now) piece) piece (short_piece entry.now)) }
-    ensures stood { IfSome result (λ entry. PieceStood (code_of stream model.now) (λ bits piece.
-        (piece ≡ short_piece entry.now)
-        × StoodHeld F.feeding (F.fits r.old.feed) r.old r.new bits)) }
-{
-    let symbol = match held_symbol(model.canon(stream), r) {
-        Some(symbol) => symbol,
-        None => return None,
-    };
-    match model.short_piece(stream, symbol) {
-        Some(entry) => Some(entry),
-        None => None,
-    }
-}
-
 /// Holds the word and the other of a pair, where the reader holds the bits of both codewords, the
 /// model has entries of both pieces and the buffer has room for them. Where it answers false, the
 /// place may be another one, and the buffer is as before.
@@ -94,11 +64,17 @@ fn held_entry<'a, F: Feed>(
 fn hold_next<F: Feed>(model: &TextModel, r: &mut BitReader<F>, buffer: &mut ShowBuffer) -> bool
     ensures { HoldsPair F.feeding F.fits r.old r.new buffer.old buffer.new model.now result }
 {
-    let word = match held_entry(model, Stream::Words, r) {
+    let words = model.canon(Stream::Words);
+    let others = model.canon(Stream::Others);
+    let (first, second) = match held_symbols(words, others, r) {
+        Some(symbols) => symbols,
+        None => return false,
+    };
+    let word = match model.short_piece(Stream::Words, first) {
         Some(entry) => entry,
         None => return false,
     };
-    let other = match held_entry(model, Stream::Others, r) {
+    let other = match model.short_piece(Stream::Others, second) {
         Some(entry) => entry,
         None => return false,
     };

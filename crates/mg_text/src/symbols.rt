@@ -1,12 +1,13 @@
 //! The numbers that are read of a document: how many pairs it has, and the symbols of its pieces.
-ghost use Rattle.std.specs.Prelude.{◌≡◌, ◌+◌, ◌<◌, ◌^◌, ℕ, IfOk, IfSome, length};
+ghost use Rattle.std.specs.Prelude.{◌≡◌, ◌+◌, ◌<◌, ◌^◌, ℕ, IfNone, IfOk, IfSome, length};
 ghost use Rattle.mg_defs.specs.Canon.{codeword};
 ghost use Rattle.mg_defs.specs.Codes.{gamma};
-ghost use Rattle.mg_text.specs.Decoding.{ReadsCode, ReadsHeld, ReadsNumber, StoodHeld, StoodNext};
+ghost use Rattle.mg_canon.specs.Pairs.{HeldSymbols};
+ghost use Rattle.mg_text.specs.Decoding.{ReadsCode, ReadsNumber, StoodNext};
 ghost use Rattle.mg_text.specs.Refusals.{IsRefused, IsDamaged};
 
 use mg_bits::{BitReader, CodeErr, Feed};
-use mg_canon::Canon;
+use mg_canon::{Canon, get_pair_held};
 use mg_codes::get_gamma;
 use mg_dev::{Bad, Part, PartErr};
 
@@ -66,24 +67,24 @@ pub fn get_symbol<F: Feed>(
     }
 }
 
-/// The symbol whose codeword stands at the place, where the reader holds the codeword's bits: what
-/// `get_symbol` answers at `Ok`, with no device asked. At `None` the place may be another one.
+/// The symbols of a word and of its other, whose codewords stand at the place, where the reader holds
+/// the bits of both: what `get_symbol` of the one code and then of the other answer at `Ok`, with no
+/// device asked. At `None` the place is the one before.
 #[inline]
-pub fn held_symbol<F: Feed>(canon: &Canon, r: &mut BitReader<F>) -> Option<u32>
+pub fn held_symbols<F: Feed>(
+    words: &Canon,
+    others: &Canon,
+    r: &mut BitReader<F>,
+) -> Option<(u32, u32)>
     ensures feed { r.new.feed ≡ r.old.feed }
-    ensures symbol { IfSome result (λ found. found < length canon.now) }
-    ensures told { IfSome result (λ found. (s : ℕ) → s < length canon.now →
-        ReadsHeld F.feeding (F.fits r.old.feed) r.old r.new (codeword canon.now s) s found) }
-    ensures stood { IfSome result (λ found.
-        StoodHeld F.feeding (F.fits r.old.feed) r.old r.new (codeword canon.now found)) }
+    ensures symbols { IfSome result
+        (HeldSymbols F.fits F.feeding words.now others.now r.old r.new) }
+    ensures place { IfNone result (r.new.place ≡ r.old.place) }
 {
-    if r.place() > LAST || canon.count() == 0 {
+    if r.place() > LAST || words.count() == 0 || others.count() == 0 {
         return None;
     }
-    match canon.get_held(r) {
-        Some(symbol) => Some(symbol),
-        None => None,
-    }
+    get_pair_held(words, others, r)
 }
 
 /// How many pairs the document has whose bits stand at the place.

@@ -1,13 +1,9 @@
 //! The words of a document, listed by their symbols, pair by pair. No byte of a piece is read but its length.
-ghost use Rattle.std.specs.Prelude.{◌≡◌, ◌≤◌, ◌<◌, ℕ, List, [], IfSome, length, slice_index};
+ghost use Rattle.std.specs.Prelude.{◌≡◌};
 ghost use Rattle.std.specs.Bool.{OnFalse};
-ghost use Rattle.mg_defs.specs.CodedText.{codeword_of};
-ghost use Rattle.mg_defs.specs.Marks.{code_of};
-ghost use Rattle.mg_defs.specs.Sorted.{number_of};
-ghost use Rattle.mg_text.specs.Decoding.{IsIn, PieceStood, ReadsHeld, StoodHeld};
 ghost use Rattle.mg_text.specs.Listing.{DocumentListed, ListsBy, ListsDoc, ListsNext, ListsPair, ListsPairs, ListsWord, OtherPassed, PairListed, PairsListed, PassesOther, WordCame};
 
-use crate::symbols::{get_count, get_symbol, held_symbol};
+use crate::symbols::{get_count, get_symbol, held_symbols};
 use crate::word_list::WordList;
 use mg_bits::{BitReader, Feed};
 use mg_dev::PartErr;
@@ -66,37 +62,6 @@ fn list_pair<F: Feed>(
     pass_other(model, r, dev, list)
 }
 
-/// The symbol of the piece of the stream whose codeword stands at the place, and its length, where the
-/// reader holds the codeword's bits and the model has an entry of the piece. At `None` the place may be
-/// another one.
-#[inline]
-fn held_piece<F: Feed>(
-    model: &TextModel,
-    stream: Stream,
-    r: &mut BitReader<F>,
-) -> Option<(u32, usize)>
-    ensures feed { r.new.feed ≡ r.old.feed }
-    ensures symbol { IfSome result (λ found. found.0 < length (code_of stream model.now).pieces) }
-    ensures short { IfSome result (λ found. found.1 ≤ 15) }
-    ensures told { IfSome result (λ found. (piece : List ℕ) →
-        IsIn (code_of stream model.now) piece →
-        ReadsHeld F.feeding (F.fits r.old.feed) r.old r.new
-        (codeword_of (code_of stream model.now) piece)
-        (number_of (code_of stream model.now).pieces piece, length piece) found) }
-    ensures stood { IfSome result (λ found. PieceStood (code_of stream model.now) (λ bits piece.
-        ((number_of (code_of stream model.now).pieces piece, length piece) ≡ found)
-        × StoodHeld F.feeding (F.fits r.old.feed) r.old r.new bits)) }
-{
-    let symbol = match held_symbol(model.canon(stream), r) {
-        Some(symbol) => symbol,
-        None => return None,
-    };
-    match model.short_piece(stream, symbol) {
-        Some(entry) => Some((symbol, usize::from(entry[0]))),
-        None => None,
-    }
-}
-
 /// Lists the word of a pair, where the reader holds the bits of both codewords, the model has entries of
 /// both pieces and no memory has to be taken. Where it answers false, the place may be another one, and
 /// the list is as before.
@@ -104,15 +69,21 @@ fn held_piece<F: Feed>(
 fn list_next<F: Feed>(model: &TextModel, r: &mut BitReader<F>, list: &mut WordList) -> bool
     ensures { ListsNext F.feeding F.fits r.old r.new list.old list.new model.now result }
 {
-    let (symbol, word) = match held_piece(model, Stream::Words, r) {
-        Some(found) => found,
+    let words = model.canon(Stream::Words);
+    let others = model.canon(Stream::Others);
+    let (first, second) = match held_symbols(words, others, r) {
+        Some(symbols) => symbols,
         None => return false,
     };
-    let other = match held_piece(model, Stream::Others, r) {
-        Some((_, other)) => other,
+    let word = match model.short_piece(Stream::Words, first) {
+        Some(entry) => entry[0],
         None => return false,
     };
-    list.hold(symbol, word, other)
+    let other = match model.short_piece(Stream::Others, second) {
+        Some(entry) => entry[0],
+        None => return false,
+    };
+    list.hold(first, usize::from(word), usize::from(other))
 }
 
 /// Lists the word of a pair where no device has to be asked, which is so of most: `true` stands for what

@@ -1,46 +1,26 @@
-use Rattle.std.proofs.Common.{arith, ℕ, ◌+◌, length-append, sym, subst, ap, ◌∙◌}
-use Rattle.mg_defs.specs.Bits.{Shows}
-use Rattle.mg_defs.specs.CodedText.{codeword_of}
-use Rattle.mg_defs.specs.Sorted.{number_of}
-use Rattle.mg_defs.proofs.FrontLaws.{shows_left, shows_right}
-use Rattle.std.proofs.Common.{length}
-use Rattle.mg_text.specs.Listing.{symbol_if, Adds, ListedHeld, ListsHeld}
-use Rattle.mg_text.proofs.ListLaws.{held_listed, words_held}
-use Rattle.mg_text.proofs.ListedLaws.{held_came}
+use Rattle.std.proofs.Common.{arith, drop, length, ◌≡◌, ◌+◌, length-drop, length-take}
+use Rattle.std.specs.Prelude.{slice_index}
+use Rattle.mg_model.specs.Blocks.{short_piece}
+use Rattle.mg_text.proofs.ListLaws.{words_held}
 use Rattle.mg_text.proofs.Steps.{on_true}
+use Rattle.mg_text.proofs.SymbolPairs.{symbols_listed, symbols_stood}
 use Rattle.mg_text.proofs.word_lister.list_next.Goals as goal
 
 pub returns : goal.returns
 returns g c =
-    let found = c.in-Some.found in
-    let other = c.in-Some-held_piece.other in
-    let model = c.args.model.now in
-    let lists_held : Adds (symbol_if found.0 found.1) (found.1 + other) c.args.list.now c.hold.new.self →
-    ListsHeld g.F.Feed.feeding (g.F.Feed.fits c.args.r.now.feed) c.args.r.now c.held_piece-2.new.r c.args.list.now c.hold.new.self model =
-    λ adds. λ d fits. λ p is few small shows.
-    let x = codeword_of model.words p.word in
-    let y = codeword_of model.others p.other in
-    let first = c.in-Some.ensures.told p.word is.word d fits (omega (arith, small, length-append x y)) (shows_left _ c.args.r.now.place x y shows) in
-    let fits_next = subst (λ f. g.F.Feed.fits f d.files) (sym c.in-Some.ensures.feed) fits in
-    let next = subst (λ f. Shows ((g.F.Feed.feeding f).source d.files) c.held_piece.new.r.place y) (sym c.in-Some.ensures.feed)
-    (shows_right _ c.args.r.now.place c.held_piece.new.r.place x y first.1 shows) in
-    let second = c.in-Some-held_piece.ensures.told p.other is.other d fits_next (omega (arith, small, length-append x y, first.1)) next in
-    held_listed _ _ _ d c.args.r.now.place c.held_piece.new.r.place c.held_piece-2.new.r.place x y c.args.list.now c.hold.new.self found.0 (number_of model.words.pieces p.word)
-    found.1 other (length p.word) (length p.other) (g.met.F.Feed.whole_pages c.args.r.now.feed).some first.1 first.2 second.1 second.2
-    (ap (λ (f : ℕ × ℕ). f.0) first.0)
-    (ap (λ (f : ℕ × ℕ). f.1) first.0) (ap (λ (f : ℕ × ℕ). f.1) second.0) adds in
-    let listed_held : Adds (symbol_if found.0 found.1) (found.1 + other) c.args.list.now c.hold.new.self →
-    ListedHeld g.F.Feed.feeding (g.F.Feed.fits c.args.r.now.feed) c.args.r.now c.held_piece-2.new.r c.args.list.now c.hold.new.self model =
-    λ adds. λ d fits.
-    let word = c.in-Some.ensures.stood in
-    let then = c.in-Some-held_piece.ensures.stood in
-    let fits_next = subst (λ f. g.F.Feed.fits f d.files) (sym c.in-Some.ensures.feed) fits in
-    held_came model _ d found.0 found.1 other word.piece then.piece (ap g.F.Feed.feeding c.in-Some.ensures.feed) word.there then.there
-    (ap (λ (f : ℕ × ℕ). f.0) word.came.0) (ap (λ (f : ℕ × ℕ). f.1) word.came.0) (ap (λ (f : ℕ × ℕ). f.1) then.came.0) (word.came.1 d fits) (then.came.1 d fits_next) adds in
+    let code = c.args.model.now in
+    let both = rw (c.canon-words.ensures.lengths, c.canon-others.ensures.lengths) at c.in-Some.ensures.symbols in
+    let entry = c.in-Some-short_piece.entry.now in
+    let then = c.in-Some-short_piece-2.entry.now in
+    let long : length (short_piece entry) ≡ c.from.result = omega (arith, c.from.ensures, length-take (slice_index entry 0) (drop 1 entry), length-drop 1 entry, c.in-Some-short_piece.ensures.length) in
+    let long_other : length (short_piece then) ≡ c.from-2.result = omega (arith, c.from-2.ensures, length-take (slice_index then 0) (drop 1 then), length-drop 1 then, c.in-Some-short_piece-2.ensures.length) in
     record {
-      feed = c.in-Some-held_piece.ensures.feed ∙ c.in-Some.ensures.feed;
-      told = on_true c.hold.result _ _ lists_held c.hold.ensures.held;
-      stood = on_true c.hold.result _ _ listed_held c.hold.ensures.held;
+      feed = c.in-Some.ensures.feed;
+      told = on_true c.hold.result _ _ (symbols_listed code c.canon-words.ensures.keeps c.canon-others.ensures.keeps both c.in-Some-short_piece.ensures.piece
+          c.in-Some-short_piece-2.ensures.piece (g.met.F.Feed.whole_pages c.args.r.now.feed).some long long_other) c.hold.ensures.held;
+      stood = on_true c.hold.result _ _ (symbols_stood code c.canon-words.ensures.keeps c.canon-others.ensures.keeps both c.in-Some-short_piece.ensures.piece
+          c.in-Some-short_piece-2.ensures.piece long long_other) c.hold.ensures.held;
       kept = c.hold.ensures.kept;
-      of_words = words_held model found.0 found.1 (found.1 + other) c.hold.result c.args.list.now c.hold.new.self c.in-Some.ensures.symbol c.hold.ensures.held c.hold.ensures.kept;
+      of_words = words_held code c.in-Some.symbols.0 c.from.result (c.from.result + c.from-2.result) c.hold.result c.args.list.now c.hold.new.self
+          (omega (arith, both.one.taken, c.canon-words.ensures.keeps.each)) c.hold.ensures.held c.hold.ensures.kept;
     }
