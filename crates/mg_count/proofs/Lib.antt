@@ -1,8 +1,10 @@
 pub mod Scans
 pub mod ReadingOn
 pub mod Slices
+pub mod WholePieces
 pub mod Counted
 pub mod Planned
 pub mod Fed
+pub mod Behind
 pub mod DocsCounted
 pub mod CallerLemmas

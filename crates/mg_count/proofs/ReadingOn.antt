@@ -45,17 +45,17 @@ read-on_more {old} {mid} {new} bytes i within before other o =
 -- ---- into the document
 
 -- the documents of bytes behind which others come that close none
-record GoesOn (fed run : List ℕ) : Type 0 where
-  count : closed_count (fed ++ run) ≡ closed_count fed
-  closed : closed_documents (fed ++ run) ≡ closed_documents fed
-  part : open_part (fed ++ run) ≡ open_part fed ++ run
-  end : has_open_end (fed ++ run) ≡ true
+pub record GoesOn (fed run : List ℕ) : Type 0 where
+  pub count : closed_count (fed ++ run) ≡ closed_count fed
+  pub closed : closed_documents (fed ++ run) ≡ closed_documents fed
+  pub part : open_part (fed ++ run) ≡ open_part fed ++ run
+  pub end : has_open_end (fed ++ run) ≡ true
 
 none-more : (n m : ℕ) (is_one : Bool) → is_one ≡ false → n ≡ m + cond is_one 1 0 → n ≡ m
 none-more n m true is push = absurd cc
 none-more n m false is push = omega (arith, push)
 
-goes-on : (fed run : List ℕ) → IsDocument run → has_open_end fed ≡ true → GoesOn fed run
+pub goes-on : (fed run : List ℕ) → IsDocument run → has_open_end fed ≡ true → GoesOn fed run
 goes-on fed [] none is = record {
   count = ap closed_count (append-nil fed);
   closed = ap closed_documents (append-nil fed);

@@ -5,3 +5,4 @@ pub mod Pairs
 pub mod Entries
 pub mod Scanning
 pub mod Counting
+pub mod Whole

@@ -5,8 +5,9 @@ ghost use Rattle.mg_defs.specs.Marks.{Mark, marks};
 ghost use Rattle.mg_count.specs.Counting.{AreFew, CountStops, EndStops, HasCounted, IsCountOf, CountStopsAmong};
 ghost use Rattle.mg_count.specs.Plans.{IsPlan, IsPlanOf, IsRoomFor};
 ghost use Rattle.mg_count.specs.Scanning.{HasMet, Scanning};
+ghost use Rattle.mg_count.specs.Whole.{CountsBehind};
 
-use crate::counts::Counts;
+use crate::counts::{Counts, fault_of};
 use crate::plan::{Plan, Room, plan_of};
 use crate::scanner::Scanner;
 use mg_dev::Fault;
@@ -91,9 +92,59 @@ impl Count {
                 Ok(()) => {}
                 Err(refusal) => return Err(refusal),
             }
-            taken += 1;
+            match self.take_pieces(bytes, taken) {
+                Ok(last) => taken = last + 1,
+                Err(refusal) => return Err(refusal),
+            }
         }
         Ok(())
+    }
+
+    /// Takes the bytes behind a place as long as each piece ends within them, and is followed by a byte of
+    /// the other kind; answers the place of the last byte that is taken. Of such a piece nothing is copied
+    /// but its first byte.
+    fn take_pieces(&mut self, bytes: &[u8], from: usize) -> Result<usize, Fault>
+        requires within { from < length bytes.now }
+        requires given { (fed : List ℕ) × HasCounted self.old fed
+            × (length fed + (length bytes.now - (from + 1)) < 2 ^ 32) }
+        ensures { CountsBehind self.old self.new bytes.now from result }
+    {
+        let mut at = from;
+        while at < bytes.len() {
+            match self.take_piece(bytes, at) {
+                Ok(next) => {
+                    if next == at {
+                        return Ok(at);
+                    }
+                    at = next;
+                }
+                Err(refusal) => return Err(refusal),
+            }
+        }
+        Ok(at)
+    }
+
+    /// Takes the bytes behind a place up to the one that ends the piece that began there, and with it; answers
+    /// its place. It takes none where the piece doesn't end within them, or otherwise than at a byte of the
+    /// other kind.
+    #[inline]
+    fn take_piece(&mut self, bytes: &[u8], at: usize) -> Result<usize, Fault>
+        requires within { at < length bytes.now }
+        requires given { (fed : List ℕ) × HasCounted self.old fed
+            × (length fed + (length bytes.now - (at + 1)) < 2 ^ 32) }
+        ensures { CountsBehind self.old self.new bytes.now at result }
+    {
+        few_are_met();
+        let stream = self.scanner.kind();
+        let next = self.scanner.take_piece(bytes, at);
+        if next == at {
+            return Ok(at);
+        }
+        match self.counts.add(stream, &bytes[at..next]) {
+            Ok(()) => {}
+            Err(refusal) => return Err(fault_of(stream, refusal)),
+        }
+        Ok(next)
     }
 
     /// Takes the first bytes as far as they go on the piece that is read; answers how many.

@@ -1,10 +1,12 @@
 //! What is met in a collection, counted.
-ghost use Rattle.std.specs.Prelude.{◌≡◌, ◌<◌, ◌≤◌, ◌+◌, ◌-◌, ◌^◌, ◌++◌, List, [], length, IfErr, OnOk};
+ghost use Rattle.std.specs.Prelude.{◌≡◌, ◌<◌, ◌≤◌, ◌+◌, ◌-◌, ◌^◌, ◌++◌, ◌∷◌, List, [], length, IfErr, OnOk};
 ghost use Rattle.mg_dev.specs.declared.fault.Fault.TheVariants.{Memory};
+ghost use Rattle.mg_defs.specs.declared.Stream.{Stream as Streams};
 ghost use Rattle.mg_defs.specs.Marks.{Mark, piece, start, stop};
 ghost use Rattle.mg_defs.specs.Vocabulary.{counted, has_piece, total};
 ghost use Rattle.mg_count.specs.Counting.{AreFew, IsCounted, PieceStops, StopsAt};
 ghost use Rattle.mg_count.specs.Meeting.{marks_of, only_if};
+ghost use Rattle.mg_count.specs.Whole.{fault_by};
 
 use crate::met::Met;
 use mg_dev::Fault;
@@ -36,14 +38,15 @@ impl Model for Counts {
     ghost view = { λ c. record { words = c.words; others = c.others; pairs = c.pairs.items; pieces = c.pieces; documents = c.documents } };
 }
 
-/// Counts a piece of a stream, of at most 255 bytes. It is one too many exactly where it is new among
-/// 2^22 others.
-fn count_in(vocab: &mut Vocab, stream: Stream, bytes: &[u8]) -> Result<(), Fault>
+/// Counts a piece, of at most 255 bytes. It is one too many exactly where it is new among 2^22 others.
+#[inline]
+fn count_in(vocab: &mut Vocab, bytes: &[u8]) -> Result<(), VocabErr>
     requires total { total vocab.old < 2 ^ 32 - 1 }
     requires short { length bytes.now ≤ 255 }
     ensures counted { OnOk result (vocab.new ≡ counted bytes.now vocab.old) }
     ensures few { OnOk result (length vocab.new ≤ 2 ^ 22) }
-    ensures refused { IfErr result (PieceStops stream vocab.old bytes.now) }
+    ensures refused { IfErr result (λ refusal. (stream : Streams) →
+        PieceStops stream vocab.old bytes.now (fault_by stream refusal)) }
 {
     match vocab.count(bytes) {
         Ok(()) => {
@@ -51,8 +54,17 @@ fn count_in(vocab: &mut Vocab, stream: Stream, bytes: &[u8]) -> Result<(), Fault
             let _ = vocab.len();
             Ok(())
         }
-        Err(VocabErr::TooMany) => Err(Fault::TooManyPieces { stream }),
-        Err(VocabErr::Memory) => Err(Fault::Memory),
+        Err(refusal) => Err(refusal),
+    }
+}
+
+/// Why a piece of the stream is not counted, as a fault.
+pub(crate) fn fault_of(stream: Stream, refusal: VocabErr) -> Fault
+    ensures { result ≡ fault_by stream refusal }
+{
+    match refusal {
+        VocabErr::TooMany => Fault::TooManyPieces { stream },
+        VocabErr::Memory => Fault::Memory,
     }
 }
 
@@ -131,14 +143,31 @@ impl Counts {
         ensures refused { IfErr result (λ fault. (met : List Mark) → IsCounted self.old met →
             StopsAt met (only_if is_met (piece stream bytes.now)) fault) }
     {
-        marks_add_up();
         if !is_met {
             return Ok(());
         }
+        match self.add(stream, bytes) {
+            Ok(()) => Ok(()),
+            Err(refusal) => Err(fault_of(stream, refusal)),
+        }
+    }
+
+    /// Counts a piece. What it answers is small, so that a piece costs no room for a fault.
+    #[inline]
+    pub(crate) fn add(&mut self, stream: Stream, bytes: &[u8]) -> Result<(), VocabErr>
+        requires short { length bytes.now ≤ 255 }
+        requires few { (met : List Mark) × IsCounted self.old met
+            × AreFew (met ++ piece stream bytes.now ∷ []) }
+        ensures counted { OnOk result ((met : List Mark) → IsCounted self.old met →
+            IsCounted self.new (met ++ piece stream bytes.now ∷ [])) }
+        ensures refused { IfErr result (λ refusal. (met : List Mark) → IsCounted self.old met →
+            StopsAt met (piece stream bytes.now ∷ []) (fault_by stream refusal)) }
+    {
+        marks_add_up();
         self.pieces += 1;
         match stream {
-            Stream::Words => count_in(&mut self.words, stream, bytes),
-            Stream::Others => count_in(&mut self.others, stream, bytes),
+            Stream::Words => count_in(&mut self.words, bytes),
+            Stream::Others => count_in(&mut self.others, bytes),
         }
     }
 

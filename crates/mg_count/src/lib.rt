@@ -17,6 +17,7 @@ mod met;
 mod pairs;
 mod plan;
 mod scanner;
+mod whole;
 
 pub use count::Count;
 pub use doc_counts::DocCounts;

@@ -1,14 +1,16 @@
 //! What is met in a collection, byte by byte.
-ghost use Rattle.std.specs.Prelude.{◌≡◌, ◌<◌, ◌≤◌, ◌++◌, ◌∷◌, ◌^◌, ℕ, List, [], true, false, length, take};
+ghost use Rattle.std.specs.Prelude.{◌≡◌, ◌≢◌, ◌<◌, ◌≤◌, ◌++◌, ◌∷◌, ◌^◌, ℕ, List, [], true, false, length, take};
 ghost use Rattle.mg_defs.specs.declared.Stream.TheVariants.{Words};
 ghost use Rattle.mg_defs.specs.Marks.{Mark, marks};
 ghost use Rattle.mg_defs.specs.Pieces.{left_at_end};
 ghost use Rattle.mg_defs.specs.Split.{has_open_end};
 ghost use Rattle.mg_count.specs.Meeting.{marks_of};
 ghost use Rattle.mg_count.specs.Scanning.{HasMet, HasRead, HasReadOn, closing_marks, joined_marks};
+ghost use Rattle.mg_count.specs.Whole.{EndsPiece};
 
 use crate::met::Met;
-use mg_parse::{CLOSE, Offer, PieceReader, SplitEvent, Splitter};
+use crate::whole::{is_byte_at, piece_end, turn_at};
+use mg_parse::{CLOSE, Offer, PieceReader, SplitEvent, Splitter, Stream};
 use std::marker::Model;
 
 /// Takes the bytes of a collection, and tells of each what is met with it.
@@ -144,6 +146,36 @@ impl Scanner {
             return 0;
         }
         read_on(&mut self.reader, bytes)
+    }
+
+    /// Takes the bytes behind a place up to the one that ends the piece that is read, where this piece is the
+    /// byte at the place and ends at a byte of the other kind; answers the place of that byte. Else it takes
+    /// none, and answers the place that was given. The piece alone is met with them, and it is no copy: its
+    /// bytes stand from the one place to the other, and `met` doesn't tell it.
+    #[inline]
+    pub fn take_piece(&mut self, bytes: &[u8], at: usize) -> usize
+        ensures none { result ≡ at → self.new ≡ self.old }
+        ensures some { result ≢ at → EndsPiece self.old self.new bytes.now at result }
+    {
+        if !self.is_open || !is_byte_at(&self.reader, bytes, at) {
+            return at;
+        }
+        let next = piece_end(self.reader.kind(), bytes, at + 1);
+        if next >= bytes.len() {
+            return at;
+        }
+        if !turn_at(&mut self.reader, bytes[next]) {
+            return at;
+        }
+        next
+    }
+
+    /// The stream of the piece that is read.
+    #[inline]
+    pub fn kind(&self) -> Stream
+        ensures { result ≡ self.now.reading.kind }
+    {
+        self.reader.kind()
     }
 
     /// Takes the next byte, of fewer than 2^32 in all before it.

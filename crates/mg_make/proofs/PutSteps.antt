@@ -1,6 +1,6 @@
 -- A set that is being written, from step to step.
-use Rattle.std.proofs.Common.{append-nil, arith, ◌≡◌, ◌<◌, ◌^◌, ◌+◌, ◌-◌, ◌∙◌, inr, ℕ, List, [], ◌∷◌, ◌++◌, length, replicate, refl, sym, ap, subst, IsSome, is_some, Some, Ok, Err}
-use Rattle.std.proofs.lemmas.List.{append_assoc, length_push}
+use Rattle.std.proofs.Common.{append-nil, arith, ◌≡◌, ◌<◌, ◌^◌, ◌+◌, ◌-◌, ◌∙◌, inr, ℕ, List, [], ◌∷◌, ◌++◌, length, length-append, replicate, refl, sym, ap, subst, IsSome, is_some, Some, Ok, Err}
+use Rattle.std.proofs.lemmas.List.{append_assoc}
 use Rattle.std.specs.declared.option.Option.{Option}
 use Rattle.mg_dev.specs.Causes.{Rose}
 use Rattle.mg_dev.specs.declared.fault.Fault.{Fault}
@@ -75,20 +75,20 @@ front_more s fed more met scanned few = front (marks-go_on s fed met scanned mor
     front : (rest : List Mark) × (marks (fed ++ more) ≡ met ++ rest) → IsFrontOf met (fed ++ more)
     front go = record { after = go.0; whole = go.1; few = few }
 
-module _ (w : Putting) (scanned : Scanning) (new : Inversion) (f g : Option Files) (byte : ℕ) (next : List Mark)
-    (takes : (fed : List ℕ) (met : List Mark) → HasMet w.scanning fed met → HasMet scanned (fed ++ byte ∷ []) (met ++ next)) where
-  -- the marks that one byte more gives come next
-  pub next_marks : (fed : List ℕ) → HasPut w f fed → length fed < 2 ^ 32 - 1 → IsNext w.pass f next
+module _ (w : Putting) (scanned : Scanning) (new : Inversion) (f g : Option Files) (run : List ℕ) (next : List Mark)
+    (takes : (fed : List ℕ) (met : List Mark) → HasMet w.scanning fed met → HasMet scanned (fed ++ run) (met ++ next)) where
+  -- the marks that some bytes more give come next
+  pub next_marks : (fed : List ℕ) → HasPut w f fed → length fed + length run < 2 ^ 32 → IsNext w.pass f next
   next_marks fed put few = record {
     met = put.met;
-    collection = fed ++ byte ∷ [];
+    collection = fed ++ run;
     written = put.written;
-    front = front_met scanned (fed ++ byte ∷ []) (put.met ++ next) (takes fed put.met put.scanned) (subst (λ n. n < 2 ^ 32) (sym (length_push fed byte)) (omega (arith, few)));
+    front = front_met scanned (fed ++ run) (put.met ++ next) (takes fed put.met put.scanned) (omega (arith, few, length-append fed run));
   }
 
-  put_more : (fed : List ℕ) → WroteMarks w.pass new f g next → SamePass w.pass new → WroteSecond w.pass.base f g →
-      HasPut w f fed → HasPut (writing w.base w.plan w.limit w.sums (w.size + 1) scanned new) g (fed ++ byte ∷ [])
-  put_more fed wrote same only put =
+  pub put_more : (fed : List ℕ) (count : ℕ) → length run ≡ count → WroteMarks w.pass new f g next → SamePass w.pass new → WroteSecond w.pass.base f g →
+      HasPut w f fed → HasPut (writing w.base w.plan w.limit w.sums (w.size + count) scanned new) g (fed ++ run)
+  put_more fed count long wrote same only put =
       let second : WroteSecond w.base f g = subst (λ b. WroteSecond b f g) put.base_is only in
       record {
         met = put.met ++ next;
@@ -100,38 +100,38 @@ module _ (w : Putting) (scanned : Scanning) (new : Inversion) (f g : Option File
         head = λ is. head_of_second w.base f g second ∙ put.head (sym second.told ∙ is);
         models = λ is. models_of_second w.base f g w.plan.code second (put.models (sym second.told ∙ is));
         sums_are = put.sums_are;
-        size_is = ap (λ n. n + 1) put.size_is ∙ sym (length_push fed byte);
+        size_is = omega (arith, put.size_is, long, length-append fed run);
       }
 
   -- the head stays empty, and other files stay
-  put_head : (fed : List ℕ) → WroteSecond w.pass.base f g → HasPut w f fed → IsSome f → file_at g (full_name w.base Head) ≡ Some []
+  pub put_head : (fed : List ℕ) → WroteSecond w.pass.base f g → HasPut w f fed → IsSome f → file_at g (full_name w.base Head) ≡ Some []
   put_head fed only put told = head_of_second w.base f g (subst (λ b. WroteSecond b f g) put.base_is only) ∙ put.head told
 
-  put_others : (fed : List ℕ) → WroteSecond w.pass.base f g → HasPut w f fed → OthersSame w.base f g
+  pub put_others : (fed : List ℕ) → WroteSecond w.pass.base f g → HasPut w f fed → OthersSame w.base f g
   put_others fed only put = others_of_second w.base f g (subst (λ b. WroteSecond b f g) put.base_is only)
 
-  -- the marks up to this byte begin those of all bytes
-  front_there : (fed more : List ℕ) (put : HasPut w f fed) → length (fed ++ byte ∷ more) < 2 ^ 32 → IsFrontOf (put.met ++ next) (fed ++ byte ∷ more)
+  -- the marks up to these bytes begin those of all bytes
+  front_there : (fed more : List ℕ) (put : HasPut w f fed) → length (fed ++ (run ++ more)) < 2 ^ 32 → IsFrontOf (put.met ++ next) (fed ++ (run ++ more))
   front_there fed more put few =
-      let all : (fed ++ byte ∷ []) ++ more ≡ fed ++ byte ∷ more = append_assoc fed (byte ∷ []) more in
+      let all : (fed ++ run) ++ more ≡ fed ++ (run ++ more) = append_assoc fed run more in
       subst (λ bytes. IsFrontOf (put.met ++ next) bytes) all
-      (front_more scanned (fed ++ byte ∷ []) more (put.met ++ next) (takes fed put.met put.scanned)
+      (front_more scanned (fed ++ run) more (put.met ++ next) (takes fed put.met put.scanned)
       (subst (λ bytes. length bytes < 2 ^ 32) (sym all) few))
 
-  -- why it is not written
-  put_stops : (rose : Type 0) (fault : Fault) (fed more : List ℕ) → StopsBefore w.pass f next rose fault →
-      HasPut w f fed → length (fed ++ byte ∷ more) < 2 ^ 32 →
-      SecondStops rose (IsPlanOf w.plan (fed ++ byte ∷ more)) fault
+  -- why they are not written
+  pub put_stops : (rose : Type 0) (fault : Fault) (fed more : List ℕ) → StopsBefore w.pass f next rose fault →
+      HasPut w f fed → length (fed ++ (run ++ more)) < 2 ^ 32 →
+      SecondStops rose (IsPlanOf w.plan (fed ++ (run ++ more))) fault
   put_stops rose fault fed more stops put few =
-      subst (λ p. SecondStops rose (IsPlanOf p (fed ++ byte ∷ more)) fault) put.plan_is
-      (stops.cause put.met (fed ++ byte ∷ more) put.written (front_there fed more put few))
+      subst (λ p. SecondStops rose (IsPlanOf p (fed ++ (run ++ more))) fault) put.plan_is
+      (stops.cause put.met (fed ++ (run ++ more)) put.written (front_there fed more put few))
 
   -- and what the refusal tells
-  put_tells : (rose : Type 0) (fault : Fault) (fed more : List ℕ) → StopsBefore w.pass f next rose fault →
-      HasPut w f fed → length (fed ++ byte ∷ more) < 2 ^ 32 → TellsChange w.plan (fed ++ byte ∷ more) fault
+  pub put_tells : (rose : Type 0) (fault : Fault) (fed more : List ℕ) → StopsBefore w.pass f next rose fault →
+      HasPut w f fed → length (fed ++ (run ++ more)) < 2 ^ 32 → TellsChange w.plan (fed ++ (run ++ more)) fault
   put_tells rose fault fed more stops put few =
-      subst (λ p. TellsChange p (fed ++ byte ∷ more) fault) put.plan_is
-      (stops.tells put.met (fed ++ byte ∷ more) put.written (front_there fed more put few))
+      subst (λ p. TellsChange p (fed ++ (run ++ more)) fault) put.plan_is
+      (stops.tells put.met (fed ++ (run ++ more)) put.written (front_there fed more put few))
 
 -- ---- a byte, to each of its two ends
 
@@ -139,12 +139,12 @@ pub byte_done : {w : Putting} {scanned : Scanning} {pass : Inversion} {byte : �
     ((fed : List ℕ) (met : List Mark) → HasMet w.scanning fed met → HasMet scanned (fed ++ byte ∷ []) (met ++ next)) → (fed : List ℕ) → HasPut w f fed →
     PassStep w.pass pass next (Ok x) f g q r m n → ByteStep w (writing w.base w.plan w.limit w.sums (w.size + 1) scanned pass) byte (Ok x) f g q r m n
 byte_done {w} {scanned} {pass} {byte} {next} {f = f} {g = g} takes fed put step = record {
-  put = λ fed put. put_more w scanned pass f g byte next takes fed step.written step.same step.wrote put;
+  put = λ fed put. put_more w scanned pass f g (byte ∷ []) next takes fed 1 refl step.written step.same step.wrote put;
   base = refl;
   plan = refl;
   limit = refl;
-  head = put_head w scanned pass f g byte next takes fed step.wrote put;
-  others = put_others w scanned pass f g byte next takes fed step.wrote put;
+  head = put_head w scanned pass f g (byte ∷ []) next takes fed step.wrote put;
+  others = put_others w scanned pass f g (byte ∷ []) next takes fed step.wrote put;
   reads = step.reads;
   later = step.faults;
   refused = tt;
@@ -159,10 +159,10 @@ byte_refused {w} {scanned} {pass} {byte} {next} {fault} {f} {g} {m = m} {n = n} 
   base = refl;
   plan = refl;
   limit = refl;
-  head = put_head w scanned pass f g byte next takes fed step.wrote put;
-  others = put_others w scanned pass f g byte next takes fed step.wrote put;
+  head = put_head w scanned pass f g (byte ∷ []) next takes fed step.wrote put;
+  others = put_others w scanned pass f g (byte ∷ []) next takes fed step.wrote put;
   reads = step.reads;
   later = step.faults;
-  refused = λ fed more put few. put_stops w scanned pass f g byte next takes (Rose m n) fault fed more step.refused put few;
-  tells = λ fed more put few. put_tells w scanned pass f g byte next takes (Rose m n) fault fed more step.refused put few;
+  refused = λ fed more put few. put_stops w scanned pass f g (byte ∷ []) next takes (Rose m n) fault fed more step.refused put few;
+  tells = λ fed more put few. put_tells w scanned pass f g (byte ∷ []) next takes (Rose m n) fault fed more step.refused put few;
 }

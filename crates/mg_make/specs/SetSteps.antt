@@ -1,5 +1,5 @@
 -- What one step of a writer of a set does, told of the moments before it and after it.
-use Rattle.std.specs.Prelude.{◌≡◌, ◌<◌, ◌≤◌, ◌^◌, ◌+◌, ◌++◌, ◌∷◌, ℕ, List, [], length, sum, take, IfErr, IfOk, OnOk, Some}
+use Rattle.std.specs.Prelude.{◌≡◌, ◌<◌, ◌≤◌, ◌^◌, ◌+◌, ◌++◌, ◌∷◌, ℕ, List, [], drop, length, sum, take, Err, IfErr, IfOk, Ok, OnOk, Some}
 use Rattle.std.specs.Option.{IsSome}
 use Rattle.std.specs.declared.option.Option.{Option}
 use Rattle.std.specs.declared.result.Result.{Result}
@@ -16,6 +16,7 @@ use Rattle.mg_index.specs.Steps.{ReadRuns}
 use Rattle.mg_make.specs.Index.{HasPostPart, HasSkipPart, InvertedBy, OfIndex, WroteIndex}
 use Rattle.mg_index.specs.Listing.{HasTermOfNone, ListStops, TellsTermOfNone}
 use Rattle.mg_count.specs.Plans.{IsPlanOf, Plan}
+use Rattle.mg_count.specs.Whole.{between}
 use Rattle.mg_make.specs.Putting.{ForHanded, ForPut, HasHeadOf, HasPeakOf, HasPut, MakesHead, MakesReady, OthersSame, PlanStops, Putting}
 use Rattle.mg_index.specs.Steps.{MergeStep}
 use Rattle.mg_make.specs.Steps.{SortStep}
@@ -97,6 +98,14 @@ pub record SliceStep (old new : Putting) (bytes : List ℕ) (result : Result (Un
   pub later : faults_before ≤ faults_now
   -- why it stops
   pub refused : IfErr result (PutStopsAmong old bytes files_before (Rose faults_before faults_now))
+
+-- the bytes behind a place are put up to another and with it, or why one of them is not
+abbrev pub PieceStep : Putting → Putting → List ℕ → ℕ → Result ℕ Fault → Option Files → Option Files → Reads → Reads → ℕ → ℕ → Type 0
+PieceStep old new bytes at (Ok next) files_before files_now reads_before reads_now faults_before faults_now =
+    (at ≤ next) × (next < length bytes)
+    × SliceStep old new (between (at + 1) (next + 1) bytes) (Ok tt) files_before files_now reads_before reads_now faults_before faults_now
+PieceStep old new bytes at (Err fault) files_before files_now reads_before reads_now faults_before faults_now =
+    SliceStep old new (drop (at + 1) bytes) (Err fault) files_before files_now reads_before reads_now faults_before faults_now
 
 -- what follows the pass is written, with the head that belongs to it, or why it is not
 pub record RestStep (plan : Plan) (limit size : ℕ) (base : List ℕ) (inverted : Inverted)

@@ -1,9 +1,9 @@
 //! Marks that are written as they are met, and the end behind the last of them.
 //!
 //! What passes marks on takes whatever writes them: it sees no more of it than this trait tells.
-ghost use Rattle.std.specs.Prelude.{◌≡◌};
+ghost use Rattle.std.specs.Prelude.{◌≡◌, ◌∷◌, []};
 ghost use Rattle.mg_dev.specs.Moments.{Between};
-ghost use Rattle.mg_defs.specs.Marks.{start as start_mark, stop as stop_mark};
+ghost use Rattle.mg_defs.specs.Marks.{piece as piece_mark, start as start_mark, stop as stop_mark};
 ghost use Rattle.mg_make.specs.Finishing.{HandsOn, TextEnd};
 ghost use Rattle.mg_count.specs.Meeting.{marks_of, only_if, piece_if};
 ghost use Rattle.mg_make.specs.Second.{EndRefused, EndTells, Inversion, IsNext, IsWhole};
@@ -73,6 +73,23 @@ pub(crate) fn put_marks<'a, S: Store, W: MarkWriter<'a, S>>(
         return writer.piece_if(store, true, met.kind(), met.piece());
     }
     put_each(writer, store, met)
+}
+
+/// Writes a piece that is met alone.
+#[inline]
+pub(crate) fn put_piece<'a, S: Store, W: MarkWriter<'a, S>>(
+    writer: &mut W,
+    store: &mut S,
+    stream: Stream,
+    piece: &[u8],
+) -> Result<(), Fault>
+    requires next { IsNext (W.pass writer.old) (S.files store.old)
+        (piece_mark stream piece.now ∷ []) }
+    ensures { Between S.files S.reads S.faults store.old store.new
+        (PassStep (W.pass writer.old) (W.pass writer.new) (piece_mark stream piece.now ∷ [])
+        result) }
+{
+    writer.piece_if(store, true, stream, piece)
 }
 
 // The same, asking for each of the four.

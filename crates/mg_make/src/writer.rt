@@ -17,10 +17,10 @@ ghost use Rattle.mg_make.specs.Putting.{ForPut, GrewByHead, HasPut, IsEmptied, I
 ghost use Rattle.mg_make.specs.Putting.{OthersSame, PutRefused, PutTells};
 ghost use Rattle.mg_make.specs.Putting.{StandsForNoOther, WhereHeadLacks, with_head};
 ghost use Rattle.mg_make.specs.Outcomes.{HasSummaryOf, MakesSet};
-ghost use Rattle.mg_make.specs.SetSteps.{ByteStep, PartsStep, SliceStep, WentOn};
+ghost use Rattle.mg_make.specs.SetSteps.{ByteStep, PartsStep, PieceStep, SliceStep, WentOn};
 
 use crate::index::Rest;
-use crate::mark_writer::put_marks;
+use crate::mark_writer::{put_marks, put_piece};
 use crate::second::SecondPass;
 use crate::set_parts::{end_pass, open_parts, reset_head, write_rest};
 use crate::summary::Summary;
@@ -139,9 +139,70 @@ impl<'a> SetWriter<'a> {
                 Ok(()) => {}
                 Err(refusal) => return Err(refusal),
             }
-            taken += 1;
+            match self.take_pieces(store, bytes, taken) {
+                Ok(last) => taken = last + 1,
+                Err(refusal) => return Err(refusal),
+            }
         }
         Ok(())
+    }
+
+    // Writes the bytes behind a place as long as each piece ends within them, and is followed by a byte of the
+    // other kind; answers the place of the last byte that is taken. Of such a piece nothing is copied but its
+    // first byte.
+    fn take_pieces<S: Store>(
+        &mut self,
+        store: &mut S,
+        bytes: &[u8],
+        from: usize,
+    ) -> Result<usize, Fault>
+        requires within { from < length bytes.now }
+        requires put { (fed : List ℕ) × HasPut self.old (S.files store.old) fed
+            × (length fed + (length bytes.now - (from + 1)) < 2 ^ 32) }
+        ensures { Between S.files S.reads S.faults store.old store.new
+            (PieceStep self.old self.new bytes.now from result) }
+    {
+        let mut at = from;
+        while at < bytes.len() {
+            match self.take_piece(store, bytes, at) {
+                Ok(next) => {
+                    if next == at {
+                        return Ok(at);
+                    }
+                    at = next;
+                }
+                Err(refusal) => return Err(refusal),
+            }
+        }
+        Ok(at)
+    }
+
+    // Writes the bytes behind a place up to the one that ends the piece that began there, and with it; answers its
+    // place. It takes none where the piece doesn't end within them, or otherwise than at a byte of the other kind.
+    #[inline]
+    fn take_piece<S: Store>(
+        &mut self,
+        store: &mut S,
+        bytes: &[u8],
+        at: usize,
+    ) -> Result<usize, Fault>
+        requires within { at < length bytes.now }
+        requires put { (fed : List ℕ) × HasPut self.old (S.files store.old) fed
+            × (length fed + (length bytes.now - (at + 1)) < 2 ^ 32) }
+        ensures { Between S.files S.reads S.faults store.old store.new
+            (PieceStep self.old self.new bytes.now at result) }
+    {
+        let stream = self.scanner.kind();
+        let next = self.scanner.take_piece(bytes, at);
+        if next == at {
+            return Ok(at);
+        }
+        match put_piece(&mut self.pass, store, stream, &bytes[at..next]) {
+            Ok(()) => {}
+            Err(refusal) => return Err(refusal),
+        }
+        self.size += (next - at) as u64;
+        Ok(next)
     }
 
     // Takes the first bytes as far as they go on the piece that is read; answers how many.
