@@ -23,6 +23,12 @@ PARTS_OF_A_SET = ENDINGS[:11]
 # Where a head of each version has how many occurrences a run takes at most.
 CAP_AT = {1: 24, 2: 24}
 DAMAGES = 500
+# Documents of a set whose lists are made anew some at a time, and how many different words they are drawn of.
+DEEP_DOCUMENTS = 40_000
+DEEP_WORDS = 40_000
+# Places of a part at which one byte is changed, in thousandths of its bytes; pages of this size are compared.
+DEEP_AT = (0, 300, 600, 999)
+PAGE = 4096
 # What a check of a small set takes at most, however large the pool of the build was.
 LEAST_PEAK = 40 << 20
 # Lengths of codewords for the others of K, in the order of their bytes: a tie of Huffman's method, and a good code that costs more.
@@ -128,6 +134,33 @@ def several_blocks(suite):
     remove(suite, "set")
 
 
+def deep_places(suite):
+    """One other byte deep in a part of many pages is told at its place, and a lexicon that is cut at the page of its end."""
+    draws = Draws(suite.seed)
+    number = DEEP_WORDS
+    lines = [b" ".join(b"w%05x" % (draws.below(number) * draws.below(number) // number) for _ in range(6)) for _ in range(DEEP_DOCUMENTS)]
+    suite.file("text", b"\n\x02".join(lines))
+    suite.run(["build", "text", "set"])
+    suite.check("a deep set", suite.run(["check", "set"])[0], 0)
+    for ending in ("post", "skip", "lex", "lexat"):
+        path = suite.folder / f"set.{ending}"
+        sound = path.read_bytes()
+        suite.check(f"{ending} has many pages", len(sound) > 6 * PAGE or len(sound), True)
+        for at in [len(sound) * thousandths // 1000 for thousandths in DEEP_AT] + [len(sound) - 1]:
+            byte, other = sound[at], sound[at] ^ 1 << draws.below(8)
+            path.write_bytes(sound[:at] + bytes([other]) + sound[at + 1 :])
+            line = f"mg: damaged: part {ending} at {at}: found {other}, wanted {byte} to {byte}\n"
+            suite.check(f"byte {at} of {ending}", suite.run(["check", "set"]), (6, b"", line.encode()))
+        for size in (0, 3 * PAGE, 5 * PAGE + 1, len(sound) - 1) if ending.startswith("lex") else ():
+            path.write_bytes(sound[:size])
+            page = size // PAGE * PAGE
+            wanted = min(PAGE, len(sound) - page)
+            line = f"mg: damaged: part {ending} at {page}: found {size - page}, wanted {wanted} to {wanted}\n"
+            suite.check(f"{ending} of {size} bytes", suite.run(["check", "set"]), (6, b"", line.encode()))
+        path.write_bytes(sound)
+    remove(suite, "set")
+
+
 def small_pools(suite):
     """The pool of a check is no larger than the set, whatever run its head tells of."""
     measured = Measured(suite)
@@ -149,4 +182,4 @@ def small_pools(suite):
     remove(suite, "set")
 
 
-PARTS = [rows, each_bit, changed_sets, several_blocks, small_pools]
+PARTS = [rows, each_bit, changed_sets, several_blocks, deep_places, small_pools]

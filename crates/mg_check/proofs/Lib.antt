@@ -1,3 +1,4 @@
+mod BesideLaws
 mod DocumentLaws
 mod IndexLaws
 mod RestLaws

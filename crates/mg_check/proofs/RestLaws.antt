@@ -236,12 +236,13 @@ set-none files now base head r next (Err refusal) same_files same loaded found o
 -- ---- the terms of the text
 
 -- what is told to who compares the lists and the lexicon
-pub index-of : (files now : Option Files) (head : Head) (r next : TextReading) (table : TermNumbers) (docs_of collection : List ℕ) → now ≡ files →
-    SameText r next → table ≡ terms_and_numbers r.code.words.pieces → docs_of ≡ map (docs collection) (dictionary collection) → r.documents ≡ head.documents →
-    defs.IsWithin (fields_of head) → TextStands r files collection → IsIndexOf next now table.terms docs_of collection
-index-of files now head r next table docs_of collection same_files same table_is docs_are documents_are within stand = record {
+pub index-of : (files now : Option Files) (head : Head) (r next : TextReading) (table : TermNumbers) (docs_of : List ℕ) (all : ℕ) (collection : List ℕ) → now ≡ files →
+    SameText r next → table ≡ terms_and_numbers r.code.words.pieces → docs_of ≡ map (docs collection) (dictionary collection) → all ≡ length (occurrences collection) →
+    r.documents ≡ head.documents → defs.IsWithin (fields_of head) → TextStands r files collection → IsIndexOf next now table.terms docs_of all collection
+index-of files now head r next table docs_of all collection same_files same table_is docs_are all_are documents_are within stand = record {
   stands = stands_on r next files now collection same same_files stand;
   terms_are = table_terms table r files collection table_is stand;
   docs_are = docs_are;
+  occurrences_are = all_are;
   few = omega (arith, (head-few head within).1, documents_are, stand.documents);
 }

@@ -143,6 +143,7 @@ fn check_parts<S: Store>(
         table,
         docs: &counts.docs,
         documents,
+        occurrences: counts.occurrences,
     };
     check_index(alloc, store, reader, &of)
 }

@@ -1,7 +1,7 @@
 //! The index of a set: lists, skip entries and lexicon against those of its text.
 //!
-//! The text is read once for each range of terms. The range's lists are written anew, and Post and Skip are compared with
-//! them. What is to stand of all terms is held, and at last the lexicon is compared with it.
+//! The text is read once for each range of terms. The range's lists and the lexicon of its terms are written anew, and
+//! Post, Skip, Lex and LexAt are compared with them as they are written.
 ghost use Rattle.std.specs.Prelude.{◌≡◌, ◌<◌, ◌+◌, IfErr, IfOk, length};
 ghost use Rattle.mg_dev.specs.Bads.{IsNotBad};
 ghost use Rattle.mg_dev.specs.Moments.{Between};
@@ -15,7 +15,6 @@ use mg_check_index::{
 };
 use mg_defs::DOCUMENTS;
 use mg_dev::{Bad, Part, PartErr, Store};
-use mg_mem::SureStore;
 use mg_text::TextReader;
 use std::alloc::{AllocError, Global};
 
@@ -50,7 +49,7 @@ fn read_range<S: Store>(
         (ReadsText reader.old reader.new result) }
 {
     let end = range_end(of.docs, first);
-    let mut lists = match RangeLists::new(alloc, of.docs, first, end) {
+    let mut lists = match RangeLists::new(alloc, of.docs, first, end, of.occurrences) {
         Ok(lists) => lists,
         Err(AllocError) => return Err(PartErr::Memory),
     };
@@ -71,10 +70,9 @@ fn check_range<S: Store>(
 ) -> Result<u32, PartErr>
     requires index { CanIndex reader.old (S.files store.old) of.now }
     requires more { first < length of.now.table.now.terms }
-    requires can { CanCompareIn ⟦<SureStore as Store>⟧.files of.now first compared.old }
+    requires can { CanCompareIn (S.files store.old) of.now first compared.old }
     ensures next { Between S.files S.reads S.faults store.old store.new
-        (NextCompared ⟦<SureStore as Store>⟧.files reader.old reader.new of.now first
-        compared.old compared.new result) }
+        (NextCompared reader.old reader.new of.now first compared.old compared.new result) }
 {
     let lists = match read_range(alloc, store, reader, of, first) {
         Ok(lists) => lists,
@@ -95,10 +93,9 @@ fn check_ranges<S: Store>(
     compared: &mut Compared<'_>,
 ) -> Result<(), PartErr>
     requires index { CanIndex reader.old (S.files store.old) of.now }
-    requires can { CanCompareIn ⟦<SureStore as Store>⟧.files of.now 0 compared.old }
+    requires can { CanCompareIn (S.files store.old) of.now 0 compared.old }
     ensures all { Between S.files S.reads S.faults store.old store.new
-        (AllCompared ⟦<SureStore as Store>⟧.files reader.old reader.new of.now compared.old
-        compared.new result) }
+        (AllCompared reader.old reader.new of.now compared.old compared.new result) }
 {
     let terms = of.table.count();
     let mut first = 0;
@@ -120,7 +117,7 @@ fn compare_index<S: Store>(
     compared: &mut Compared<'_>,
 ) -> Result<(), PartErr>
     requires index { CanIndex reader.old (S.files store.old) of.now }
-    requires start { IsStart ⟦<SureStore as Store>⟧.files compared.old }
+    requires start { IsStart (S.files store.old) of.now.base.now compared.old }
     ensures index { Between S.files S.reads S.faults store.old store.new
         (IndexCompared reader.old reader.new of.now result) }
 {
@@ -133,6 +130,24 @@ fn compare_index<S: Store>(
         Err(refusal) => return Err(refusal),
     }
     compared.lexicon.check(store, of.base)
+}
+
+// The same where nothing was begun.
+fn check_sized<S: Store>(
+    alloc: Global,
+    store: &mut S,
+    reader: &mut TextReader<'_, S>,
+    of: &Indexed<'_>,
+) -> Result<(), PartErr>
+    requires index { CanIndex reader.old (S.files store.old) of.now }
+    ensures index { Between S.files S.reads S.faults store.old store.new
+        (IndexCompared reader.old reader.new of.now result) }
+{
+    let mut compared = match Compared::start(alloc, store, of.base) {
+        Ok(compared) => compared,
+        Err(refusal) => return Err(refusal),
+    };
+    compare_index(alloc, store, reader, of, &mut compared)
 }
 
 /// Sees that Post, Skip, Lex and LexAt are the index of the collection whose text is read, where so many documents have
@@ -150,9 +165,5 @@ pub(crate) fn check_index<S: Store>(
     if of.documents > DOCUMENTS || !are_sizes(of.docs, of.table.count(), of.documents) {
         return Err(PartErr::Bad(other_sizes(of.documents)));
     }
-    let mut compared = match Compared::start(alloc) {
-        Ok(compared) => compared,
-        Err(AllocError) => return Err(PartErr::Memory),
-    };
-    compare_index(alloc, store, reader, of, &mut compared)
+    check_sized(alloc, store, reader, of)
 }

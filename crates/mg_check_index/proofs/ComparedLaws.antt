@@ -1,6 +1,5 @@
 -- Post and Skip, as far as they were compared with lists that are written anew.
 use Rattle.std.proofs.Common.{◌≡◌, ◌+◌, ℕ, List, ◌++◌, length, take, drop, sym, ap, subst, ◌∙◌, append_assoc, length-append}
-use Rattle.std.specs.Prelude.{codes}
 use Rattle.std.specs.declared.option.Option.{Option}
 use Rattle.std.specs.List.{flat_map}
 use Rattle.std.proofs.Math.Seq.{drop-append_seam, take-add, take-append_seam}
@@ -18,10 +17,8 @@ use Rattle.mg_defs.specs.Lists.{entry_bits, inverted, lists_bits, lists_entries}
 use Rattle.mg_defs.specs.Split.{documents}
 use Rattle.mg_layout.specs.Contents.{StandAt}
 use Rattle.mg_check_index.specs.declared.lists.Places.{Places}
-use Rattle.mg_post.specs.Writing.{InBytes, Listing}
 use Rattle.mg_check_index.specs.Listing.{AreBehind, BeginsAt, ListsAgree, ListsFollow, ListsStand, post_upto, skip_upto}
 use Rattle.mg_check_parts.specs.Refusals.{Refutes}
-use Rattle.mg_check_index.proofs.LexiconLaws.{post_name, skip_name}
 
 -- ---- bytes that begin with others
 
@@ -110,31 +107,3 @@ pub not_bad_refutes : (P : Type 0) (refusal : PartErr) → IsNotBad refusal → 
 not_bad_refutes P Device sure = tt
 not_bad_refutes P Memory sure = tt
 not_bad_refutes P (Bad bad) sure = absurd sure
-
--- ---- what was written
-
-pub post_is : (w : Listing) (files : Option Files) (done : List (List Posting)) (found : List ℕ) → w.post.name ≡ full_name (codes "new") Post →
-    InBytes w files done → found ≡ bytes_at files (codes "new.post") → found ≡ as_bytes (lists_bits w.all done)
-post_is w files done found name written is = is ∙ ap (λ n. bytes_at files n) (sym (name ∙ post_name)) ∙ written.post
-
-pub skip_is : (w : Listing) (files : Option Files) (done : List (List Posting)) (found : List ℕ) → w.skip.name ≡ full_name (codes "new") Skip →
-    InBytes w files done → found ≡ bytes_at files (codes "new.skip") → found ≡ as_bytes (flat_map entry_bits (lists_entries w.all done))
-skip_is w files done found name written is = is ∙ ap (λ n. bytes_at files n) (sym (name ∙ skip_name)) ∙ written.skip
-
-pub post_follows : (files : Option Files) (base : List ℕ) (all : ℕ) (done : List (List Posting)) (before : Places) (found : List ℕ) →
-    found ≡ as_bytes (lists_bits all done) → ListsFollow files base all done before → StandAt before.post found (bytes_at files (full_name base Post))
-post_follows files base all done before found is follow = subst (λ (b : List ℕ). StandAt before.post b (bytes_at files (full_name base Post))) (sym is) follow.post_is
-
-pub skip_follows : (files now : Option Files) (base : List ℕ) (all : ℕ) (done : List (List Posting)) (before : Places) (found : List ℕ) → now ≡ files →
-    found ≡ as_bytes (flat_map entry_bits (lists_entries all done)) → ListsFollow files base all done before →
-    StandAt before.skip found (bytes_at now (full_name base Skip))
-skip_follows files now base all done before found same is follow =
-    subst (λ f. StandAt before.skip found (bytes_at f (full_name base Skip))) (sym same) (subst (λ (b : List ℕ). StandAt before.skip b (bytes_at files (full_name base Skip))) (sym is) follow.skip_is)
-
-pub both_follow : (files now : Option Files) (base : List ℕ) (all : ℕ) (done : List (List Posting)) (before : Places) (post skip : List ℕ) → now ≡ files →
-    post ≡ as_bytes (lists_bits all done) → skip ≡ as_bytes (flat_map entry_bits (lists_entries all done)) →
-    StandAt before.post post (bytes_at files (full_name base Post)) → StandAt before.skip skip (bytes_at now (full_name base Skip)) → ListsFollow files base all done before
-both_follow files now base all done before post skip same post_is skip_is post_stands skip_stands = record {
-  post_is = subst (λ (b : List ℕ). StandAt before.post b (bytes_at files (full_name base Post))) post_is post_stands;
-  skip_is = subst (λ (b : List ℕ). StandAt before.skip b (bytes_at files (full_name base Skip))) skip_is (subst (λ f. StandAt before.skip skip (bytes_at f (full_name base Skip))) same skip_stands);
-}

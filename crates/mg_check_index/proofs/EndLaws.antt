@@ -16,8 +16,11 @@ use Rattle.mg_laws.proofs.TermLaws.{lists_long}
 use Rattle.mg_lex.proofs.CallerLemmas.{terms_long}
 use Rattle.mg_lex.specs.Terms.{terms_of}
 use Rattle.mg_lex.specs.Writing.{LexWriting, TookTerms}
+use Rattle.mg_check_index.specs.InPair.{pair_files}
+use Rattle.mg_check_index.specs.declared.indexed.Indexed.{Indexed}
+use Rattle.mg_check_index.specs.declared.lists.Compared.{Compared}
 use Rattle.mg_check_index.specs.declared.lists.Places.{Places}
-use Rattle.mg_check_index.specs.Listing.{AreRooms, AreSizes, BeginsAt, CanCompare, HasCompared, HasRooms, LexiconStands, ListsAgree, ListsStand, Ranged, SameRooms, post_upto, skip_upto}
+use Rattle.mg_check_index.specs.Listing.{AreRooms, AreSizes, BeginsAt, CanCompareIn, ComparedIn, HasCompared, HasRooms, IsStart, LexiconStands, ListsAgree, ListsStand, Ranged, SameRooms, post_upto, skip_upto}
 
 -- ---- rooms
 
@@ -86,22 +89,25 @@ lists_stand files base collection ends agree post skip = record {
 
 -- ---- from range to range
 
-pub can_on : (ts : List (List ℕ)) (m n : ℕ) (places : Places) (lex : LexWriting) (lex_files : Option Files) → n ≡ m → CanCompare ts m places lex lex_files → CanCompare ts n places lex lex_files
-can_on ts m n places lex lex_files is can = subst (λ k. CanCompare ts k places lex lex_files) (sym is) can
+pub can_on : (f g : Option Files) (of : Indexed) (m n : ℕ) (k : Compared) → g ≡ f → n ≡ m → CanCompareIn f of m k → CanCompareIn g of n k
+can_on f g of m n k same is can = subst (λ h. CanCompareIn h of n k) (sym same) (subst (λ i. CanCompareIn f of i k) (sym is) can)
 
-pub compared_on : (f g : Option Files) (base collection : List ℕ) (m n : ℕ) (places : Places) (lex : LexWriting) (lex_files : Option Files) → g ≡ f → n ≡ m →
-    HasCompared f base collection m places lex lex_files → HasCompared g base collection n places lex lex_files
-compared_on f g base collection m n places lex lex_files same is has = subst (λ h. HasCompared h base collection n places lex lex_files) (sym same)
-    (subst (λ k. HasCompared f base collection k places lex lex_files) (sym is) has)
+pub compared_on : (f g : Option Files) (of : Indexed) (collection : List ℕ) (m n : ℕ) (k : Compared) → g ≡ f → n ≡ m → ComparedIn f of collection m k → ComparedIn g of collection n k
+compared_on f g of collection m n k same is has = subst (λ h. ComparedIn h of collection n k) (sym same) (subst (λ i. ComparedIn f of collection i k) (sym is) has)
+
+pub start_on : {f g : Option Files} {base : List ℕ} {k : Compared} → g ≡ f → IsStart f base k → IsStart g base k
+start_on {base = base} {k} same start = subst (λ h. IsStart h base k) (sym same) start
 
 pub lists_stand_on : (f g : Option Files) (base collection : List ℕ) → g ≡ f → ListsStand f base collection → ListsStand g base collection
 lists_stand_on f g base collection same stand = subst (λ h. ListsStand h base collection) (sym same) stand
 
 -- ---- the whole index
 
-pub took_all : (files : Option Files) (base collection : List ℕ) (n : ℕ) (places : Places) (lex : LexWriting) (lex_files : Option Files) →
-    n ≡ length (dictionary collection) → HasCompared files base collection n places lex lex_files → TookTerms lex lex_files (terms_of collection)
-took_all files base collection n places lex lex_files all has = subst (λ ts. TookTerms lex lex_files ts) (take_all n (terms_of collection) (omega (arith, all, terms_long collection))) has.terms
+pub took_all : (f g : Option Files) (of : Indexed) (collection : List ℕ) (n : ℕ) (k : Compared) → g ≡ f → n ≡ length (dictionary collection) → ComparedIn f of collection n k →
+    TookTerms k.lexicon.writer (pair_files g k.lexicon.pair) (terms_of collection)
+took_all f g of collection n k same all has =
+    subst (λ h. TookTerms k.lexicon.writer (pair_files h k.lexicon.pair) (terms_of collection)) (sym same)
+    (subst (λ ts. TookTerms k.lexicon.writer (pair_files f k.lexicon.pair) ts) (take_all n (terms_of collection) (omega (arith, all, terms_long collection))) has.has.terms)
 
 pub lexicon_on : (f g : Option Files) (base collection : List ℕ) → g ≡ f → LexiconStands g base collection → LexiconStands f base collection
 lexicon_on f g base collection same stand = subst (λ h. LexiconStands h base collection) same stand

@@ -62,10 +62,10 @@ code-inj (x ∷ xs) (y ∷ ys) e =
     let same = pair-inj x (code xs) y (code ys) e in
     ap (λ n. n ∷ xs) same.0 ∙ ap (λ (l : List ℕ). y ∷ l) (code-inj xs ys same.1)
 
-head-is : (x y : ℕ) (xs ys : List ℕ) → x ∷ xs ≡ y ∷ ys → x ≡ y
+pub head-is : (x y : ℕ) (xs ys : List ℕ) → x ∷ xs ≡ y ∷ ys → x ≡ y
 head-is x y xs ys e = cc
 
-tail-is : (x y : ℕ) (xs ys : List ℕ) → x ∷ xs ≡ y ∷ ys → xs ≡ ys
+pub tail-is : (x y : ℕ) (xs ys : List ℕ) → x ∷ xs ≡ y ∷ ys → xs ≡ ys
 tail-is x y xs ys e = cc
 
 never-empty : (x : ℕ) (xs : List ℕ) → [] ≡ x ∷ xs → ⊥

@@ -1,7 +1,6 @@
 -- The lexicon that is written anew, and what is compared with it.
 use Rattle.std.proofs.Common.{arith, ◌≡◌, ◌+◌, ℕ, zero, suc, true, List, [], ◌∷◌, refl, sym, ap, subst, ◌∙◌, Some, ◌||◌, ◌==◌}
 use Rattle.std.specs.Prelude.{codes, slice_get}
-use Rattle.std.specs.declared.option.Option.{Option}
 use Rattle.std.specs.declared.cmp.Ordering.TheVariants.{Less}
 use Rattle.std.specs.Cmp.Lexicographic.{slice_cmp}
 use Rattle.std.specs.List.Sorted.{IsStrictlySortedBy}
@@ -10,29 +9,27 @@ use Rattle.std.proofs.lemmas.Bool.{or_right}
 use Rattle.mg_dev.specs.declared.part.Part.TheVariants.{Lex, LexAt, Post, Skip}
 use Rattle.mg_dev.specs.declared.part_err.PartErr.{PartErr}
 use Rattle.mg_dev.specs.declared.part_err.PartErr.TheVariants.{Device, Memory, Bad}
-use Rattle.mg_dev.specs.Files.{Files, bytes_at}
 use Rattle.mg_dev.specs.Names.{full_name}
 use Rattle.mg_defs.specs.Front.{front, is_below, whole_at}
 use Rattle.mg_defs.specs.Lexicon.{lex_at_part, lex_part, lexicon}
 use Rattle.mg_lex.specs.Terms.{entries_of, terms_of}
-use Rattle.mg_lex.specs.Writing.{TermsStand}
 use Rattle.mg_check_parts.specs.Refusals.{Refutes}
 
--- ---- names of what is written in memory
+-- ---- names of what is written anew
 
-lex_name : full_name (codes "new") Lex ≡ codes "new.lex"
+pub lex_name : full_name (codes "w") Lex ≡ codes "w.lex"
 unfolding full_name
 lex_name = refl
 
-lex_at_name : full_name (codes "new") LexAt ≡ codes "new.lexat"
+pub lex_at_name : full_name (codes "w") LexAt ≡ codes "w.lexat"
 unfolding full_name
 lex_at_name = refl
 
-pub post_name : full_name (codes "new") Post ≡ codes "new.post"
+pub post_name : full_name (codes "w") Post ≡ codes "w.post"
 unfolding full_name
 post_name = refl
 
-pub skip_name : full_name (codes "new") Skip ≡ codes "new.skip"
+pub skip_name : full_name (codes "w") Skip ≡ codes "w.skip"
 unfolding full_name
 skip_name = refl
 
@@ -45,16 +42,11 @@ refutes_wider P Q (Bad bad) wider none = λ q. none (wider q)
 
 -- ---- the lexicon of a collection
 
-pub lex_is : (base : List ℕ) (files : Option Files) (collection found : List ℕ) → base ≡ codes "new" → entries_of (terms_of collection) ≡ lexicon collection →
-    TermsStand base files (terms_of collection) → found ≡ bytes_at files (codes "new.lex") → found ≡ lex_part collection
-lex_is base files collection found base_is entries stand is =
-    is ∙ ap (λ n. bytes_at files n) (sym (ap (λ b. full_name b Lex) base_is ∙ lex_name)) ∙ stand.lex ∙ ap front entries
+pub lex_is : (collection bytes : List ℕ) → entries_of (terms_of collection) ≡ lexicon collection → bytes ≡ front (entries_of (terms_of collection)) → bytes ≡ lex_part collection
+lex_is collection bytes entries is = is ∙ ap front entries
 
-pub lex_at_is : (base : List ℕ) (files : Option Files) (collection found : List ℕ) → base ≡ codes "new" →
-    entries_of (terms_of collection) ≡ lexicon collection → TermsStand base files (terms_of collection) → found ≡ bytes_at files (codes "new.lexat") →
-    found ≡ lex_at_part collection
-lex_at_is base files collection found base_is entries stand is =
-    is ∙ ap (λ n. bytes_at files n) (sym (ap (λ b. full_name b LexAt) base_is ∙ lex_at_name)) ∙ stand.lex_at ∙ ap whole_at entries
+pub lex_at_is : (collection bytes : List ℕ) → entries_of (terms_of collection) ≡ lexicon collection → bytes ≡ whole_at (entries_of (terms_of collection)) → bytes ≡ lex_at_part collection
+lex_at_is collection bytes entries is = is ∙ ap whole_at entries
 
 -- ---- terms rise
 

@@ -15,3 +15,5 @@ mod TallySteps
 mod TallyAdds
 pub mod CallerLemmas
 mod InStoreLaws
+mod PairLaws
+mod NewListsLaws

@@ -1,6 +1,6 @@
 -- The lists of a range that are written anew, and what the lexicon has of their terms.
 use Rattle.std.proofs.Common.{arith, ◌≡◌, ◌<◌, ◌≤◌, ◌+◌, ◌/◌, ◌^◌, ℕ, List, [], ◌∷◌, ◌++◌, length, take, drop, get_or, refl, sym, ap, subst, ◌∙◌, Some, length-append, length-drop}
-use Rattle.std.specs.Prelude.{IsSome, slice_get}
+use Rattle.std.specs.Prelude.{slice_get}
 use Rattle.std.specs.declared.option.Option.{Option}
 use Rattle.std.specs.List.{flat_map}
 use Rattle.std.proofs.Math.Seq.{take-add}
@@ -153,9 +153,8 @@ listed_none w terms before collection lists f lex h all set base all_is of has t
     }
 
 -- where no list was written, those of a range may be
-pub can_start : (w : Ranged) (lists : Listing) (files : Option Files) → Took lists files [] [] → lists.total ≡ 0 → lists.pushed ≡ 0 → AreRooms w lists.all → IsSome files → CanList w 0 lists files
-can_start w lists files took nothing between rooms told = record {
-  told = told;
+pub can_start : (w : Ranged) (lists : Listing) (files : Option Files) → Took lists files [] [] → lists.total ≡ 0 → lists.pushed ≡ 0 → AreRooms w lists.all → CanList w 0 lists files
+can_start w lists files took nothing between rooms = record {
   done = [];
   took = took;
   between = between;

@@ -1,14 +1,13 @@
 -- Postings of four bytes each: what a number stands for, and what changes where a posting more is kept beside.
-use Rattle.std.proofs.Common.{arith, ◌≡◌, ◌≢◌, ◌<◌, ◌≤◌, ◌+◌, ◌-◌, ◌*◌, ◌/◌, ◌%◌, ◌++◌, ◌∷◌, ◌∙◌, ◌==◌, true, false, cond, ℕ, zero, suc, List, [], Ok, Err, length, map, take, drop, get_or, set, refl, sym, ap}
+use Rattle.std.proofs.Common.{arith, ◌≡◌, ◌≢◌, ◌<◌, ◌≤◌, ◌+◌, ◌-◌, ◌*◌, ◌/◌, ◌%◌, ◌++◌, ◌∷◌, ◌∙◌, ◌==◌, Bool, true, false, cond, ℕ, zero, suc, List, [], ◌⊎◌, ◌^◌, inl, inr, length, map, take, drop, get_or, set, refl, sym, ap}
 use Rattle.std.specs.List.{All}
-use Rattle.std.specs.Prelude.{IfOk, OnErr, OnOk}
-use Rattle.std.specs.declared.result.Result.{Result}
+use Rattle.std.proofs.lemmas.Bool.{cases_lt}
 use Rattle.std.proofs.lemmas.Bool.Decides.{nat_tests}
 use Rattle.std.proofs.lemmas.List.{drop-map, get_or_append_left, map-set, take-map}
 use Rattle.std.proofs.Math.Seq.{get_or-append_seam}
 use Rattle.std.proofs.lemmas.List.Elements.{All-head, All-tail}
 use Rattle.mg_defs.specs.declared.Posting.{Posting}
-use Rattle.mg_check_index.specs.Packing.{IsKnown, nothing, unpacked}
+use Rattle.mg_check_index.specs.Packing.{IsKnown, beside_of, is_small, nothing, unpacked}
 
 -- a number that tells a place among those that are kept beside
 pub there : (beside : List Posting) (word : ℕ) → word % 256 ≡ 0 → unpacked beside word ≡ get_or beside (word / 256) nothing
@@ -65,17 +64,39 @@ behind beside word none past = there beside word none ∙ beyond beside (word / 
     beyond (p ∷ ps) zero le = absurd (omega (arith, le))
     beyond (p ∷ ps) (suc i) le = beyond ps i (omega (arith, le))
 
--- ---- one posting that is kept beside, if there is memory
+-- ---- which postings are kept beside
 
-pub kept_word : {E : Type 0} (r : Result ℕ E) (beside more : List Posting) (p : Posting) → OnOk r (more ≡ beside ++ p ∷ []) → IfOk r (λ word. word ≡ length beside * 256) →
-    IfOk r (λ word. unpacked more word ≡ p)
-kept_word (Ok word) beside more p is place = ap (λ (b : List Posting). unpacked b word) is ∙ own_place beside p word place
-kept_word (Err e) beside more p is place = tt
+pub none_beside : (p : Posting) → 1 ≤ p.doc → p.doc ≤ 2 ^ 24 → 1 ≤ p.freq → p.freq < 256 → beside_of p ≡ 0
+unfolding beside_of
+none_beside p first last some few =
+    let small : is_small p ≡ true = grind (arith, nat_tests, first, last, some, few) in
+    ap (λ b. cond b 0 1) small
 
-pub kept_stay : {E : Type 0} (r : Result ℕ E) (beside more : List Posting) (p : Posting) (words : List ℕ) → OnOk r (more ≡ beside ++ p ∷ []) → OnErr r (more ≡ beside) →
-    All (IsKnown (length beside)) words → map (unpacked more) words ≡ map (unpacked beside) words
-kept_stay (Ok word) beside more p words is same known = ap (λ (b : List Posting). map (unpacked b) words) is ∙ all_stay beside p words known
-kept_stay (Err e) beside more p words is same known = ap (λ (b : List Posting). map (unpacked b) words) same
+pub doc_beside : (p : Posting) → (p.doc ≡ 0) ⊎ ((p.doc ≡ 0 → ⊥) × (2 ^ 24 < p.doc)) → beside_of p ≡ 1
+unfolding beside_of
+doc_beside p (inl none) = let wide : is_small p ≡ false = grind (arith, nat_tests, none) in ap (λ b. cond b 0 1) wide
+doc_beside p (inr past) = let more = past.1 in let wide : is_small p ≡ false = grind (arith, nat_tests, more) in ap (λ b. cond b 0 1) wide
+
+pub freq_beside : (p : Posting) → (p.freq ≡ 0) ⊎ ((p.freq ≡ 0 → ⊥) × (256 ≤ p.freq)) → beside_of p ≡ 1
+unfolding beside_of
+freq_beside p (inl none) = let wide : is_small p ≡ false = grind (arith, nat_tests, none) in ap (λ b. cond b 0 1) wide
+freq_beside p (inr often) = let more = often.1 in let wide : is_small p ≡ false = grind (arith, nat_tests, more) in ap (λ b. cond b 0 1) wide
+
+one_at_most : (p : Posting) → beside_of p ≤ 1
+unfolding beside_of
+one_at_most p = by (is_small p)
+  where
+    by : (b : Bool) → cond b 0 1 ≤ 1
+    by true = omega arith
+    by false = omega arith
+
+-- a posting that is kept beside counts at least so many occurrences
+pub often_beside : (p : Posting) → 1 ≤ p.doc → p.doc ≤ 2 ^ 24 → 1 ≤ p.freq → 256 * beside_of p ≤ p.freq
+often_beside p first last some = by_freq (cases_lt p.freq 256)
+  where
+    by_freq : (p.freq < 256) ⊎ (256 ≤ p.freq) → 256 * beside_of p ≤ p.freq
+    by_freq (inl few) = omega (arith, none_beside p first last some few)
+    by_freq (inr often) = omega (arith, one_at_most p, often)
 
 -- ---- some of the postings
 
@@ -94,3 +115,10 @@ pub put_is : (beside more : List Posting) (words : List ℕ) (place word : ℕ) 
     map (unpacked more) words ≡ map (unpacked beside) words → unpacked more word ≡ p → map (unpacked more) (set words place word) ≡ set old place p
 put_is beside more words place word p old old_is same p_is =
     map-set (unpacked more) words place word ∙ ap (λ xs. set xs place (unpacked more word)) (same ∙ old_is) ∙ ap (λ x. set old place x) p_is
+
+-- one that is kept behind the others
+pub put_behind : (beside more : List Posting) (words : List ℕ) (place word : ℕ) (p : Posting) (old : List Posting) → map (unpacked beside) words ≡ old →
+    more ≡ beside ++ p ∷ [] → All (IsKnown (length beside)) words → word ≡ length beside * 256 → map (unpacked more) (set words place word) ≡ set old place p
+put_behind beside more words place word p old old_is is known word_is =
+    put_is beside more words place word p old old_is (ap (λ (b : List Posting). map (unpacked b) words) is ∙ all_stay beside p words known)
+    (ap (λ (b : List Posting). unpacked b word) is ∙ own_place beside p word word_is)

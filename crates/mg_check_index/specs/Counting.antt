@@ -1,5 +1,5 @@
 -- What contracts see of terms that are counted, and of weights and runs that are compared with their parts.
-use Rattle.std.specs.Prelude.{◌≡◌, ◌≢◌, ℕ, ◌+◌, ◌-◌, ◌*◌, ◌<◌, ◌≤◌, ◌^◌, List, [], ◌∷◌, ◌++◌, length, take, drop, flat_map, min, slice_index, slice_set, map, count_by, OnOk}
+use Rattle.std.specs.Prelude.{◌≡◌, ◌≢◌, ℕ, ◌+◌, ◌-◌, ◌*◌, ◌<◌, ◌≤◌, ◌^◌, List, [], ◌∷◌, ◌++◌, length, take, drop, flat_map, min, slice_index, slice_set, map, count_by, IfOk, OnOk}
 use Rattle.std.specs.Option.{IsSome}
 use Rattle.std.specs.declared.option.Option.{Option}
 use Rattle.std.specs.declared.result.Result.{Result}
@@ -140,6 +140,13 @@ pub record WritesRun {T E : Type 0} (old new : Pooled) (result : Result T E) : T
   pub slots : OnOk result (old.slots ≡ [] → new.slots ≡ [])
   -- it takes as many as before
   pub limit : new.limit ≡ old.limit
+
+-- they are, and the answer is how many bytes the run has
+pub record SizesRun {E : Type 0} (old new : Pooled) (result : Result ℕ E) : Type 0 where
+  pub pool : WritesRun old new result
+  pub count : IfOk result (λ count. count ≡ length (run_of_pool old))
+  -- which are few
+  pub few : OnOk result (length (run_of_pool old) ≤ 16 + 32 * length old.entries)
 
 -- the bytes of the part of the runs of these occurrences
 abbrev pub run_part_of : RunReading → List (ℕ × ℕ) → List ℕ

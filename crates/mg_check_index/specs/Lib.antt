@@ -3,3 +3,4 @@ pub mod Packing
 pub mod Listing
 pub mod Anew
 pub mod InStore
+pub mod InPair

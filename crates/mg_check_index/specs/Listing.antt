@@ -1,5 +1,5 @@
 -- The lists of a range of terms in one vector, and lists, skip entries and lexicon as far as the terms below a number.
-use Rattle.std.specs.Prelude.{◌≡◌, ◌<◌, ◌≤◌, ◌+◌, ◌-◌, ◌^◌, ℕ, List, [], ◌++◌, IfErr, OnOk, length, map, filter, flat_map, take, drop, get_or, codes, slice_get, slice_index, nat_eq, Some}
+use Rattle.std.specs.Prelude.{◌≡◌, ◌<◌, ◌≤◌, ◌+◌, ◌-◌, ◌^◌, ℕ, List, [], ◌++◌, IfErr, OnOk, length, map, filter, flat_map, take, drop, get_or, slice_get, slice_index, nat_eq, Some}
 use Rattle.std.specs.Cmp.Lexicographic.{slice_cmp}
 use Rattle.std.specs.List.Sorted.{IsStrictlySortedBy}
 use Rattle.std.specs.Option.{IsSome}
@@ -9,7 +9,6 @@ use Rattle.std.specs.declared.result.Result.{Result}
 use Rattle.mg_dev.specs.Files.{Files, Reads, bytes_at}
 use Rattle.mg_dev.specs.Names.{full_name}
 use Rattle.mg_dev.specs.declared.part.Part.TheVariants.{Lex, LexAt, Post, Skip}
-use Rattle.mg_mem.specs.declared.sure_store.SureStore.{SureStore}
 use Rattle.mg_dev.specs.declared.part_err.PartErr.{PartErr}
 use Rattle.mg_defs.specs.Limits.{version_2}
 use Rattle.mg_defs.specs.declared.Posting.{Posting}
@@ -27,6 +26,8 @@ use Rattle.mg_lex.specs.Terms.{Term, terms_of}
 use Rattle.mg_lex.specs.Writing.{LexWriting, TookTerms}
 use Rattle.mg_model.specs.Terms.{TermNumbers}
 use Rattle.mg_post.specs.Writing.{Listing, Took}
+use Rattle.mg_check_index.specs.InPair.{pair_files, set_name}
+use Rattle.mg_check_index.specs.declared.pair_store.WrittenPair.{WrittenPair}
 use Rattle.mg_check_parts.specs.Looks.{LooksAtSet}
 use Rattle.mg_check_parts.specs.Refusals.{Refutes}
 use Rattle.mg_check_index.specs.declared.indexed.Indexed.{Indexed}
@@ -43,12 +44,14 @@ pub record AreSizes (docs : List ℕ) (terms all : ℕ) : Type 0 where
 
 -- ---- the lists of a range of terms
 
--- the number of the first term, where each list begins and the last one ends, where the next posting of each goes, and all postings
+-- the number of the first term, where each list begins and the last one ends, where the next posting of each goes, all
+-- postings, and how many more of them may be kept beside
 pub record Ranged : Type 0 where
   pub first : ℕ
   pub starts : List ℕ
   pub next : List ℕ
   pub postings : List Posting
+  pub left : ℕ
 
 -- the lists follow one another, and each is within its room
 pub record IsLaidOut (w : Ranged) : Type 0 where
@@ -73,6 +76,7 @@ some_of w first count = record {
   starts = take (count + 1) (drop first w.starts);
   next = take count (drop first w.next);
   postings = w.postings;
+  left = w.left;
 }
 
 -- the lists of the terms from one on to before another, with room for so many postings each
@@ -85,9 +89,10 @@ pub record HasRooms (w : Ranged) (docs : List ℕ) (first end : ℕ) : Type 0 wh
 pub record HoldsLists (w : Ranged) (lists : ℕ → List Posting) : Type 0 where
   pub each : (k : ℕ) → k < length w.next → list_at w k ≡ lists (w.first + k)
 
--- there is room for these lists
-pub record HasRoomFor (w : Ranged) (lists : ℕ → List Posting) : Type 0 where
+-- there is room for these lists, and for so many postings more beside
+pub record HasRoomFor (w : Ranged) (lists : ℕ → List Posting) (beside : ℕ) : Type 0 where
   pub each : (k : ℕ) → k < length w.next → length (lists (w.first + k)) ≤ room_at w k
+  pub left : beside ≤ w.left
 
 -- the same lists, of which each may hold others
 pub record SameRooms (old new : Ranged) : Type 0 where
@@ -95,10 +100,11 @@ pub record SameRooms (old new : Ranged) : Type 0 where
   pub starts : new.starts ≡ old.starts
   pub count : length new.next ≡ length old.next
 
--- a step that adds to lists: they are the same ones, and each is still within its room
-pub record KeepsRooms (old new : Ranged) : Type 0 where
+-- a step that adds to lists, and keeps at most so many postings beside: they are the same ones, and each is still within its room
+pub record KeepsRooms (old new : Ranged) (beside : ℕ) : Type 0 where
   pub laid : IsLaidOut new
   pub same : SameRooms old new
+  pub left : old.left ≤ new.left + beside
 
 -- the postings of a document, by the terms that it has and how often each comes, in the list of one of them
 abbrev pub postings_in : ℕ → List (ℕ × ℕ) → ℕ → List Posting
@@ -133,17 +139,15 @@ pub record AreRooms (w : Ranged) (all : ℕ) : Type 0 where
 abbrev pub term_of : List ℕ → TermInfo → Term
 term_of t info = record { string = t; info = info_of info }
 
--- The store in memory tells its files; the lexicon has the terms below a number.
+-- The lexicon has the terms below a number.
 pub record CanPush (terms : List (List ℕ)) (number : ℕ) (lex : LexWriting) (files : Option Files) : Type 0 where
-  pub told : IsSome files
   pub before : List Term
   pub took : TookTerms lex files before
   pub count : lex.front.count ≡ number
   pub last : (k : ℕ) → k + 1 ≡ number → slice_get terms k ≡ Some lex.front.last
 
--- The store in memory tells its files; the first lists of a range were written.
+-- The first lists of a range were written.
 pub record CanList (w : Ranged) (index : ℕ) (lists : Listing) (files : Option Files) : Type 0 where
-  pub told : IsSome files
   pub done : List (List Posting)
   pub took : Took lists files done []
   pub between : lists.pushed ≡ 0
@@ -208,14 +212,22 @@ pub record ArePlaces (places : Places) : Type 0 where
   pub post : places.post ≤ 2 ^ 63
   pub skip : places.skip ≤ 2 ^ 63
 
--- The lexicon in memory has the terms below a number, and the places are those of bytes.
+-- the lexicon has the terms below a number, and the places are those of bytes
 pub record CanCompare (terms : List (List ℕ)) (number : ℕ) (places : Places) (lex : LexWriting)
     (lex_files : Option Files) : Type 0 where
   pub push : CanPush terms number lex lex_files
-  pub base : lex.base ≡ codes "new"
   pub within : ArePlaces places
 
--- Post and Skip begin with the lists of the terms below a number, and the lexicon in memory has what is to stand of these terms.
+-- a writer's two files are those that are compared with the lexicon of a base
+pub record GoesToLexicon (lex : LexWriting) (pair : WrittenPair) (base : List ℕ) : Type 0 where
+  pub strings : full_name lex.base Lex ≡ pair.one.own.now
+  pub places : full_name lex.base LexAt ≡ pair.other.own.now
+  pub strings_of : set_name pair.one ≡ full_name base Lex
+  pub places_of : set_name pair.other ≡ full_name base LexAt
+  pub strings_from : pair.one.from ≡ 0
+  pub places_from : pair.other.from ≡ 0
+
+-- Post and Skip begin with the lists of the terms below a number, and the lexicon has what is to stand of these terms.
 pub record HasCompared (files : Option Files) (base collection : List ℕ) (number : ℕ) (places : Places)
     (lex : LexWriting) (lex_files : Option Files) : Type 0 where
   pub lists : ListsAgree files base collection number places
@@ -250,31 +262,33 @@ abbrev pub ForEnds : Option Files → List ℕ → Places → (List ℕ → Type
 ForEnds files base ends claim = (collection : List ℕ) → IsSome files →
     ListsAgree files base collection (length (dictionary collection)) ends → claim collection
 
--- ---- with a lexicon in a store in memory, which told its files so
+-- ---- with a lexicon that is compared with the files of a set
 
 -- what was compared of the terms below a number may be followed by the next term
-abbrev pub CanCompareIn : (SureStore → Option Files) → Indexed → ℕ → Compared → Type 0
-CanCompareIn told of number compared = CanCompare of.table.now.terms number compared.places compared.lexicon.writer
-    (told compared.lexicon.store)
+pub record CanCompareIn (files : Option Files) (of : Indexed) (number : ℕ) (compared : Compared) : Type 0 where
+  pub compare : CanCompare of.table.now.terms number compared.places compared.lexicon.writer
+      (pair_files files compared.lexicon.pair)
+  pub goes : GoesToLexicon compared.lexicon.writer compared.lexicon.pair of.base.now
 
--- Post, Skip and the lexicon in memory agree with a collection, as far as the terms below a number
-abbrev pub ComparedIn : (SureStore → Option Files) → Option Files → Indexed → List ℕ → ℕ → Compared → Type 0
-ComparedIn told files of collection number compared = HasCompared files of.base.now collection number compared.places
-    compared.lexicon.writer (told compared.lexicon.store)
+-- Post, Skip and what was written of the lexicon agree with a collection, as far as the terms below a number
+pub record ComparedIn (files : Option Files) (of : Indexed) (collection : List ℕ) (number : ℕ) (compared : Compared) :
+    Type 0 where
+  pub has : HasCompared files of.base.now collection number compared.places compared.lexicon.writer
+      (pair_files files compared.lexicon.pair)
 
 -- the terms of a range are compared, told of the moments before and after
-pub record RangeCompared {T : Type 0} (told : SureStore → Option Files) (of : Indexed) (w : Ranged)
+pub record RangeCompared {T : Type 0} (of : Indexed) (w : Ranged)
     (old new : Compared) (result : Result T PartErr)
     (files files_now : Option Files) (reads reads_now : Reads) (faults faults_now : ℕ) : Type 0 where
   -- the next range may be compared
-  pub can : OnOk result (CanCompareIn told of (end_of_range w) new)
+  pub can : OnOk result (CanCompareIn files of (end_of_range w) new)
   -- where these are the lists of a collection, and the terms before them agree with it, the terms of the range do
   pub agree : (collection : List ℕ) → IsSome files → AreListsOf of collection w →
-      ComparedIn told files of collection w.first old →
-      OnOk result (ComparedIn told files of collection (end_of_range w) new)
+      ComparedIn files of collection w.first old →
+      OnOk result (ComparedIn files of collection (end_of_range w) new)
   -- where they are, a refusal tells that Post and Skip are not the lists of the collection
   pub other : (collection : List ℕ) → IsSome files → AreListsOf of collection w →
-      ComparedIn told files of collection w.first old → IfErr result (Refutes (ListsStand files of.base.now collection))
+      ComparedIn files of collection w.first old → IfErr result (Refutes (ListsStand files of.base.now collection))
   -- only parts of the set were read
   pub looks : LooksAtSet result files files_now reads reads_now faults faults_now
 
@@ -299,15 +313,14 @@ pub record CanFill (w : Ranged) (table : TermNumbers) : Type 0 where
   pub range : w.first + length w.next ≤ length table.terms
 
 -- a range may be compared, behind what was
-pub record CanCompareRange (told : SureStore → Option Files) (of : Indexed) (w : Ranged) (compared : Compared) : Type 0
+pub record CanCompareRange (files : Option Files) (of : Indexed) (w : Ranged) (compared : Compared) : Type 0
   where
     -- it is one of the table's terms
     pub range : IsRange w of
     -- the terms before it were compared
-    pub can : CanCompareIn told of w.first compared
+    pub can : CanCompareIn files of w.first compared
 
 -- nothing was compared
-pub record IsStart (told : SureStore → Option Files) (compared : Compared) : Type 0 where
-  pub can : (of : Indexed) → CanCompareIn told of 0 compared
-  pub none : (files : Option Files) (of : Indexed) (collection : List ℕ) →
-      ComparedIn told files of collection 0 compared
+pub record IsStart (files : Option Files) (base : List ℕ) (compared : Compared) : Type 0 where
+  pub can : (of : Indexed) → of.base.now ≡ base → CanCompareIn files of 0 compared
+  pub none : (of : Indexed) (collection : List ℕ) → ComparedIn files of collection 0 compared

@@ -1,5 +1,5 @@
 -- Postings of four bytes each: what such a number stands for.
-use Rattle.std.specs.Prelude.{ℕ, ◌+◌, ◌/◌, ◌%◌, ◌<◌, ◌≤◌, ◌≡◌, ◌==◌, if◌then◌else◌, List, All, get_or}
+use Rattle.std.specs.Prelude.{ℕ, ◌+◌, ◌/◌, ◌%◌, ◌^◌, ◌<◌, ◌≤◌, ◌≡◌, ◌==◌, ◌&&◌, Bool, nat_le, nat_lt, if◌then◌else◌, List, All, get_or, length, set, sum_by}
 use Rattle.mg_defs.specs.Limits.{version_2}
 use Rattle.mg_defs.specs.declared.Posting.{Posting}
 
@@ -17,13 +17,31 @@ unpacked beside word = if word % 256 == 0 then get_or beside (word / 256) nothin
 abbrev pub IsKnown : ℕ → ℕ → Type 0
 IsKnown count word = word % 256 ≡ 0 → word / 256 < count
 
--- a posting that has room in four bytes
-pub record IsSmall (posting : Posting) : Type 0 where
-  pub some : 1 ≤ posting.doc
-  pub within : posting.doc ≤ version_2.documents
-  pub often : 1 ≤ posting.freq
-  pub few : posting.freq < 256
+-- The numbers of postings tell none behind those that are kept beside, for which there is room of this capacity; each place
+-- there has a number.
+pub record ArePacked (words : List ℕ) (beside : List Posting) (capacity : ℕ) : Type 0 where
+  pub known : All (IsKnown (length beside)) words
+  pub few : capacity ≤ 2 ^ 24
 
--- the postings of a document have room so, by how often it has each of its terms
-abbrev pub AreSmall : ℕ → List (ℕ × ℕ) → Type 0
-AreSmall doc counted = All (λ (e : ℕ × ℕ). IsSmall (record { doc = doc; freq = e.1 })) counted
+-- postings, and how many more of them may be kept beside
+pub record Packed : Type 0 where
+  pub all : List Posting
+  pub left : ℕ
+
+-- a posting is put in a place, and so many are kept beside for it, told before and after
+pub record Puts (place : ℕ) (posting : Posting) (beside : ℕ) (old new : Packed) : Type 0 where
+  pub all : new.all ≡ set old.all place posting
+  pub left : old.left ≡ new.left + beside
+
+-- a posting has room in four bytes
+abbrev pub is_small : Posting → Bool
+is_small posting = nat_le 1 posting.doc && nat_le posting.doc version_2.documents
+    && (nat_le 1 posting.freq && nat_lt posting.freq 256)
+
+-- how many postings are kept beside for one: itself, where it has no room in four bytes
+unfoldable pub beside_of : Posting → ℕ
+beside_of posting = if is_small posting then 0 else 1
+
+-- how many are kept beside of a document's, by how often it has each of its terms
+abbrev pub beside_in : ℕ → List (ℕ × ℕ) → ℕ
+beside_in doc counted = sum_by (λ (e : ℕ × ℕ). beside_of (record { doc = doc; freq = e.1 })) counted

@@ -12,6 +12,7 @@ ghost use Rattle.mg_layout.specs.Contents.{StandAt};
 ghost use Rattle.mg_check_parts.specs.Looks.{LooksAtSet, is_of_set};
 ghost use Rattle.mg_check_parts.specs.Refusals.{Refutes};
 
+use crate::written_part::size_of;
 use mg_check_parts::expect_more;
 use mg_dev::{Failed, FileRef, Part, PartErr, PutErr, Store};
 use mg_layout::expect_bytes;
@@ -45,21 +46,6 @@ fn is_own(file: &FileRef<'_>) -> bool
         return false;
     }
     file.base == BASE
-}
-
-// How many bytes a file has; a missing one has none.
-fn size_of<S: Store>(store: &mut S, file: &FileRef<'_>) -> Result<u64, Failed>
-    ensures size { IsSome (S.files store.old) → IfOk result (λ size.
-        size ≡ length (file_bytes file.now (S.files store.old))) }
-    ensures files { S.files store.new ≡ S.files store.old }
-    ensures reads { SameReads (S.reads store.old) (S.reads store.new) }
-    ensures cause { HasCause (S.faults store.old) (S.faults store.new) result }
-{
-    match store.size(file) {
-        Ok(Some(size)) => Ok(size),
-        Ok(None) => Ok(0),
-        Err(failed) => Err(failed),
-    }
 }
 
 impl<'s, S: Store> ComparingStore<'s, S> {

@@ -2,7 +2,7 @@
 //!
 //! Nothing here reads the text. Of each document its terms are told, and the weights and the runs are compared as they
 //! come. A run is written anew into a store that compares, a page at a time, so it is not held. Of each range of terms the
-//! lists are told. They are written anew in memory, some at a time, and compared, and at last the lexicon.
+//! lists are told. They are written anew into such a store too, some at a time, and so is the lexicon of their terms.
 #![tactic(auto)]
 
 mod comparing_store;
@@ -10,9 +10,14 @@ mod comparison;
 mod ends;
 mod indexed;
 mod lexicon;
+mod list_written;
 mod lists;
 mod lists_of_range;
+mod new_lists;
 mod packed_postings;
+mod pair_lexicon;
+mod pair_lists;
+mod pair_store;
 mod range_lists;
 mod ranges;
 mod run_part;
@@ -20,6 +25,7 @@ mod run_written;
 mod some_lists;
 mod tally;
 mod weights;
+mod written_part;
 
 pub use ends::expect_ends;
 pub use indexed::Indexed;

@@ -1,11 +1,12 @@
 //! Postings of four bytes each.
 //!
 //! The postings of a range are the most that a check holds. The number of a document has at most 24 bits, and mostly it has
-//! a term fewer than 256 times. A posting that has no room so is kept beside, and the four bytes tell which one it is.
-ghost use Rattle.std.specs.Prelude.{◌≡◌, ◌≢◌, ◌<◌, ◌≤◌, ◌-◌, ◌*◌, ◌++◌, ◌∷◌, ◌%◌, ℕ, List, [], All, IfOk, IfSome, IsOk, IsSome, OnOk, OnErr, length, map, take, drop, get_or};
-ghost use Rattle.std.proofs.Math.ListN.{set};
+//! a term fewer than 256 times. A posting that has no room so is kept beside, and the four bytes tell which one it is. Room for
+//! such postings is reserved at first, so no memory is wanted where a posting is put.
+ghost use Rattle.std.specs.Prelude.{◌≡◌, ◌≢◌, ◌<◌, ◌≤◌, ◌-◌, ◌/◌, ◌%◌, ◌^◌, ℕ, List, IfNone, IfOk, IfSome, IsTrue, OnSome, length, take, drop, get_or, min};
+ghost use Rattle.std.specs.Bool.{OnFalse, OnTrue};
 ghost use Rattle.mg_defs.specs.declared.Posting.{Posting};
-ghost use Rattle.mg_check_index.specs.Packing.{IsKnown, IsSmall, nothing, unpacked};
+ghost use Rattle.mg_check_index.specs.Packing.{Puts, beside_of, nothing, unpacked};
 
 use mg_defs::{DOCUMENTS, Posting};
 use std::alloc::{AllocError, Global};
@@ -14,8 +15,8 @@ use std::marker::Model;
 /// What a low byte of a packed posting is below.
 const LOW: u32 = 256;
 
-/// No more postings are kept beside.
-const MOST_BESIDE: usize = 1 << 24;
+/// No more places beside are told by four bytes.
+const MOST_BESIDE: u64 = 1 << 24;
 
 /// A posting that is replaced by another one before it is read.
 const UNUSED: u32 = 1;
@@ -28,15 +29,14 @@ pub(crate) struct PackedPostings {
 }
 
 impl Model for PackedPostings {
-    ghost use Rattle.std.specs.Prelude.{List, All, length, map};
-    ghost use Rattle.mg_defs.specs.declared.Posting.{Posting};
-    ghost use Rattle.mg_check_index.specs.Packing.{IsKnown, unpacked};
+    ghost use Rattle.std.specs.Prelude.{◌-◌, map, vec_capacity, vec_len};
+    ghost use Rattle.mg_check_index.specs.Packing.{ArePacked, Packed, unpacked};
 
-    ghost Value = { List Posting };
+    ghost Value = { Packed };
 
-    ghost view = { λ p. map (unpacked p.beside.items) p.packed.items };
+    ghost view = { λ p. record { all = map (unpacked p.beside.items) p.packed.items; left = vec_capacity p.beside - vec_len p.beside } };
 
-    ghost invariant = { λ p. All (IsKnown (length p.beside.items)) p.packed.items };
+    ghost invariant = { λ p. ArePacked p.packed.items p.beside.items (vec_capacity p.beside) };
 }
 
 /// Some of the postings that are packed.
@@ -61,7 +61,8 @@ fn pack(posting: Posting) -> Option<u32>
     ensures posting { IfSome result (λ word. (beside : List Posting) →
         unpacked beside word ≡ posting) }
     ensures own { IfSome result (λ word. word % 256 ≢ 0) }
-    ensures small { IsSmall posting → IsSome result }
+    ensures small { OnSome result (beside_of posting ≡ 0) }
+    ensures other { IfNone result (beside_of posting ≡ 1) }
 {
     if posting.doc == 0 || posting.doc > DOCUMENTS {
         return None;
@@ -90,70 +91,56 @@ fn unpack(word: u32, beside: &[Posting]) -> Posting
     beside[place]
 }
 
-// Keeps a posting beside, and answers the four bytes that tell its place.
-fn keep(beside: &mut Vec<Posting>, posting: Posting) -> Result<u32, AllocError>
-    ensures kept { OnOk result (beside.new.items ≡ beside.old.items ++ posting ∷ []) }
-    ensures place { IfOk result (λ word. word ≡ length beside.old.items * 256) }
-    ensures same { OnErr result (beside.new.items ≡ beside.old.items) }
-{
-    let place = beside.len();
-    if place >= MOST_BESIDE {
-        return Err(AllocError);
-    }
-    match beside.push(posting) {
-        Ok(()) => Ok(place as u32 * LOW),
-        Err(_) => Err(AllocError),
-    }
-}
-
-// The four bytes of a posting, which is kept beside where it has no room in them.
-fn word_of(beside: &mut Vec<Posting>, posting: Posting) -> Result<u32, AllocError>
-    ensures posting { IfOk result (λ word. unpacked beside.new.items word ≡ posting) }
-    ensures known { IfOk result (λ word. IsKnown (length beside.new.items) word) }
-    ensures stay { (words : List ℕ) → All (IsKnown (length beside.old.items)) words →
-        map (unpacked beside.new.items) words ≡ map (unpacked beside.old.items) words }
-    ensures still { (words : List ℕ) → All (IsKnown (length beside.old.items)) words →
-        All (IsKnown (length beside.new.items)) words }
-    ensures sure { IsSmall posting → IsOk result }
-{
-    match pack(posting) {
-        Some(word) => Ok(word),
-        None => keep(beside, posting),
-    }
-}
-
 impl PackedPostings {
-    /// So many postings, which are to be put.
-    pub(crate) fn new(alloc: Global, count: usize) -> Result<Self, AllocError>
-        ensures { IfOk result (λ postings. length postings ≡ count) }
+    /// So many postings, which are to be put, and room beside for as many as a collection of so many occurrences may have
+    /// there: each of them counts at least 256 occurrences.
+    pub(crate) fn new(alloc: Global, count: usize, occurrences: u64) -> Result<Self, AllocError>
+        ensures count { IfOk result (λ postings. length postings.all ≡ count) }
+        ensures left { IfOk result (λ postings. postings.left ≡ min (occurrences / 256) (2 ^ 24)) }
     {
         let packed = vec![in alloc; UNUSED; count]?;
-        Ok(PackedPostings {
-            packed,
-            beside: Vec::new(alloc),
-        })
+        let most = (occurrences / u64::from(LOW)).min(MOST_BESIDE);
+        let beside = Vec::with_capacity(alloc, most as usize)?;
+        Ok(PackedPostings { packed, beside })
     }
 
-    /// Puts a posting in a place. After want of memory nothing changed.
-    pub(crate) fn put(&mut self, place: usize, posting: Posting) -> Result<(), AllocError>
-        requires within { place < length self.old }
-        ensures put { OnOk result (self.new ≡ set self.old place posting) }
-        ensures same { OnErr result (self.new ≡ self.old) }
-        ensures sure { IsSmall posting → IsOk result }
+    // Puts a posting in a place, and keeps it beside. False, and nothing changed, where no room is left there.
+    fn put_beside(&mut self, place: usize, posting: Posting) -> bool
+        requires within { place < length self.old.all }
+        ensures put { OnTrue result (Puts place posting 1 self.old self.new) }
+        ensures same { OnFalse result (self.new ≡ self.old) }
+        ensures room { 1 ≤ self.old.left → IsTrue result }
     {
-        let word = match word_of(&mut self.beside, posting) {
-            Ok(word) => word,
-            Err(AllocError) => return Err(AllocError),
-        };
-        self.packed[place] = word;
-        Ok(())
+        let kept = self.beside.len();
+        if kept == self.beside.capacity() {
+            return false;
+        }
+        self.beside.push_reserved(posting);
+        self.packed[place] = kept as u32 * LOW;
+        true
+    }
+
+    /// Puts a posting in a place. False, and nothing changed, where it has no room in four bytes and none is left beside.
+    pub(crate) fn put(&mut self, place: usize, posting: Posting) -> bool
+        requires within { place < length self.old.all }
+        ensures put { OnTrue result (Puts place posting (beside_of posting) self.old self.new) }
+        ensures same { OnFalse result (self.new ≡ self.old) }
+        ensures room { beside_of posting ≤ self.old.left → IsTrue result }
+    {
+        match pack(posting) {
+            Some(word) => {
+                self.packed[place] = word;
+                true
+            }
+            None => self.put_beside(place, posting),
+        }
     }
 
     /// The postings from a place on to before another one.
     pub(crate) fn between(&self, from: usize, to: usize) -> Postings<'_>
         requires order { from ≤ to }
-        requires within { to ≤ length self.now }
-        ensures { result ≡ take (to - from) (drop from self.now) }
+        requires within { to ≤ length self.now.all }
+        ensures { result ≡ take (to - from) (drop from self.now.all) }
     {
         Postings {
             packed: &self.packed[from..to],

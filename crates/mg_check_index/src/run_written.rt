@@ -6,7 +6,7 @@ ghost use Rattle.mg_dev.specs.Moments.{Between};
 ghost use Rattle.mg_dev.specs.Names.{full_name};
 ghost use Rattle.mg_bits.specs.Writer.{WroteTo};
 ghost use Rattle.mg_layout.specs.Contents.{StandAt};
-ghost use Rattle.mg_check_index.specs.Counting.{CanBeRun, WritesRun, run_of_pool};
+ghost use Rattle.mg_check_index.specs.Counting.{CanBeRun, SizesRun, run_of_pool};
 ghost use Rattle.mg_check_index.specs.InStore.{followed, own_name};
 ghost use Rattle.mg_check_parts.specs.Looks.{LooksAtSet, is_of_set, reads_outside};
 ghost use Rattle.mg_check_parts.specs.Refusals.{Refutes};
@@ -22,10 +22,7 @@ fn write_into<S: Store>(alloc: Global, store: &mut S, pool: &mut Pool) -> Result
     requires run { CanBeRun pool.old }
     ensures written { IsSome (S.files store.old) →
         OnOk result (bytes_at (S.files store.new) own_name ≡ run_of_pool pool.old) }
-    ensures count { IfOk result (λ count. count ≡ length (run_of_pool pool.old)) }
-    ensures few { OnOk result (length (run_of_pool pool.old) ≤ 16 + 32
-        * length pool.old.entries) }
-    ensures pool { WritesRun pool.old pool.new result }
+    ensures size { SizesRun pool.old pool.new result }
     ensures wrote { WroteTo own_name (S.files store.old) (S.files store.new) (S.reads store.old)
         (S.reads store.new) }
     ensures cause { HasPutCause (S.faults store.old) (S.faults store.new) result }
@@ -65,10 +62,7 @@ fn write_run<S: Store>(
         OnOk result (followed (S.files into.old.store.now)
         (full_name into.old.file.base.now into.old.file.part) into.old.from into.new.standing
         into.new.rest.now.items ≡ run_of_pool pool.old) }
-    ensures count { IfOk result (λ count. count ≡ length (run_of_pool pool.old)) }
-    ensures few { OnOk result (length (run_of_pool pool.old) ≤ 16 + 32
-        * length pool.old.entries) }
-    ensures pool { WritesRun pool.old pool.new result }
+    ensures size { SizesRun pool.old pool.new result }
     ensures files { S.files into.new.store.now ≡ S.files into.old.store.now }
     ensures outside { reads_outside (S.reads into.new.store.now)
         ≡ reads_outside (S.reads into.old.store.now) }
@@ -90,14 +84,11 @@ pub(crate) fn expect_run<S: Store>(
     requires of_set { is_of_set file.part ≡ true }
     requires place { at ≤ 2 ^ 63 }
     requires run { CanBeRun pool.old }
-    ensures count { IfOk result (λ count. count ≡ length (run_of_pool pool.old)) }
-    ensures few { OnOk result (length (run_of_pool pool.old) ≤ 16 + 32
-        * length pool.old.entries) }
     ensures stand { IsSome (S.files store.old) → OnOk result
         (StandAt at (run_of_pool pool.old) (file_bytes file.entry (S.files store.old))) }
     ensures other { IsSome (S.files store.old) → IfErr result (Refutes
         (StandAt at (run_of_pool pool.old) (file_bytes file.entry (S.files store.old)))) }
-    ensures pool { WritesRun pool.old pool.new result }
+    ensures size { SizesRun pool.old pool.new result }
     ensures looks { Between S.files S.reads S.faults store.old store.new (LooksAtSet result) }
 {
     let mut rest = Vec::new(alloc);

@@ -1,7 +1,7 @@
 //! Some of the lists of a range, which are written anew and compared at once.
 //!
-//! The lists of a range may take much of the memory. They are not held twice: so many are written anew at a time as have
-//! 2^16 postings together, and these are dropped before the next ones are written.
+//! The lists of a range are compared as they are written. Where a part has another byte, what is written behind it is held.
+//! So at most so many lists are held twice as have 2^16 postings together, and one more.
 ghost use Rattle.std.specs.Prelude.{◌≡◌, ◌<◌, ◌≤◌, ◌+◌, ◌-◌, ◌^◌, length, slice_index};
 ghost use Rattle.mg_check_index.specs.Listing.{IsLaidOut, list_at, room_at, some_of};
 

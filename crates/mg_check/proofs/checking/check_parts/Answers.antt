@@ -42,8 +42,8 @@ returns g c = record {
         let files = g.S.Store.files c.args.store.now in
         let same : g.S.Store.files c.check_terms.new.store ≡ files = c.in-Ok.ensures.text.looks.files in
         let index = index-of files (g.S.Store.files c.check_terms.new.store) c.args.head.now c.args.reader.now c.check_terms.new.reader
-        c.args.table.now c.deref.result.now collection same c.in-Ok.ensures.text.same c.requires.text.table_is
-        (c.deref.ensures.value ∙ (c.in-Ok.ensures.counted collection stand).docs) c.requires.reads.documents c.requires.reads.within stand in
+        c.args.table.now c.deref.result.now c.in-Ok.counts.occurrences collection same c.in-Ok.ensures.text.same c.requires.text.table_is
+        (c.deref.ensures.value ∙ (c.in-Ok.ensures.counted collection stand).docs) (c.in-Ok.ensures.counted collection stand).occurrences c.requires.reads.documents c.requires.reads.within stand in
         let size = c.run_size-size.result in
         let count = c.in-Ok-expect_number.ensures.number.stand ∙ (c.in-Ok.ensures.counted collection stand).occurrences in
         let runs = head-runs c.args.head.now size collection c.run_size-size.ensures.least c.run_size-size.ensures.most c.run_size-size.ensures.enough count in

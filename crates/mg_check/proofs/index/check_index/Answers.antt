@@ -1,5 +1,5 @@
 use Rattle.std.proofs.Common.{rules, arith, sym, subst}
-use Rattle.mg_dev.specs.declared.part_err.PartErr.TheVariants.{Bad, Memory}
+use Rattle.mg_dev.specs.declared.part_err.PartErr.TheVariants.{Bad}
 use Rattle.mg_check_index.specs.Listing.{AreSizes}
 use Rattle.mg_check_text.proofs.CallerLemmas.{text_own}
 use Rattle.mg_check.proofs.IndexLaws.{few_documents, sizes_of}
@@ -12,10 +12,10 @@ returns-then-of-gt-DOCUMENTS g c = record {
     stand = λ collection is. tt;
     other = λ collection is stand.
         elim c.then-of-gt-DOCUMENTS.branch [
-          | then-of-gt-DOCUMENTS-via-then-of-gt-DOCUMENTS w ↦ omega (arith, few_documents _ _ _ _ collection c.args.of.now.documents is c.requires.text.all, w.if-of-gt-DOCUMENTS.true)
+          | then-of-gt-DOCUMENTS-via-then-of-gt-DOCUMENTS w ↦ omega (arith, few_documents c.args.of.now.documents is c.requires.text.all, w.if-of-gt-DOCUMENTS.true)
           | then-of-gt-DOCUMENTS-via-else-of-gt-DOCUMENTS+then-not-are_sizes w ↦
               (let sizes = subst (λ n. AreSizes c.args.of.now.docs.now n c.args.of.now.documents) (sym w.count.ensures.count)
-              (sizes_of _ _ _ _ collection c.args.of.now.documents is c.requires.text.all) in
+              (sizes_of c.args.of.now.documents is c.requires.text.all) in
               let ok = w.are_sizes.ensures.1 sizes in
               search rules)
         ];
@@ -23,8 +23,5 @@ returns-then-of-gt-DOCUMENTS g c = record {
   };
 }
 
-pub returns-in-Err : goal.returns-in-Err
-returns-in-Err g c = record { index = record { stand = λ collection is. tt; other = λ collection is. tt; text = text_own Memory _ _ _ c.requires.text.fits tt } }
-
 pub returns : goal.returns
-returns g c = record { index = c.compare_index.ensures.index }
+returns g c = record { index = c.check_sized.ensures.index }

@@ -17,7 +17,15 @@ returns-in-Err g c = record {
 }
 
 pub check_lists-requires : goal.check_lists-requires
-check_lists-requires g c = record { range = record { range = c.in-Ok.ensures.range; can = can_on c.args.of.now.table.now.terms _ _ _ _ _ c.in-Ok.ensures.first c.requires.can } }
+check_lists-requires g c =
+    let old = g.S.Store.files c.args.store.now in
+    let now = g.S.Store.files c.read_range.new.store in
+    record {
+      range = record {
+        range = c.in-Ok.ensures.range;
+        can = can_on old now c.args.of.now c.args.first c.in-Ok.lists.first c.args.compared.now c.in-Ok.ensures.text.looks.files c.in-Ok.ensures.first c.requires.can;
+      };
+    }
 
 pub returns-in-Ok-check_lists : goal.returns-in-Ok-check_lists
 returns-in-Ok-check_lists g c =
@@ -31,11 +39,11 @@ returns-in-Ok-check_lists g c =
     record {
       next = record {
         behind = record { after = omega (arith, range.some, c.count.ensures); within = omega (arith, range.range, first, c.count.ensures) };
-        can = can_on c.args.of.now.table.now.terms _ _ _ _ _ next compared.can;
+        can = can_on now old c.args.of.now _ _ c.check_lists.new.compared (sym files) next compared.can;
         agree = λ collection is has.
-            compared_on now old c.args.of.now.base.now collection _ _ _ _ _ (sym files) next
+            compared_on now old c.args.of.now collection _ _ c.check_lists.new.compared (sym files) next
             (compared.agree collection (subst IsSome (sym files) is.stands.told) (c.in-Ok.ensures.held collection is)
-            (compared_on old now c.args.of.now.base.now collection c.args.first c.in-Ok.lists.first _ _ _ files first has));
+            (compared_on old now c.args.of.now collection c.args.first c.in-Ok.lists.first c.args.compared.now files first has));
         other = λ collection is has. tt;
         text = text_ok (text_looks c.in-Ok.ensures.text c.in-Ok-check_lists.ensures.range.looks);
       };
@@ -54,7 +62,7 @@ returns g c =
         other = λ collection is has.
             refutes_wider _ (ListsStand old c.args.of.now.base.now collection) c.in-Err-check_lists.refusal (lists_stand_on old now c.args.of.now.base.now collection files)
             (c.in-Err-check_lists.ensures.range.other collection (subst IsSome (sym files) is.stands.told) (c.in-Ok.ensures.held collection is)
-            (compared_on old now c.args.of.now.base.now collection c.args.first c.in-Ok.lists.first _ _ _ files c.in-Ok.ensures.first has));
+            (compared_on old now c.args.of.now collection c.args.first c.in-Ok.lists.first c.args.compared.now files c.in-Ok.ensures.first has));
         text = text_err (text_looks c.in-Ok.ensures.text c.in-Err-check_lists.ensures.range.looks);
       };
     }

@@ -2,7 +2,7 @@ use Rattle.std.proofs.Common.{arith}
 use Rattle.mg_dev.specs.declared.part_err.PartErr.TheVariants.{Memory}
 use Rattle.mg_check_parts.proofs.CallerLemmas.{rising_of}
 use Rattle.mg_check_text.proofs.CallerLemmas.{text_err, text_ok, text_own}
-use Rattle.mg_check.proofs.IndexLaws.{range_of_index, room_of_docs}
+use Rattle.mg_check.proofs.IndexLaws.{range_of_index, room_of_docs, whole_room}
 use Rattle.mg_check_index.proofs.CallerLemmas.{rooms_of, rooms_stay}
 use Rattle.mg_check.proofs.index.read_range.Goals as goal
 
@@ -40,18 +40,17 @@ returns-in-Ok-read_postings-clause-first g c = omega (arith, c.in-Ok.ensures.roo
 
 pub returns-in-Ok-read_postings-clause-held : goal.returns-in-Ok-read_postings-clause-held
 returns-in-Ok-read_postings-clause-held g c = λ collection is.
-    let room = room_of_docs c.in-Ok.lists c.args.reader.now _ _ c.args.of.now.docs.now collection c.args.first c.range_end-end.result is c.in-Ok.ensures.rooms c.range_end-end.ensures.within in
-    range_of_index c.in-Ok.lists c.read_postings.new.lists c.args.reader.now _ _ c.args.of.now.docs.now collection c.args.first c.range_end-end.result
-    c.args.of.now.documents is c.in-Ok.ensures.rooms c.range_end-end.ensures.within c.in-Ok-read_postings.ensures.filled.rooms c.requires.index.text.all
-    (c.in-Ok-read_postings.ensures.held collection is.stands room)
+    let room = room_of_docs c.in-Ok.lists c.args.first c.range_end-end.result is c.in-Ok.ensures.rooms c.range_end-end.ensures.within in
+    range_of_index c.in-Ok.lists c.read_postings.new.lists c.args.of.now.documents is room c.in-Ok-read_postings.ensures.filled.rooms c.requires.index.text.all
+    (c.in-Ok-read_postings.ensures.held collection is.stands (whole_room c.in-Ok.lists is room c.in-Ok.ensures.beside))
 
 pub returns-in-Ok-read_postings-clause-text : goal.returns-in-Ok-read_postings-clause-text
 returns-in-Ok-read_postings-clause-text g c = text_ok c.in-Ok-read_postings.ensures.filled.text
 
 pub returns-in-Err-read_postings-clause-never_bad : goal.returns-in-Err-read_postings-clause-never_bad
 returns-in-Err-read_postings-clause-never_bad g c = λ collection is.
-    let room = room_of_docs c.in-Ok.lists c.args.reader.now _ _ c.args.of.now.docs.now collection c.args.first c.range_end-end.result is c.in-Ok.ensures.rooms c.range_end-end.ensures.within in
-    c.in-Err-read_postings.ensures.never_bad collection is.stands room
+    let room = room_of_docs c.in-Ok.lists c.args.first c.range_end-end.result is c.in-Ok.ensures.rooms c.range_end-end.ensures.within in
+    c.in-Err-read_postings.ensures.never_bad collection is.stands (whole_room c.in-Ok.lists is room c.in-Ok.ensures.beside)
 
 pub returns-in-Err-read_postings-clause-text : goal.returns-in-Err-read_postings-clause-text
 returns-in-Err-read_postings-clause-text g c = text_err c.in-Err-read_postings.ensures.filled.text

@@ -1,5 +1,8 @@
-use Rattle.std.proofs.Common.{arith, ◌+◌, refl}
+use Rattle.std.proofs.Common.{arith, ◌<◌, ◌+◌, length, refl}
+use Rattle.mg_defs.specs.Split.{documents}
 use Rattle.mg_check_index.proofs.CallerLemmas.{same_more}
+use Rattle.mg_check.specs.IndexedText.{beside_behind}
+use Rattle.mg_check.proofs.BesideLaws.{left_more, left_next}
 use Rattle.mg_check.proofs.DocumentLaws.{room_for_all, room_stays, upto_all, upto_none}
 use Rattle.mg_check_text.proofs.CallerLemmas.{stands_on, terms_here, text_none, text_then}
 use Rattle.mg_check.proofs.postings.read_documents.Goals as goal
@@ -9,7 +12,7 @@ loop-before-init g c = record {
   text = text_none _ _ _ c.requires.text.fits;
   laid = c.requires.fill.laid;
   rooms = record { first = refl; starts = refl; count = refl };
-  held = λ collection stand room. upto_none c.args.lists.now collection c.requires.empty;
+  held = λ collection stand room. record { lists = upto_none c.args.lists.now collection c.requires.empty; left = omega arith };
 }
 
 pub read_document-requires-clause-text : goal.read_document-requires-clause-text
@@ -27,9 +30,11 @@ pub returns-in-Err-clause-never_bad : goal.returns-in-Err-clause-never_bad
 returns-in-Err-clause-never_bad g c = λ collection stand room.
     let inv = c.loop-before.invariant in
     let there = stands_on _ _ _ _ collection inv.text.same inv.text.looks.files stand in
-    let enough = room_for_all c.loop-before.lists collection (c.loop-before.before + 1)
-    (omega (arith, c.loop-before-test.true, c.requires.text.all, stand.documents)) (room_stays _ _ collection inv.rooms room).each in
-    c.in-Err.ensures.never_bad collection there (inv.held collection stand room) enough
+    let so_far = inv.held collection stand room in
+    let lt : c.loop-before.before < length (documents collection) = omega (arith, c.loop-before-test.true, c.requires.text.all, stand.documents) in
+    let enough = room_for_all c.loop-before.lists collection (c.loop-before.before + 1) (beside_behind c.loop-before.before collection) (omega (arith, lt))
+    (room_stays _ _ collection inv.rooms room.all).each (left_next c.args.lists.now c.loop-before.lists collection c.loop-before.before lt room.few room.beside so_far.left) in
+    c.in-Err.ensures.never_bad collection there so_far.lists enough
 
 pub returns-in-Err-clause-filled : goal.returns-in-Err-clause-filled
 returns-in-Err-clause-filled g c =
@@ -45,15 +50,18 @@ loop-before-preserved g c =
       laid = c.in-Ok.ensures.filled.laid;
       rooms = same_more _ _ _ inv.rooms c.in-Ok.ensures.filled.rooms;
       held = λ collection stand room.
-          c.in-Ok.ensures.held collection (stands_on _ _ _ _ collection inv.text.same inv.text.looks.files stand) (inv.held collection stand room)
-          (room_for_all c.loop-before.lists collection (c.loop-before.before + 1) (omega (arith, c.loop-before-test.true, c.requires.text.all, stand.documents))
-          (room_stays _ _ collection inv.rooms room).each);
+          let so_far = inv.held collection stand room in
+          let lt : c.loop-before.before < length (documents collection) = omega (arith, c.loop-before-test.true, c.requires.text.all, stand.documents) in
+          let enough = room_for_all c.loop-before.lists collection (c.loop-before.before + 1) (beside_behind c.loop-before.before collection) (omega (arith, lt))
+          (room_stays _ _ collection inv.rooms room.all).each (left_next c.args.lists.now c.loop-before.lists collection c.loop-before.before lt room.few room.beside so_far.left) in
+          let next = c.in-Ok.ensures.held collection (stands_on _ _ _ _ collection inv.text.same inv.text.looks.files stand) so_far.lists enough in
+          record { lists = next.lists; left = left_more c.args.lists.now c.loop-before.lists c.read_document.new.lists collection c.loop-before.before lt room.few so_far.left next.left };
     }
 
 pub returns-clause-held : goal.returns-clause-held
 returns-clause-held g c = λ collection stand room.
     upto_all c.loop-before.lists collection c.loop-before.before
-    (omega (arith, c.loop-before-test.false, c.loop-before.auto, c.requires.text.all, stand.documents)) (c.loop-before.invariant.held collection stand room)
+    (omega (arith, c.loop-before-test.false, c.loop-before.auto, c.requires.text.all, stand.documents)) (c.loop-before.invariant.held collection stand room).lists
 
 pub returns-clause-filled : goal.returns-clause-filled
 returns-clause-filled g c = let inv = c.loop-before.invariant in record { laid = inv.laid; rooms = inv.rooms; text = inv.text }

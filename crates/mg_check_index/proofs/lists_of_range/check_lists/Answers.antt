@@ -12,8 +12,8 @@ loop-first-init g c =
     let at : c.args.lists.now.first + 0 ≡ c.args.lists.now.first = omega arith in
     record {
       within = omega arith;
-      can = can_on c.args.of.now.table.now.terms _ _ _ _ _ at c.requires.range.can;
-      agree = λ collection told of has. compared_on old old c.args.of.now.base.now collection _ _ _ _ _ refl at has;
+      can = can_on old old c.args.of.now _ _ c.args.compared.now refl at c.requires.range.can;
+      agree = λ collection told of has. compared_on old old c.args.of.now collection _ _ c.args.compared.now refl at has;
       looks = looks_none _ _ _;
     }
 
@@ -24,7 +24,8 @@ check_some-requires g c =
     record {
       range = record {
         range = range_of_some w some.result c.args.of.now c.loop-first.first some.ensures.lists some.ensures.some some.ensures.within c.requires.range.range;
-        can = can_on c.args.of.now.table.now.terms _ _ _ _ _ (first_of_some w some.result c.loop-first.first some.ensures.lists) c.loop-first.invariant.can;
+        can = can_on (g.S.Store.files c.args.store.now) (g.S.Store.files c.loop-first.store) c.args.of.now _ _ c.loop-first.compared c.loop-first.invariant.looks.files
+            (first_of_some w some.result c.loop-first.first some.ensures.lists) c.loop-first.invariant.can;
       };
     }
 
@@ -42,7 +43,7 @@ returns-in-Err g c =
         can = tt;
         agree = λ collection told own has. tt;
         other = λ collection told own has.
-            let so_far = compared_on old now of.base.now collection _ _ _ _ _ files (first_of_some w some.result c.loop-first.first some.ensures.lists) (inv.agree collection told own has) in
+            let so_far = compared_on old now of collection _ _ c.loop-first.compared files (first_of_some w some.result c.loop-first.first some.ensures.lists) (inv.agree collection told own has) in
             refutes_wider _ (ListsStand old of.base.now collection) c.in-Err.refusal (lists_stand_on old now of.base.now collection files)
             (c.in-Err.ensures.range.other collection (subst IsSome (sym files) told)
             (own_of_some w some.result of.table.now.terms of.documents collection c.loop-first.first some.ensures.lists some.ensures.within own) so_far);
@@ -63,10 +64,10 @@ loop-first-preserved g c =
     let next : w.first + (c.loop-first.first + c.count-first.result) ≡ some.result.first + length some.result.next = omega (arith, at, c.count-first.ensures) in
     record {
       within = omega (arith, some.ensures.within, c.count-first.ensures);
-      can = can_on of.table.now.terms _ _ _ _ _ next c.in-Ok.ensures.range.can;
+      can = can_on now old of _ _ c.check_some.new.compared (sym files) next c.in-Ok.ensures.range.can;
       agree = λ collection told own has.
-          let so_far = compared_on old now of.base.now collection _ _ _ _ _ files at (inv.agree collection told own has) in
-          compared_on now old of.base.now collection _ _ _ _ _ (sym files) next
+          let so_far = compared_on old now of collection _ _ c.loop-first.compared files at (inv.agree collection told own has) in
+          compared_on now old of collection _ _ c.check_some.new.compared (sym files) next
           (c.in-Ok.ensures.range.agree collection (subst IsSome (sym files) told)
           (own_of_some w some.result of.table.now.terms of.documents collection c.loop-first.first some.ensures.lists some.ensures.within own) so_far);
       looks = looks_then inv.looks (looks_ok c.in-Ok.ensures.range.looks);
@@ -83,8 +84,8 @@ returns g c =
     let all : w.first + length w.next ≡ w.first + c.loop-first.first = omega (arith, c.loop-first-test.false, inv.within, c.count-all.ensures) in
     record {
       range = record {
-        can = can_on c.args.of.now.table.now.terms _ _ _ _ _ all inv.can;
-        agree = λ collection told own has. compared_on old old c.args.of.now.base.now collection _ _ _ _ _ refl all (inv.agree collection told own has);
+        can = can_on old old c.args.of.now _ _ c.loop-first.compared refl all inv.can;
+        agree = λ collection told own has. compared_on old old c.args.of.now collection _ _ c.loop-first.compared refl all (inv.agree collection told own has);
         other = λ collection told own has. tt;
         looks = inv.looks;
       };

@@ -24,13 +24,11 @@ returns-in-Ok-finish-clause-written g c = λ told.
     subst (λ n. AreBytes (bytes_at (g.S.Store.files c.finish.new.store) n)) c.finish.ensures.name (c.in-Ok-finish.ensures.holds.bytes told_last) in
     ap (bytes_at (g.S.Store.files c.finish.new.store)) (sym name) ∙ run_is c.args.pool.now _ small made
 
-pub returns-in-Ok-finish-clause-count : goal.returns-in-Ok-finish-clause-count
-returns-in-Ok-finish-clause-count g c =
-    let there = c.place-count.ensures in
-    ap (λ n. n / 8) there
-    ∙ run_count c.args.pool.now c.in-Ok.writer.place c.spill.new.w.place c.in-Ok.ensures.place c.in-Ok-spill.ensures.bits.place c.in-Ok-spill.ensures.whole
-
-pub returns-in-Ok-finish-clause-few : goal.returns-in-Ok-finish-clause-few
-returns-in-Ok-finish-clause-few g c =
-    run_short c.args.pool.now c.in-Ok.writer.place c.spill.new.w.place c.in-Ok.ensures.place c.in-Ok-spill.ensures.bits.place c.in-Ok-spill.ensures.whole
-    c.in-Ok-spill.ensures.place
+pub returns-in-Ok-finish-clause-size : goal.returns-in-Ok-finish-clause-size
+returns-in-Ok-finish-clause-size g c =
+    let bits = c.in-Ok-spill.ensures.bits.place in
+    record {
+      pool = record { empty = c.in-Ok-spill.ensures.empty; slots = c.in-Ok-spill.ensures.slots; limit = c.spill.ensures.limit };
+      count = ap (λ n. n / 8) c.place-count.ensures ∙ run_count c.args.pool.now c.in-Ok.writer.place c.spill.new.w.place c.in-Ok.ensures.place bits c.in-Ok-spill.ensures.whole;
+      few = run_short c.args.pool.now c.in-Ok.writer.place c.spill.new.w.place c.in-Ok.ensures.place bits c.in-Ok-spill.ensures.whole c.in-Ok-spill.ensures.place;
+    }

@@ -18,7 +18,7 @@ returns-in-Err-clause-begun g c = record {
 
 pub returns-clause-begun : goal.returns-clause-begun
 returns-clause-begun g c = record {
-  done = rw (← c.self.view_is) (begun_more _ _ _ _ (run_of_pool c.args.pool.now) refl (ap (λ n. c.self.inside.at + n) c.in-Ok.ensures.count) c.expect_run.ensures.looks.files
+  done = rw (← c.self.view_is) (begun_more _ _ _ _ (run_of_pool c.args.pool.now) refl (ap (λ n. c.self.inside.at + n) c.in-Ok.ensures.size.count) c.expect_run.ensures.looks.files
       c.in-Ok.ensures.stand);
   bad = λ told. tt;
   looks = looks_ok c.in-Ok.ensures.looks;

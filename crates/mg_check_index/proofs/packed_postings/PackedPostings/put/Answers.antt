@@ -1,7 +1,13 @@
+use Rattle.std.proofs.Common.{arith, refl, ap}
+use Rattle.mg_check_index.specs.Packing.{Packed}
 use Rattle.mg_check_index.proofs.PackedLaws.{put_is}
 use Rattle.mg_check_index.proofs.packed_postings.PackedPostings.put.Goals as goal
 
-pub returns-clause-put : goal.returns-clause-put
-returns-clause-put c =
-    put_is c.self.inside.beside.items c.word_of.new.beside.items c.self.inside.packed.items c.args.place c.in-Ok.word c.args.posting c.args.self.now c.self.view_is
-    (c.word_of.ensures.stay c.self.inside.packed.items c.self.invariant) c.in-Ok.ensures.posting
+pub returns-in-Some-clause-put : goal.returns-in-Some-clause-put
+returns-in-Some-clause-put c =
+    let beside = c.self.inside.beside.items in
+    record {
+      all = put_is beside beside c.self.inside.packed.items c.args.place c.in-Some.word c.args.posting c.args.self.now.all (ap (λ (v : Packed). v.all) c.self.view_is) refl
+          (c.in-Some.ensures.posting beside);
+      left = omega (arith, ap (λ (v : Packed). v.left) c.self.view_is, c.in-Some.ensures.small);
+    }
