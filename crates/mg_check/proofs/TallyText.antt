@@ -1,5 +1,5 @@
 -- The documents of a text, and what they amount to.
-use Rattle.std.proofs.Common.{arith, ◌≡◌, ◌+◌, ◌/◌, ◌<◌, ◌≤◌, ℕ, suc, List, [], ◌∷◌, ◌++◌, length, map, take, drop, get_or, Ok, Err, refl, sym, ap, subst, ◌∙◌, take-append-drop}
+use Rattle.std.proofs.Common.{arith, ◌≡◌, ◌+◌, ◌/◌, ◌<◌, ◌≤◌, ℕ, suc, List, [], ◌∷◌, ◌++◌, length, map, take, drop, get_or, Ok, Err, refl, sym, ap, subst, ◌∙◌, take-append-drop, length-take}
 use Rattle.std.specs.Prelude.{flat_map, IfErr, OnOk}
 use Rattle.std.specs.declared.option.Option.{Option}
 use Rattle.std.specs.declared.result.Result.{Result}
@@ -13,7 +13,6 @@ use Rattle.mg_dev.specs.declared.part.Part.TheVariants as part
 use Rattle.mg_dev.specs.declared.part_err.PartErr.{PartErr}
 use Rattle.mg_dev.specs.declared.part_err.PartErr.TheVariants.{Device, Memory, Bad}
 use Rattle.mg_defs.specs.Bits.{as_bytes}
-use Rattle.mg_defs.specs.Means.{IsCodable}
 use Rattle.mg_defs.specs.Numbers.{four}
 use Rattle.mg_defs.specs.Occurrences.{occurrences}
 use Rattle.mg_defs.specs.RunBits.{run_part_bits}
@@ -58,7 +57,7 @@ own_stays a b f g collection same stay own = record {
 -- ---- a document more
 
 pub text_none : (t : Tallying) (files : Option Files) (words : List (List ℕ)) (r : TextReading) → HasTallied t files words [] → TalliedText t files words 0 r
-text_none t files words r it = record { docs = []; tallied = it; count = refl; own = λ collection stand. refl }
+text_none t files words r it = record { docs = []; tallied = it; count = refl; own = λ collection stand. it }
 
 pub text_same : (t : Tallying) (files : Option Files) (words : List (List ℕ)) (n : ℕ) (a b : TextReading) → SameText a b → TalliedText t files words n a → TalliedText t files words n b
 text_same t files words n a b same it = record {
@@ -71,7 +70,7 @@ text_same t files words n a b same it = record {
 pub text_next : (t u : Tallying) (f g : Option Files) (words : List (List ℕ)) (n : ℕ) (r : TextReading) (doc : List ℕ) (it : TalliedText t f words n r)
     → HasTallied u g words (it.docs ++ doc ∷ [])
     → n < r.documents
-    → ((collection : List ℕ) → TextStands r f collection → doc ≡ get_or (documents collection) n [])
+    → ((collection : List ℕ) → TextStands r f collection → HasTallied u g words (take n (documents collection) ++ get_or (documents collection) n [] ∷ []))
     → g ≡ f
     → TalliedText u g words (n + 1) r
 text_next t u f g words n r doc it tallied low own stay = record {
@@ -80,29 +79,28 @@ text_next t u f g words n r doc it tallied low own stay = record {
   count = omega (arith, it.count, one_more it.docs);
   own = λ collection stand.
       let there : TextStands r f collection = subst (λ h. TextStands r h collection) stay stand in
-      ap (λ ds. ds ++ doc ∷ []) (it.own collection there) ∙ ap (λ (d : List ℕ). take n (documents collection) ++ d ∷ []) (own collection there)
-      ∙ sym (take_more (documents collection) n [] (omega (arith, low, there.documents)));
+      subst (λ ds. HasTallied u g words ds) (sym (take_more (documents collection) n [] (omega (arith, low, there.documents)))) (own collection there);
 }
   where
     one_more : (ds : List (List ℕ)) → length (ds ++ doc ∷ []) ≡ length ds + 1
     one_more ds = grind (arith, common_steps)
 
--- where the text stands for a collection, it goes on with this document
-pub goes_on : (t : Tallying) (f : Option Files) (table : TermNumbers) (n : ℕ) (r : TextReading) (doc : List ℕ) (it : TalliedText t f table.terms n r) (collection : List ℕ)
+-- so many documents of a text that stands
+pub taken_long : (n : ℕ) (r : TextReading) (f : Option Files) (collection : List ℕ) → n < r.documents → TextStands r f collection → length (take n (documents collection)) ≡ n
+taken_long n r f collection low stand = omega (arith, low, stand.documents, length-take n (documents collection))
+
+-- where the text stands for a collection, it goes on with its next document
+pub goes_on : (f : Option Files) (table : TermNumbers) (n : ℕ) (r : TextReading) (collection : List ℕ)
     → table ≡ terms_and_numbers r.code.words.pieces
     → n < r.documents
     → TextStands r f collection
-    → doc ≡ get_or (documents collection) n []
-    → GoesOn r.code table.terms collection it.docs doc
-goes_on t f table n r doc it collection made low stand is =
+    → GoesOn r.code table.terms collection (take n (documents collection)) (get_or (documents collection) n [])
+goes_on f table n r collection made low stand =
     let within : n < length (documents collection) = omega (arith, low, stand.documents) in
-    let rest : drop n (documents collection) ≡ doc ∷ drop (suc n) (documents collection) = drop-cons (documents collection) n [] within
-    ∙ ap (λ (d : List ℕ). d ∷ drop (suc n) (documents collection)) (sym is) in
     record {
       more = drop (suc n) (documents collection);
-      documents_are = sym (take-append-drop n (documents collection)) ∙ ap (λ ds. take n (documents collection) ++ ds) rest
-          ∙ ap (λ ds. ds ++ doc ∷ drop (suc n) (documents collection)) (sym (it.own collection stand));
-      codable = subst (IsCodable r.code) (sym is) (doc_codable r f collection n within stand);
+      documents_are = sym (take-append-drop n (documents collection)) ∙ ap (λ ds. take n (documents collection) ++ ds) (drop-cons (documents collection) n [] within);
+      codable = doc_codable r f collection n within stand;
       few = stand.few;
       dictionary_is = table_terms table r f collection made stand;
     }
@@ -124,19 +122,19 @@ can_add t f f1 words n r it doc read stay are = record {
 
 -- parts that the next document refutes are no collection's
 pub next_bad : {T : Type 0} (x : Result T PartErr) (t : Tallying) (f f1 : Option Files) (table : TermNumbers) (n : ℕ) (r : TextReading)
-    (it : TalliedText t f table.terms n r) (doc : List ℕ) (read : TermsRead) (collection : List ℕ)
+    (it : TalliedText t f table.terms n r) (read : TermsRead) (collection : List ℕ)
     → f1 ≡ f
     → table ≡ terms_and_numbers r.code.words.pieces
     → n < r.documents
     → TextStands r f collection
-    → doc ≡ get_or (documents collection) n []
-    → AreTermsOf table.terms doc read
+    → AreTermsOf table.terms (get_or (documents collection) n []) read
     → WhereBad (NoneGoesOn t f1 (n + 1) read) x
     → WhereBad (AreOwn t f collection → ⊥) x
-next_bad x t f f1 table n r it doc read collection stay made low stand is are =
+next_bad x t f f1 table n r it read collection stay made low stand are =
     where_bad (NoneGoesOn t f1 (n + 1) read) (AreOwn t f collection → ⊥) x
-    (λ none own. none r.code table.terms doc collection it.docs are (omega (arith, it.count)) (goes_on t f table n r doc it collection made low stand is)
-    (subst (λ h. HasTallied t h table.terms it.docs) (sym stay) it.tallied) (own_stays t t f f1 collection (parts_same t) stay own))
+    (λ none own. none r.code table.terms (get_or (documents collection) n []) collection (take n (documents collection)) are
+    (omega (arith, taken_long n r f collection low stand)) (goes_on f table n r collection made low stand)
+    (subst (λ h. HasTallied t h table.terms (take n (documents collection))) (sym stay) (it.own collection stand)) (own_stays t t f f1 collection (parts_same t) stay own))
 
 pub not_bad : {T : Type 0} (claim : Type 0) (r : Result T PartErr) → IfErr r (λ refusal. IsNotBad refusal) → WhereBad claim r
 not_bad claim (Ok value) h = tt
@@ -146,10 +144,11 @@ not_bad claim (Err (Bad bad)) h = absurd h
 
 -- ---- the end
 
--- the documents of a text that stands, once all were taken
+-- what the documents of a text that stands amount to, once all were taken
 pub all_taken : (t : Tallying) (f : Option Files) (words : List (List ℕ)) (n : ℕ) (r : TextReading) (it : TalliedText t f words n r) (collection : List ℕ) →
-    n ≡ r.documents → TextStands r f collection → it.docs ≡ documents collection
-all_taken t f words n r it collection all stand = it.own collection stand ∙ take_whole n (documents collection) (omega (arith, all, stand.documents))
+    n ≡ r.documents → TextStands r f collection → HasTallied t f words (documents collection)
+all_taken t f words n r it collection all stand =
+    subst (λ ds. HasTallied t f words ds) (take_whole n (documents collection) (omega (arith, all, stand.documents))) (it.own collection stand)
   where
     take_whole : (k : ℕ) (ds : List (List ℕ)) → length ds ≤ k → take k ds ≡ ds
     take_whole k ds h = grind (arith, common_steps)
@@ -219,13 +218,14 @@ tally_done (Err refusal) old mid new f f1 table n r it collection stay parts all
 tally_done (Ok value) old mid new f f1 table n r it collection stay parts all made stand docs occurrences_are done =
     let words : List (List ℕ) = table.terms in
     let words_are : words ≡ dictionary collection = table_terms table r f collection made stand in
-    let seen : it.docs ≡ documents collection = all_taken mid f1 words n r it collection all (subst (λ (h : Option Files). TextStands r h collection) (sym stay) stand) in
+    let all_docs : List (List ℕ) = documents collection in
+    let has : HasTallied mid f1 words (documents collection) = all_taken mid f1 words n r it collection all (subst (λ (h : Option Files). TextStands r h collection) (sym stay) stand) in
     record {
-      own = own_stays mid old f1 f collection (parts_back old mid parts) (sym stay) (have_own mid f1 words it.docs collection words_are seen (done words it.docs it.tallied));
-      docs = docs ∙ it.tallied.counts ∙ ap (λ (ds : List (List ℕ)). map (docs_among ds) words) seen ∙ ap (map (docs_among (documents collection))) words_are;
+      own = own_stays mid old f1 f collection (parts_back old mid parts) (sym stay) (have_own mid f1 words all_docs collection words_are refl (done words all_docs has));
+      docs = docs ∙ has.counts ∙ ap (map (docs_among (documents collection))) words_are;
       occurrences =
-          occurrences_are ∙ it.tallied.count
-          ∙ ap (λ (o : List (ℕ × ℕ)). length o) (ap (λ (ws : List (List ℕ)). occurrences_from ws 1 it.docs) words_are ∙ ap (occurrences_from (dictionary collection) 1) seen ∙ occ_is collection);
+          occurrences_are ∙ has.count
+          ∙ ap (λ (o : List (ℕ × ℕ)). length o) (ap (λ (ws : List (List ℕ)). occurrences_from ws 1 (documents collection)) words_are ∙ occ_is collection);
     }
 
 pub tally_other : (result : Result (Unit {0}) PartErr) (old mid : Tallying) (f f1 : Option Files) (table : TermNumbers) (n : ℕ) (r : TextReading)
@@ -240,6 +240,6 @@ pub tally_other : (result : Result (Unit {0}) PartErr) (old mid : Tallying) (f f
 tally_other result old mid f f1 table n r it collection stay parts all made stand =
     let words : List (List ℕ) = table.terms in
     let words_are : words ≡ dictionary collection = table_terms table r f collection made stand in
-    let seen : it.docs ≡ documents collection = all_taken mid f1 words n r it collection all (subst (λ (h : Option Files). TextStands r h collection) (sym stay) stand) in
+    let has : HasTallied mid f1 words (documents collection) = all_taken mid f1 words n r it collection all (subst (λ (h : Option Files). TextStands r h collection) (sym stay) stand) in
     where_bad (NotTallied mid f1) (AreOwn old f collection → ⊥) result
-    (λ none own. none words it.docs it.tallied (own_have mid f1 words it.docs collection words_are seen (own_stays old mid f f1 collection parts stay own)))
+    (λ none own. none words (documents collection) has (own_have mid f1 words (documents collection) collection words_are refl (own_stays old mid f f1 collection parts stay own)))

@@ -12,13 +12,14 @@ use Rattle.mg_check_text.specs.Reads.{ReadsText}
 use Rattle.mg_check_index.specs.Counting.{AreOwn, HasTallied, SameParts, Tallying, TermsStand, docs_of_terms}
 use Rattle.mg_check.specs.declared.counting.Counts.{Counts}
 
--- So many documents of the text were taken; where it stands for a collection, they are all of the collection's.
+-- So many documents were taken. Where the text stands for a collection, what they amount to is that of its first ones.
 pub record TalliedText (t : Tallying) (files : Option Files) (words : List (List ℕ)) (documents_read : ℕ)
     (r : TextReading) : Type 0 where
   pub docs : List (List ℕ)
   pub tallied : HasTallied t files words docs
   pub count : length docs ≡ documents_read
-  pub own : (collection : List ℕ) → TextStands r files collection → docs ≡ take documents_read (documents collection)
+  pub own : (collection : List ℕ) → TextStands r files collection →
+      HasTallied t files words (take documents_read (documents collection))
 
 -- Documents of a text are tallied, told of the moments before and after: so many of them were taken at the end.
 pub record DocumentsTallied {T : Type 0} (r now : TextReading) (words : List (List ℕ)) (documents_read : ℕ)

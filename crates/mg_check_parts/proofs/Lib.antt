@@ -2,6 +2,7 @@ mod LookLaws
 mod UnreadLaws
 mod UseLaws
 mod CodeLaws
+mod WordLaws
 mod TermNumbers
 mod Counts
 mod WeightSums

@@ -9,8 +9,10 @@ mod doc_terms;
 mod expected;
 mod recent;
 mod uses;
+mod words;
 
 pub use coded_doc::{CodedDoc, code_doc};
 pub use doc_terms::{DocTerms, weight_of};
 pub use expected::{expect_more, expect_whole, wanted};
 pub use uses::{Uses, expect_used};
+pub use words::expect_words;

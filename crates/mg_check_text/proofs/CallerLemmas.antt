@@ -75,11 +75,6 @@ stands_on r now files files_now collection same stay stands = text_stays r now f
 pub doc_of_reader : (collection : List ℕ) (before : ℕ) (held bytes : List ℕ) → held ≡ document collection (before + 1) → bytes ≡ held → bytes ≡ get_or (documents collection) before []
 doc_of_reader collection before held bytes is same = same ∙ is ∙ document_behind collection before
 
-pub known_is : (r now : TextReading) (files : Option Files) (code : TextCode) (doc : List ℕ) (collection : List ℕ) (before : ℕ) → SameText r now →
-    code ≡ now.code → doc ≡ get_or (documents collection) before [] → before < r.documents → TextStands r files collection → IsCodable code doc
-known_is r now files code doc collection before same code_is doc_is lt stand =
-    subst (λ x. IsCodable x doc) (sym (code_is ∙ same.code)) (subst (IsCodable r.code) (sym doc_is) (doc_codable r files collection before (omega (arith, lt, stand.documents)) stand))
-
 -- ---- the collection that is meant
 
 pub own-docs : (parts : Parts) (h : defs.Head) (code : TextCode) (docs : List (List ℕ)) → IsMeant parts h code docs → docs ≡ documents (joined docs h.open_end)

@@ -22,6 +22,7 @@ use Rattle.mg_text.specs.Reading.{SameText, TextFits, TextReading, TextStands}
 use Rattle.mg_check_parts.specs.Looks.{LooksAtSet}
 use Rattle.mg_check_parts.specs.Refusals.{OnBad}
 use Rattle.mg_check_parts.specs.TermsRead.{AreTermsOf, TermsRead}
+use Rattle.mg_check_parts.specs.Words.{AreWords}
 
 -- ---- calls that read the text
 
@@ -112,12 +113,14 @@ pub record HasTerms (r : TextReading) (files : Option Files) (table : TermNumber
   pub table_is : table ≡ terms_and_numbers r.code.words.pieces
   -- no table has more terms
   pub few : length table.terms ≤ 2 ^ 22
+  -- its words are words
+  pub words : AreWords r.code.words.pieces
 
 -- ---- the terms of a document
 
--- The terms that were read are those of a document. Where the reader's text is that of a collection, it is the one of this number, from 1.
+-- The terms that were read are those of some document. Where the reader's text is that of a collection, they are those of its document of this number, from 1.
 pub record HasReadTerms (r : TextReading) (files : Option Files) (words : List (List ℕ)) (number : ℕ) (t : TermsRead) :
     Type 0 where
   pub doc : List ℕ
   pub terms : AreTermsOf words doc t
-  pub own : (collection : List ℕ) → TextStands r files collection → doc ≡ document collection number
+  pub own : (collection : List ℕ) → TextStands r files collection → AreTermsOf words (document collection number) t

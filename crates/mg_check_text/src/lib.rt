@@ -1,7 +1,8 @@
 //! What is read of the text of a set of which nothing is known.
 //!
 //! The text is decoded, and each document is coded anew and compared with its bytes. So at the end the parts that are
-//! read mean one collection, or the set stands for none. Documents are read again for their terms.
+//! read mean one collection, or the set stands for none. Documents are read again for the symbols of their words, which
+//! tell their terms.
 #![tactic(auto)]
 
 mod held;

@@ -1,5 +1,8 @@
 //! The terms of documents that are read one after the other.
-ghost use Rattle.std.specs.Prelude.{◌≡◌, ◌<◌, ◌≤◌, ◌-◌, ◌^◌, IfErr, OnOk};
+//!
+//! The words of a document are listed by their symbols, of which the table tells the terms. So no byte of a document is
+//! put together here, and no word is looked up. That each word of the model is a word was seen before.
+ghost use Rattle.std.specs.Prelude.{◌≡◌, ◌≤◌, IfErr, OnOk};
 ghost use Rattle.mg_dev.specs.Bads.{IsNotBad};
 ghost use Rattle.mg_dev.specs.Moments.{Between};
 ghost use Rattle.mg_text.specs.Reading.{WhereTextStands};
@@ -9,30 +12,26 @@ use mg_check_parts::DocTerms;
 use mg_defs::COLLECTION_BYTES;
 use mg_dev::{Bad, Part, PartErr, Store};
 use mg_model::TermTable;
-use mg_text::{HeldDocument, TextReader};
+use mg_text::{TextReader, WordList};
 use std::alloc::{AllocError, Global};
 use std::marker::Model;
 
-/// The document that was read last, and its terms. Its memory is used again for the next one.
+/// The words of the document that was read last, and its terms. Its memory is used again for the next one.
 #[derive(Drop)]
 pub struct TermReader {
-    held: HeldDocument,
+    words: WordList,
     terms: DocTerms,
 }
 
 impl Model for TermReader {
-    ghost use Rattle.std.specs.Prelude.{◌≡◌, ◌-◌, ◌^◌};
     ghost use Rattle.mg_check_parts.specs.TermsRead.{TermsRead};
 
     ghost Value = { TermsRead };
 
     ghost view = { λ t. t.terms };
-
-    // No document is longer than a collection may be.
-    ghost invariant = { λ t. t.held.most ≡ 2 ^ 32 - 1 };
 }
 
-/// The document of this number is not the one that was read before, or has a word that the model has not.
+/// The document of this number is not the one that was read before, or has more terms than any has.
 pub fn damaged_document(number: u32) -> Bad {
     Bad {
         part: Part::Text,
@@ -46,18 +45,14 @@ pub fn damaged_document(number: u32) -> Bad {
 impl TermReader {
     /// No document was read.
     pub fn new(alloc: Global) -> Result<Self, AllocError> {
-        let terms = match DocTerms::new(alloc) {
-            Ok(terms) => terms,
-            Err(AllocError) => return Err(AllocError),
-        };
         Ok(TermReader {
-            held: HeldDocument::new(alloc, COLLECTION_BYTES),
-            terms,
+            words: WordList::new(alloc),
+            terms: DocTerms::new(alloc),
         })
     }
 
-    /// Decodes a document, from 1 to their number, and reads its terms. Text that tells of a document longer than any
-    /// collection, or of a word that the model has not, is refused.
+    /// Lists the words of a document, from 1 to their number, and takes its terms. Text that tells of a document longer than
+    /// any collection is refused.
     pub fn read<S: Store>(
         &mut self,
         store: &mut S,
@@ -75,11 +70,12 @@ impl TermReader {
         ensures text { Between S.files S.reads S.faults store.old store.new
             (ReadsText reader.old reader.new result) }
     {
-        match self.held.read(store, reader, number) {
+        match reader.words(store, number, COLLECTION_BYTES, &mut self.words) {
             Ok(()) => {}
             Err(refusal) => return Err(refusal),
         }
-        match self.terms.read(reader.model(), table, self.held.bytes()) {
+        let symbols = self.words.symbols();
+        match self.terms.take(reader.model(), table, symbols) {
             Ok(true) => {}
             Ok(false) => return Err(PartErr::Bad(damaged_document(number))),
             Err(AllocError) => return Err(PartErr::Memory),

@@ -3,9 +3,10 @@ use Rattle.mg_check_parts.specs.TermsRead.{TermsRead}
 use Rattle.mg_dev.specs.declared.part_err.PartErr.TheVariants.{Bad}
 use Rattle.mg_defs.specs.Split.{documents}
 use Rattle.mg_check_index.specs.Packing.{beside_in}
+use Rattle.mg_defs.proofs.TermLaws.{document_behind}
 use Rattle.mg_check_index.specs.Listing.{HasRoomFor, HoldsLists, lists_upto, with_document}
 use Rattle.mg_check.proofs.DocumentLaws.{counted_is, holds_upto, range_in, room_upto}
-use Rattle.mg_check_text.proofs.CallerLemmas.{doc_of_reader, text_bad, text_ok}
+use Rattle.mg_check_text.proofs.CallerLemmas.{text_bad, text_ok}
 use Rattle.mg_check.proofs.postings.read_document.Goals as goal
 
 pub returns-in-Err-clause-never_bad : goal.returns-in-Err-clause-never_bad
@@ -16,9 +17,8 @@ returns-in-Err-clause-filled g c = record { laid = c.requires.fill.laid; rooms =
 
 pub returns-clause-never_bad : goal.returns-clause-never_bad
 returns-clause-never_bad g c = λ collection stand holds room.
-    let read = c.in-Ok.ensures.terms in
-    let doc = doc_of_reader collection c.args.before read.doc read.doc (read.own collection stand) refl in
-    let counted = counted_is _ c.args.table.now _ collection c.args.before _ _ _ doc c.requires.text.table_is stand read.terms.counted
+    let own = c.in-Ok.ensures.terms.own collection stand in
+    let counted = counted_is _ c.args.table.now _ collection c.args.before _ _ _ (document_behind collection c.args.before) c.requires.text.table_is stand own.counted
     (c.counted.ensures ∙ ap (λ (t : TermsRead). t.counted) c.terms.ensures) in
     let lt : c.args.before < length (documents collection) = omega (arith, c.requires.within, stand.documents) in
     let range = range_in c.args.lists.now c.args.table.now _ _ collection c.requires.text.table_is stand c.requires.fill.range in
@@ -36,9 +36,8 @@ returns-clause-filled g c = record {
 
 pub returns-then-add_document-clause-held : goal.returns-then-add_document-clause-held
 returns-then-add_document-clause-held g c = λ collection stand holds room.
-    let read = c.in-Ok.ensures.terms in
-    let doc = doc_of_reader collection c.args.before read.doc read.doc (read.own collection stand) refl in
-    let counted = counted_is _ c.args.table.now _ collection c.args.before _ _ _ doc c.requires.text.table_is stand read.terms.counted
+    let own = c.in-Ok.ensures.terms.own collection stand in
+    let counted = counted_is _ c.args.table.now _ collection c.args.before _ _ _ (document_behind collection c.args.before) c.requires.text.table_is stand own.counted
     (c.counted.ensures ∙ ap (λ (t : TermsRead). t.counted) c.terms.ensures) in
     let lt : c.args.before < length (documents collection) = omega (arith, c.requires.within, stand.documents) in
     let range = range_in c.args.lists.now c.args.table.now _ _ collection c.requires.text.table_is stand c.requires.fill.range in
