@@ -232,6 +232,47 @@ fn a_codeword_cut_at_any_bit_ends(rt: HostRuntime) {
     assert!(rt; reads_all_last(rt.alloc(), &[1], &LAST_OF_ONE));
 }
 
+/// Pairs of symbols of two codes as bytes: how many bits, and the bytes with zero-bits behind them.
+struct Paired {
+    pairs: [(u32, u32); 4],
+    bits: u64,
+    bytes: &'static [u8],
+}
+
+/// 001 00000000000, 11 1, 000 00000000001, 10 001
+static FOUR_PAIRS: Paired = Paired {
+    pairs: [(3, 10), (4, 0), (0, 11), (2, 2)],
+    bits: 36,
+    bytes: b"\x20\x03\x80\x03\x10\x00\x00\x00\x00\x00\x00",
+};
+
+/// Whether the pairs are read one behind the other, and end behind their bits.
+fn reads_pairs(first: &Canon, second: &Canon, paired: &Paired) -> bool {
+    if first.count() == 0 || second.count() == 0 {
+        return false;
+    }
+    let mut reader = BitReader::new(SliceFeed::new(paired.bytes), 0);
+    for pair in &paired.pairs {
+        if reader.place() > 1 << 40 || get_pair_held(first, second, &mut reader) != Some(*pair) {
+            return false;
+        }
+    }
+    reader.place() == paired.bits
+}
+
+/// The same by the codes of these lengths.
+fn are_paired(alloc: Global, first: &[u8], second: &[u8], paired: &Paired) -> bool {
+    match (code_of(alloc, first), code_of(alloc, second)) {
+        (Some(first), Some(second)) => reads_pairs(&first, &second, paired),
+        _ => false,
+    }
+}
+
+#[test]
+fn codewords_of_two_codes_are_read_in_turn(rt: HostRuntime) {
+    assert!(rt; are_paired(rt.alloc(), &FIVE, &TWELVE, &FOUR_PAIRS));
+}
+
 const HALF: u128 = 1 << 47;
 
 /// Lengths that have no code, and why.
