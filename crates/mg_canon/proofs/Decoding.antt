@@ -12,7 +12,7 @@ use Rattle.mg_defs.specs.Answers.{Below, CutShort, IsNone, IsPrefixFree}
 use Rattle.mg_defs.proofs.BitLaws.{length_digits}
 use Rattle.mg_defs.proofs.CanonSteps.{first-step, first-zero, first-last, nth}
 use Rattle.mg_defs.proofs.CanonLaws.{digits-low, good_within, good_full, codeword-many, codewords_free, goes_on_to}
-use Rattle.mg_canon.specs.Tables.{count_below, place_of, AreNumbered, AreTables, AreBeginnings, IsBeginning, none_found as no_codeword}
+use Rattle.mg_canon.specs.Tables.{count_below, place_of, AreNumbered, AreTables, AreBeginnings, IsBeginning, found_in}
 use Rattle.mg_canon.specs.declared.found.Found.{Found}
 use Rattle.mg_canon.proofs.Refused.{good_from}
 use Rattle.mg_canon.proofs.Placing.{room_for}
@@ -334,17 +334,26 @@ pub start_value : (next : ℕ) → next < 2 ^ 57 → 0 ≡ next / 2 ^ (57 - 0)
 start_value next small = omega arith
 
 -- an entry that was read tells what the bits of its place begin with
-pub entry_is : (lengths : List ℕ) (width : ℕ) (entries : List Found) (i : ℕ) (found : Found) → AreBeginnings lengths width entries → i < length entries → found ≡ get_or entries i found →
-    IsBeginning lengths width i found
-entry_is lengths width entries i found told h e = subst (λ f. IsBeginning lengths width i f) (sym (e ∙ get_or_default entries i found no_codeword h)) (told i h)
+pub entry_is : (lengths : List ℕ) (width : ℕ) (entries : List ℕ) (i entry : ℕ) → AreBeginnings lengths width entries → i < length entries → entry ≡ get_or entries i entry →
+    IsBeginning lengths width i (found_in entry)
+entry_is lengths width entries i entry told h e = subst (λ n. IsBeginning lengths width i (found_in n)) (sym (e ∙ get_or_default entries i entry 0 h)) (told i h)
 
 -- an entry more
-pub entry_more : (lengths : List ℕ) (width : ℕ) (entries : List Found) (found : Found) → AreBeginnings lengths width entries → IsBeginning lengths width (length entries) found →
-    AreBeginnings lengths width (entries ++ found ∷ [])
-entry_more lengths width entries found told begins = λ i h. ⊎_elim
-    (λ lt. subst (λ f. IsBeginning lengths width i f) (sym (get_or_append_left entries (found ∷ []) no_codeword i lt)) (told i lt))
+pub entry_more : (lengths : List ℕ) (width : ℕ) (entries : List ℕ) (entry : ℕ) → AreBeginnings lengths width entries → IsBeginning lengths width (length entries) (found_in entry) →
+    AreBeginnings lengths width (entries ++ entry ∷ [])
+entry_more lengths width entries entry told begins = λ i h. ⊎_elim
+    (λ lt. subst (λ n. IsBeginning lengths width i (found_in n)) (sym (get_or_append_left entries (entry ∷ []) 0 i lt)) (told i lt))
     (λ le.
-    let e : i ≡ length entries = omega (arith, length_push entries found, h) in
-    subst (λ k. IsBeginning lengths width k (get_or (entries ++ found ∷ []) k no_codeword)) (sym e)
-    (subst (λ f. IsBeginning lengths width (length entries) f) (sym (get_or_push entries found no_codeword (length entries) refl)) begins))
+    let e : i ≡ length entries = omega (arith, length_push entries entry, h) in
+    subst (λ k. IsBeginning lengths width k (found_in (get_or (entries ++ entry ∷ []) k 0))) (sym e)
+    (subst (λ n. IsBeginning lengths width (length entries) (found_in n)) (sym (get_or_push entries entry 0 (length entries) refl)) begins))
     (cases_lt i (length entries))
+
+-- what an entry tells of a codeword is so of the codeword
+pub entry_tells : (lengths : List ℕ) (width front entry : ℕ) (found : Found) → (found_in entry).symbol ≡ found.symbol → (found_in entry).size ≡ found.size →
+    IsBeginning lengths width front found → IsBeginning lengths width front (found_in entry)
+entry_tells lengths width front entry found symbol size begins = record {
+  short = subst (λ n. n ≤ width) (sym size) begins.short;
+  symbol = λ some. subst (λ s. s < length lengths) (sym symbol) (begins.symbol (subst (λ n. 0 < n) size some));
+  code = λ some. ap (λ s. codeword lengths s) symbol ∙ begins.code (subst (λ n. 0 < n) size some) ∙ ap (λ n. digits n (front / 2 ^ (width - n))) (sym size);
+}

@@ -1,5 +1,5 @@
 -- Two codewords, one behind the other, among the bits of the page that is held.
-use Rattle.std.proofs.Common.{◌≡◌, ◌+◌, ◌-◌, ◌*◌, ◌/◌, ◌%◌, ◌^◌, ◌<◌, ◌≤◌, ℕ, List, [], ◌++◌, length, Option, Some, None, arith, refl, sym, ap, ◌∙◌, subst}
+use Rattle.std.proofs.Common.{◌≡◌, ◌+◌, ◌-◌, ◌*◌, ◌/◌, ◌%◌, ◌^◌, ◌<◌, ◌≤◌, ℕ, List, ◌++◌, length, Option, Some, None, arith, refl, sym, ap, ◌∙◌, subst}
 use Rattle.std.proofs.lemmas.Nat.{field_of, shl-shr, shr-shr}
 use Rattle.mg_dev.specs.Files.{Files}
 use Rattle.mg_defs.specs.Answers.{Below}
@@ -87,4 +87,6 @@ module _ {Fed : Type 0} {agrees : Fed → Option Files → Type 0} {feeding : Fe
 pub too_long : {first second : List ℕ} {next behind : ℕ} {one two : Found} → FirstFound first next (Some one) → FirstFound second behind (Some two) → 57 < one.size + two.size →
     AreShort first second → ⊥
 too_long {next = next} {behind = behind} {one = one} {two = two} a b long short =
-    absurd (omega (arith, long, short.short one.symbol two.symbol a.symbol b.symbol, ap length a.code, length_digits one.size (next / 2 ^ (57 - one.size)), ap length b.code, length_digits two.size (behind / 2 ^ (57 - two.size))))
+    let first_size = ap length a.code ∙ length_digits one.size (next / 2 ^ (57 - one.size)) in
+    let second_size = ap length b.code ∙ length_digits two.size (behind / 2 ^ (57 - two.size)) in
+    absurd (omega (arith, long, short.short one.symbol two.symbol a.symbol b.symbol, first_size, second_size))

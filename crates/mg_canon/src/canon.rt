@@ -1,5 +1,5 @@
 //! A canonical code: the codewords of given lengths, both ways.
-ghost use Rattle.std.specs.Prelude.{◌≡◌, ℕ, ◌+◌, ◌-◌, ◌*◌, ◌/◌, ◌^◌, ◌<◌, ◌≤◌, ◌↔◌, ◌⊎◌, Option, length, slice_index, Ok, Err, IfOk, IfSome, IsSome, OnOk, MatchOption};
+ghost use Rattle.std.specs.Prelude.{◌≡◌, ℕ, ◌+◌, ◌-◌, ◌*◌, ◌/◌, ◌^◌, ◌<◌, ◌≤◌, ◌↔◌, ◌⊎◌, Option, Some, length, slice_index, Ok, Err, IfOk, IfSome, IsSome, OnOk, MatchOption};
 ghost use Rattle.std.specs.Bool.{OnTrue, OnFalse};
 ghost use Rattle.mg_defs.specs.Answers.{Below};
 ghost use Rattle.mg_defs.specs.Canon.{AreGood, codeword};
@@ -11,13 +11,13 @@ ghost use Rattle.mg_bits.specs.Feed.{Device, HasBits, ToldBits};
 ghost use Rattle.mg_bits.specs.NextBits.{ReadNext};
 ghost use Rattle.mg_bits.specs.Writer.{WroteTo};
 ghost use Rattle.mg_canon.specs.Symbols.{FirstFound, ReadsSymbol};
-ghost use Rattle.mg_canon.specs.Tables.{IsBeginning};
+ghost use Rattle.mg_canon.specs.Tables.{IsBeginning, found_in};
 ghost use Rattle.mg_canon.specs.Refusals.{IsFirstBad, IsUnfilled, HaveLengths};
 
 use crate::CanonErr;
 use crate::bits::number_of;
 use crate::check::check;
-use crate::found::Found;
+use crate::found::{Found, entry_of, read_entry};
 use crate::tables::{ByLength, count_lengths, first_codewords, first_places, number};
 use mg_bits::{BitReader, BitWriter, CodeErr, Feed, refused};
 use mg_dev::{PutErr, Store};
@@ -30,8 +30,8 @@ use std::marker::Model;
 /// length, of the first number and of the place of its symbol, and one of the symbols sorted by
 /// length turn bits into a symbol; a table of the codewords' numbers turns a symbol into bits. That
 /// is 9 bytes a symbol. A codeword of at most twelve bits is found by one look at a table of what
-/// each twelve bits begin with, which takes 32 KiB; a code of fewer than 4,096 symbols looks at ten
-/// bits, in 8 KiB, so that it is soon made.
+/// each twelve bits begin with, which takes 16 KiB. A code looks at ten bits, in 4 KiB, where it has
+/// fewer than 4,096 symbols, so that it is soon made, or where few codewords are longer.
 #[derive(Drop)]
 pub struct Canon {
     lengths: Vec<u8>,
@@ -41,7 +41,8 @@ pub struct Canon {
     symbols: Vec<u32>,
     // How many bits an entry of `beginnings` is found by.
     width: u32,
-    beginnings: Vec<Found>,
+    // The codewords that each so many bits begin with.
+    beginnings: Vec<u32>,
 }
 
 impl Model for Canon {
@@ -175,31 +176,43 @@ impl Canon {
 
     /// The symbol whose codeword 57 bits begin with: none is longer than 48. There is one but for a
     /// single symbol and a one-bit.
-    #[inline]
+    #[inline(always)]
     pub(crate) fn first_of(&self, next: u64) -> Option<Found>
         requires next { next < 2 ^ 57 }
         requires some { 0 < length self.now }
         ensures { FirstFound self.now next result }
     {
-        let front = (next >> (57 - self.width)) as usize;
-        if front < self.beginnings.len() {
-            let found = self.beginnings[front];
-            if found.size > 0 {
-                return Some(found);
-            }
+        let found = self.first_by_table(next);
+        if found.size > 0 {
+            return Some(found);
         }
-        self.first_by_lengths(next)
+        self.first_by_lengths(next, found.symbol)
     }
 
-    /// The same by the lengths of codewords, from the shortest one on.
-    #[inline(never)]
-    fn first_by_lengths(&self, next: u64) -> Option<Found>
+    /// The same by the table. Where it answers no bits, the symbol tells behind how many bits a codeword
+    /// is to be sought.
+    #[inline(always)]
+    fn first_by_table(&self, next: u64) -> Found
+        requires next { next < 2 ^ 57 }
+        ensures { 0 < result.size → FirstFound self.now next (Some result) }
+    {
+        let front = (next >> (57 - self.width)) as usize;
+        if front >= self.beginnings.len() {
+            return Found { symbol: 0, size: 0 };
+        }
+        read_entry(self.beginnings[front])
+    }
+
+    /// The same by the lengths of codewords, from the shortest one on; or behind so many bits, where
+    /// all codewords that these begin are longer.
+    #[inline(always)]
+    fn first_by_lengths(&self, next: u64, behind: u32) -> Option<Found>
         requires next { next < 2 ^ 57 }
         requires some { 0 < length self.now }
         ensures { FirstFound self.now next result }
     {
         let firsts = &self.firsts;
-        let from = start_of(firsts, next, self.hint(next));
+        let from = start_of(firsts, next, behind);
         let mut value = from.value;
         let mut read = from.read;
         while needs_bit(firsts, read, value) {
@@ -217,27 +230,12 @@ impl Canon {
         })
     }
 
-    /// Behind how many bits the way by lengths may begin, as the table of beginnings tells. Nothing is
-    /// promised of it: the way begins there only where all codewords that these bits begin are longer.
-    #[inline]
-    fn hint(&self, next: u64) -> usize
-        ensures { result ≤ 32 }
-    {
-        let front = (next >> (57 - self.width)) as usize;
-        if front < self.beginnings.len() {
-            let found = self.beginnings[front];
-            if found.size == 0 && found.symbol <= 32 {
-                return found.symbol as usize;
-            }
-        }
-        10
-    }
-
     /// The most bits, up to 32, than which all codewords that these bits begin are longer, and at least
     /// as many as they are.
     fn passed(&self, width: u32, front: u64) -> u32
         requires width { width ≤ 12 }
         requires front { front < 2 ^ width }
+        ensures { result ≤ 32 }
     {
         for read in width + 1..33 {
             let last = ((front + 1) << (read - width)) - 1;
@@ -248,19 +246,18 @@ impl Canon {
         32
     }
 
-    /// What so many bits begin with.
-    fn beginning(&self, width: u32, front: u64) -> Found
+    /// The entry of what so many bits begin with. Where no codeword is among them, its symbol tells
+    /// behind how many bits one is to be sought.
+    fn beginning(&self, width: u32, front: u64) -> u32
         requires width { width ≤ 12 }
         requires front { front < 2 ^ width }
         requires some { 0 < length self.now }
-        ensures { IsBeginning self.now width front result }
+        requires few { length self.now ≤ 2 ^ 22 }
+        ensures { IsBeginning self.now width front (found_in result) }
     {
-        match self.first_by_lengths(front << (57 - width)) {
-            Some(found) if found.size <= width => found,
-            _ => Found {
-                symbol: self.passed(width, front),
-                size: 0,
-            },
+        match self.first_by_lengths(front << (57 - width), width) {
+            Some(found) if found.size <= width => entry_of(found.symbol, found.size),
+            _ => entry_of(self.passed(width, front), 0),
         }
     }
 
@@ -326,6 +323,7 @@ impl Canon {
 
 /// Whether another bit of a codeword is to be read: none was yet, or the bits are a number below
 /// the first codeword of their length.
+#[inline]
 fn needs_bit(firsts: &ByLength, read: usize, value: u32) -> bool
     requires { read ≤ 48 }
     ensures more { OnTrue result ((read ≡ 0) ⊎ (value < slice_index firsts.now read)) }
@@ -345,31 +343,39 @@ struct Walked {
     value: u32,
 }
 
-/// Where the way by lengths begins: behind so many bits if all codewords that these begin are longer.
-fn start_of(firsts: &ByLength, next: u64, at: usize) -> Walked
+/// Where the way by lengths begins: behind so many bits, where all codewords that these begin are
+/// longer and they are no more than 32; else behind none.
+#[inline]
+fn start_of(firsts: &ByLength, next: u64, behind: u32) -> Walked
     requires next { next < 2 ^ 57 }
-    requires at { at ≤ 32 }
     ensures short { result.read ≤ 48 }
     ensures read { (result.read ≡ 0) ⊎ (1 ≤ result.read) }
     ensures value { result.value ≡ next / 2 ^ (57 - result.read) }
     ensures longer { 1 ≤ result.read → result.value < slice_index firsts.now result.read }
     ensures ten { 1 ≤ result.read → 0 < slice_index firsts.now 10 }
 {
-    let value = next >> (57 - at);
-    if at > 0 && firsts[10] > 0 && value < u64::from(firsts[at]) {
-        return Walked {
-            read: at,
-            value: value as u32,
-        };
+    if behind > 0 && behind <= 32 && firsts[10] > 0 {
+        let value = next >> (57 - behind);
+        if value < u64::from(firsts[behind as usize]) {
+            return Walked {
+                read: behind as usize,
+                value: value as u32,
+            };
+        }
     }
     Walked { read: 0, value: 0 }
 }
 
-/// By how many first bits a code of so many symbols is looked up.
-fn width_of(symbols: usize) -> u32
+/// By how many first bits a code of so many symbols is looked up. Ten are enough where no more than an
+/// eighth of all strings of bits begin with a longer codeword.
+fn width_of(symbols: usize, firsts: &ByLength) -> u32
     ensures { result ≤ 12 }
 {
-    if symbols < 4096 { 10 } else { 12 }
+    if symbols < 4096 || firsts[10] <= 128 {
+        10
+    } else {
+        12
+    }
 }
 
 /// The code of good lengths.
@@ -391,7 +397,7 @@ fn made(alloc: Global, lengths: &[u8]) -> Result<Canon, AllocError>
         firsts,
         offsets,
         symbols: numbered.symbols,
-        width: width_of(symbols),
+        width: width_of(symbols, &firsts),
         beginnings: Vec::new(alloc),
     };
     code.with_beginnings(alloc)

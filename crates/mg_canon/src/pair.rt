@@ -13,7 +13,7 @@ use mg_bits::{BitReader, Feed};
 /// bits. It answers wherever the page that is held has the eight bytes from the place's byte on,
 /// unless a code has a single symbol, or a codeword of each have more than 57 bits together. At
 /// `None` the place is the one before. Each code has a symbol.
-#[inline]
+#[inline(always)]
 pub fn get_pair_held<F: Feed>(
     first: &Canon,
     second: &Canon,
@@ -46,7 +46,7 @@ pub fn get_pair_held<F: Feed>(
 
 /// The symbol whose codeword 57 bits begin with, and that of the other code behind it, if both
 /// codewords are among these bits.
-#[inline]
+#[inline(always)]
 fn first_two(first: &Canon, second: &Canon, next: u64) -> Option<(Found, Found)>
     requires next { next < 2 ^ 57 }
     requires first { 0 < length first.now }

@@ -145,7 +145,7 @@ impl ShowBuffer {
 
     /// Holds the pieces of two entries, one behind the other. False, and nothing changed, where there
     /// is no room for thirty bytes.
-    #[inline]
+    #[inline(always)]
     pub(crate) fn hold_pair(&mut self, first: &[u8; 16], second: &[u8; 16]) -> bool
         requires first { slice_index first.now 0 ≤ 15 }
         requires second { slice_index second.now 0 ≤ 15 }
@@ -163,7 +163,7 @@ impl ShowBuffer {
     }
 
     /// Holds the piece of an entry, where there is room for fifteen bytes.
-    #[inline]
+    #[inline(always)]
     fn keep_short(&mut self, entry: &[u8; 16])
         requires room { length self.old.held + 15 ≤ 16384 }
         requires left { 15 ≤ self.old.left }

@@ -70,7 +70,7 @@ pub fn get_symbol<F: Feed>(
 /// The symbols of a word and of its other, whose codewords stand at the place, where the reader holds
 /// the bits of both: what `get_symbol` of the one code and then of the other answer at `Ok`, with no
 /// device asked. At `None` the place is the one before.
-#[inline]
+#[inline(always)]
 pub fn held_symbols<F: Feed>(
     words: &Canon,
     others: &Canon,

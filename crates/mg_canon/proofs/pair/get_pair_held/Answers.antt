@@ -1,4 +1,4 @@
-use Rattle.std.proofs.Common.{arith, ◌≡◌, ◌+◌}
+use Rattle.std.proofs.Common.{arith}
 use Rattle.mg_canon.proofs.Pairs.{held_two}
 use Rattle.mg_canon.proofs.pair.get_pair_held.Goals as goal
 
