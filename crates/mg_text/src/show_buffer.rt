@@ -171,7 +171,10 @@ impl ShowBuffer {
         ensures { Keeps self.old self.new (short_piece entry.now) }
     {
         let used = self.used;
-        self.bytes[used..used + MOST].copy_from_slice(&entry[1..]);
+        // The bytes are taken first and written then, so that no test is made of whether they overlap.
+        let mut piece = [0; MOST];
+        piece.copy_from_slice(&entry[1..]);
+        self.bytes[used..used + MOST].copy_from_slice(&piece);
         self.used = used + usize::from(entry[0]);
     }
 

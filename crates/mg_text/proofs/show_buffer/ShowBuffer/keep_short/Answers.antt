@@ -19,11 +19,13 @@ returns c =
     let used = c.self.inside.used in
     let bytes : List ℕ = c.deref_mut.result.now in
     let entry : List ℕ = c.args.entry.now in
-    let copied : List ℕ = c.copy_from_slice.new.self in
+    let copied : List ℕ = c.copy_from_slice-2.new.self in
     let rest : List ℕ = drop (c.self.inside.used + 15 - c.self.inside.used) (drop c.self.inside.used c.deref_mut.result.now) in
     let part : c.copy_from_slice.new.self ≡ take 15 (drop 1 c.args.entry.now) = c.copy_from_slice.ensures.after in
-    let copy : c.copy_from_slice.new.self ≡ drop 1 c.args.entry.now = part ∙ take_all 15 (drop 1 c.args.entry.now) (omega (arith, length-drop 1 c.args.entry.now, c.told-entry)) in
-    let fifteen : length c.copy_from_slice.new.self ≡ 15 = omega (arith, ap length copy, length-drop 1 c.args.entry.now, c.told-entry) in
+    let piece : c.copy_from_slice.new.self ≡ drop 1 c.args.entry.now = part ∙ take_all 15 (drop 1 c.args.entry.now) (omega (arith, length-drop 1 c.args.entry.now, c.told-entry)) in
+    let again : copied ≡ c.copy_from_slice.new.self = c.copy_from_slice-2.ensures.after in
+    let copy : copied ≡ drop 1 c.args.entry.now = again ∙ piece in
+    let fifteen : length copied ≡ 15 = omega (arith, ap length copy, length-drop 1 c.args.entry.now, c.told-entry) in
     let count : c.from.result ≡ get_or c.args.entry.now 0 0 = omega (arith, c.from.ensures) in
     let room : c.self.inside.used + 15 ≤ length c.self.inside.bytes.items = omega (
       arith,
