@@ -1,13 +1,13 @@
 -- Pieces that end within the bytes in which they began, and what is met in these.
-use Rattle.std.proofs.Common.{◌≡◌, ◌≢◌, ◌+◌, ◌-◌, ◌<◌, ◌≤◌, ℕ, Bool, true, false, not, List, [], ◌∷◌, ◌++◌, length, take, drop, get_or, refl, sym, ap, subst, ◌∙◌, arith, ◌⊎◌, inl, inr, append_assoc, append-nil, length-append, length-drop, length-take-le, take-add}
+use Rattle.std.proofs.Common.{◌≡◌, ◌≢◌, ◌+◌, ◌-◌, ◌<◌, ◌≤◌, ℕ, zero, suc, true, false, not, List, [], ◌∷◌, ◌++◌, length, take, drop, get_or, refl, sym, ap, subst, ◌∙◌, arith, ◌⊎◌, inl, inr, append_assoc, length-append, length-drop, length-take-le, take-add}
 use Rattle.std.specs.List.{AllByRecursion, flat_map}
-use Rattle.std.proofs.lemmas.Bool.{cases_Bool}
-use Rattle.std.proofs.lemmas.List.{drop_more, drop-drop, get_or-drop, take_more}
+use Rattle.std.proofs.lemmas.Bool.{cases_Bool, cases_lt}
+use Rattle.std.proofs.lemmas.List.{drop_more, drop-drop, get_or-drop, get_or-take, take_more}
 use Rattle.mg_defs.specs.declared.Stream.{Stream}
 use Rattle.mg_defs.specs.declared.Stream.TheVariants.{Words, Others}
-use Rattle.mg_defs.specs.Marks.{Mark, piece, marks_of_document, start}
+use Rattle.mg_defs.specs.Marks.{Mark, piece, marks_of_document}
 use Rattle.mg_defs.specs.Parse.{is_of_kind}
-use Rattle.mg_defs.specs.Pieces.{OpenPiece, Reads, other_kind}
+use Rattle.mg_defs.specs.Pieces.{OpenPiece, other_kind}
 use Rattle.mg_defs.specs.Split.{IsDocument, closed_documents}
 use Rattle.mg_parse.specs.Offered.{Offered}
 use Rattle.mg_parse.specs.Seen.{StandsFor}
@@ -15,7 +15,7 @@ use Rattle.mg_parse.specs.declared.reader.Offer.{Offer}
 use Rattle.mg_parse.specs.declared.reader.Offer.TheVariants.{Taken, Ended}
 use Rattle.mg_count.specs.Meeting.{Meeting, marks_of, restarted, with_piece}
 use Rattle.mg_count.specs.Scanning.{HasMet, HasRead, HasReadOn, Scanning, joined_marks, marks_of_open}
-use Rattle.mg_count.specs.Whole.{EndsPiece, GoesOnTo, TurnsAt, between}
+use Rattle.mg_count.specs.Whole.{EndsPiece, GoesOnNoFurther, GoesOnTo, IsWholePiece, TurnsAt, between}
 use Rattle.mg_count.proofs.ReadingOn.{goes-on, met-read_on}
 use Rattle.mg_count.proofs.Scans.{met-byte, read-one_ended, turned}
 
@@ -77,6 +77,44 @@ goes-more kind bytes from at h below room is other =
       of_kind = subst (λ run. AllByRecursion (λ b. is_of_kind kind b ≡ true) run) more (all-more (λ b. is_of_kind kind b ≡ true) (between from at bytes) (get_or bytes at 0) h.of_kind is);
       is_open = subst IsDocument more (all-more (λ b. b ≢ 2) (between from at bytes) (get_or bytes at 0) h.is_open other);
     }
+
+-- ---- as far as they go
+
+all-at : (P : ℕ → Type 0) (run : List ℕ) (i : ℕ) → AllByRecursion P run → i < length run → P (get_or run i 0)
+all-at P [] i all low = absurd (omega (arith, low))
+all-at P (b ∷ run) zero all low = all.0
+all-at P (b ∷ run) (suc i) all low = all-at P run i all.1 (omega (arith, low))
+
+-- what is so of the bytes between two places is so of the byte at a place there
+between-at : (P : ℕ → Type 0) (bytes : List ℕ) (from at to : ℕ) → AllByRecursion P (between from to bytes) → from ≤ at → at < to → to ≤ length bytes → P (get_or bytes at 0)
+between-at P bytes from at to all after below within =
+    let i : ℕ = at - from in
+    let low : i < length (between from to bytes) = omega (arith, after, below, between-length from to bytes within) in
+    let place : from + i ≡ at = omega (arith, after) in
+    let is : get_or (between from to bytes) i 0 ≡ get_or bytes at 0
+    = get_or-take (to - from) (drop from bytes) i 0 (omega (arith, after, below)) ∙ get_or-drop from bytes i 0 ∙ ap (λ n. get_or bytes n 0) place in
+    subst P is (all-at P (between from to bytes) i all low)
+
+-- where the byte at a place is not of the kind, or closes a document, they go on to no place behind it
+pub no-further : (kind : Stream) (bytes : List ℕ) (from at : ℕ) → from ≤ at → (is_of_kind kind (get_or bytes at 0) ≡ false) ⊎ (get_or bytes at 0 ≡ 2) → GoesOnNoFurther kind bytes from at
+no-further kind bytes from at after ends further goes = elim (cases_lt at further) [
+  | inl behind ↦ absurd (met behind ends)
+  | inr within ↦ within
+]
+  where
+    met : at < further → (is_of_kind kind (get_or bytes at 0) ≡ false) ⊎ (get_or bytes at 0 ≡ 2) → ⊥
+    met behind (inl other) =
+        let is = between-at (λ b. is_of_kind kind b ≡ true) bytes from at further goes.of_kind after behind goes.within in
+        let bad : true ≡ false = sym is ∙ other in absurd cc
+    met behind (inr closes) = between-at (λ b. b ≢ 2) bytes from at further goes.is_open after behind goes.within closes
+
+-- where a whole piece ends, its bytes go on no further
+pub whole-ends : (s : Scanning) (bytes : List ℕ) (at to next : ℕ) → IsWholePiece s bytes at next →
+    GoesOnTo s.reading.kind bytes (at + 1) to → GoesOnNoFurther s.reading.kind bytes (at + 1) to → to ≡ next
+whole-ends s bytes at to next whole goes far =
+    let above : next ≤ to = far next whole.goes_on in
+    let below : to ≤ next = no-further s.reading.kind bytes (at + 1) next whole.goes_on.after (inl whole.ends) to goes in
+    omega (arith, above, below)
 
 -- a word byte closes nothing
 pub word-open : (b : ℕ) → is_of_kind Words b ≡ true → b ≢ 2

@@ -1,5 +1,5 @@
 -- Pieces that end within the bytes in which they began.
-use Rattle.std.specs.Prelude.{◌≡◌, ◌≢◌, ◌<◌, ◌≤◌, ◌+◌, ◌-◌, ℕ, true, false, List, [], ◌∷◌, ◌++◌, length, take, drop}
+use Rattle.std.specs.Prelude.{◌≡◌, ◌≢◌, ◌<◌, ◌≤◌, ◌+◌, ◌-◌, ℕ, true, false, List, [], ◌∷◌, ◌++◌, get_or, length, take, drop}
 use Rattle.std.specs.List.{AllByRecursion}
 use Rattle.std.specs.declared.result.Result.{Result}
 use Rattle.std.specs.declared.result.Result.TheVariants.{Ok, Err}
@@ -27,11 +27,25 @@ pub record GoesOnTo (kind : Stream) (bytes : List ℕ) (from to : ℕ) : Type 0 
   pub of_kind : AllByRecursion (λ b. is_of_kind kind b ≡ true) (between from to bytes)
   pub is_open : IsDocument (between from to bytes)
 
+-- they go on to no place behind this one
+abbrev pub GoesOnNoFurther : Stream → List ℕ → ℕ → ℕ → Type 0
+GoesOnNoFurther kind bytes from to = (further : ℕ) → GoesOnTo kind bytes from further → further ≤ to
+
 -- a byte of the other kind, which closes no document, begins the next piece
 pub record TurnsAt (old new : OpenPiece) (byte : ℕ) : Type 0 where
   pub is_open : byte ≢ 2
   pub ends : is_of_kind old.kind byte ≡ false
   pub begins : new ≡ record { kind = other_kind old.kind; piece = byte ∷ [] }
+
+-- The piece that is read is the byte at one place, and ends before another, with whose byte the next begins.
+pub record IsWholePiece (s : Scanning) (bytes : List ℕ) (at next : ℕ) : Type 0 where
+  pub is_open : s.is_open ≡ true
+  pub begins : s.reading.piece ≡ get_or bytes at 0 ∷ []
+  pub goes_on : GoesOnTo s.reading.kind bytes (at + 1) next
+  pub within : next < length bytes
+  -- that byte is of the other kind, and closes no document
+  pub ends : is_of_kind s.reading.kind (get_or bytes next 0) ≡ false
+  pub stays : get_or bytes next 0 ≢ 2
 
 -- The piece that began at one place ended before another, with whose byte the next began.
 pub record EndsPiece (old new : Scanning) (bytes : List ℕ) (at next : ℕ) : Type 0 where

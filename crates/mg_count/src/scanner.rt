@@ -6,7 +6,7 @@ ghost use Rattle.mg_defs.specs.Pieces.{left_at_end};
 ghost use Rattle.mg_defs.specs.Split.{has_open_end};
 ghost use Rattle.mg_count.specs.Meeting.{marks_of};
 ghost use Rattle.mg_count.specs.Scanning.{HasMet, HasRead, HasReadOn, closing_marks, joined_marks};
-ghost use Rattle.mg_count.specs.Whole.{EndsPiece};
+ghost use Rattle.mg_count.specs.Whole.{EndsPiece, IsWholePiece};
 
 use crate::met::Met;
 use crate::whole::{is_byte_at, piece_end, turn_at};
@@ -156,6 +156,7 @@ impl Scanner {
     pub fn take_piece(&mut self, bytes: &[u8], at: usize) -> usize
         ensures none { result ≡ at → self.new ≡ self.old }
         ensures some { result ≢ at → EndsPiece self.old self.new bytes.now at result }
+        ensures whole { (next : ℕ) → IsWholePiece self.old bytes.now at next → result ≡ next }
     {
         if !self.is_open || !is_byte_at(&self.reader, bytes, at) {
             return at;

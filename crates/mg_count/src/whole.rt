@@ -1,9 +1,9 @@
 //! Pieces that end within the bytes in which they began: of such a piece nothing is copied but its first
 //! byte.
-ghost use Rattle.std.specs.Prelude.{◌≡◌, ◌<◌, ◌≤◌, ◌∷◌, [], true, false, not, get_or, length};
+ghost use Rattle.std.specs.Prelude.{◌≡◌, ◌≢◌, ◌<◌, ◌≤◌, ◌∷◌, [], true, false, not, get_or, length};
 ghost use Rattle.mg_defs.specs.declared.Stream.TheVariants.{Words, Others};
 ghost use Rattle.mg_defs.specs.Parse.{is_of_kind};
-ghost use Rattle.mg_count.specs.Whole.{GoesOnTo, TurnsAt};
+ghost use Rattle.mg_count.specs.Whole.{GoesOnNoFurther, GoesOnTo, TurnsAt};
 
 use mg_parse::{CLOSE, PIECE_BYTES, PieceReader, Stream, is_word_byte};
 
@@ -12,6 +12,8 @@ use mg_parse::{CLOSE, PIECE_BYTES, PieceReader, Stream, is_word_byte};
 pub(crate) fn is_byte_at(reader: &PieceReader, bytes: &[u8], at: usize) -> bool
     ensures within { result ≡ true → at < length bytes.now }
     ensures piece { result ≡ true → reader.now.piece ≡ get_or bytes.now at 0 ∷ [] }
+    ensures whenever { at < length bytes.now → reader.now.piece ≡ get_or bytes.now at 0 ∷ [] →
+        result ≡ true }
 {
     let piece = reader.piece();
     if at >= bytes.len() || piece.len() != 1 {
@@ -24,7 +26,8 @@ pub(crate) fn is_byte_at(reader: &PieceReader, bytes: &[u8], at: usize) -> bool
 #[inline]
 fn word_end(bytes: &[u8], from: usize) -> usize
     requires { from ≤ length bytes.now }
-    ensures { GoesOnTo Words bytes.now from result }
+    ensures goes { GoesOnTo Words bytes.now from result }
+    ensures far { GoesOnNoFurther Words bytes.now from result }
 {
     let most = bytes.len().min(from + (PIECE_BYTES - 1));
     let mut at = from;
@@ -38,7 +41,8 @@ fn word_end(bytes: &[u8], from: usize) -> usize
 #[inline]
 fn other_end(bytes: &[u8], from: usize) -> usize
     requires { from ≤ length bytes.now }
-    ensures { GoesOnTo Others bytes.now from result }
+    ensures goes { GoesOnTo Others bytes.now from result }
+    ensures far { GoesOnNoFurther Others bytes.now from result }
 {
     let most = bytes.len().min(from + (PIECE_BYTES - 1));
     let mut at = from;
@@ -52,7 +56,8 @@ fn other_end(bytes: &[u8], from: usize) -> usize
 #[inline]
 pub(crate) fn piece_end(kind: Stream, bytes: &[u8], from: usize) -> usize
     requires { from ≤ length bytes.now }
-    ensures { GoesOnTo kind bytes.now from result }
+    ensures goes { GoesOnTo kind bytes.now from result }
+    ensures far { GoesOnNoFurther kind bytes.now from result }
 {
     match kind {
         Stream::Words => word_end(bytes, from),
@@ -76,6 +81,7 @@ fn is_other(kind: Stream, byte: u8) -> bool
 #[inline]
 pub(crate) fn turn_at(reader: &mut PieceReader, byte: u8) -> bool
     ensures turns { result ≡ true → TurnsAt reader.old reader.new byte }
+    ensures whenever { byte ≢ 2 → is_of_kind reader.old.kind byte ≡ false → result ≡ true }
     ensures same { result ≡ false → reader.new ≡ reader.old }
 {
     if byte == CLOSE || !is_other(reader.kind(), byte) {

@@ -1,4 +1,4 @@
-use Rattle.std.proofs.Common.{rules, arith, ◌≡◌, ◌∙◌, get_or, length}
+use Rattle.std.proofs.Common.{rules, get_or}
 use Rattle.mg_count.proofs.WholePieces.{one-byte}
 use Rattle.mg_count.proofs.whole.is_byte_at.Goals as goal
 
