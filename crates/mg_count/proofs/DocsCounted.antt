@@ -2,7 +2,7 @@
 use Rattle.std.proofs.Common.{◌≡◌, ◌≢◌, ◌≤◌, ◌<◌, ◌+◌, ◌==◌, ◌⊎◌, ℕ, Bool, true, false, cond, zero, List, [], ◌∷◌, ◌++◌, map, get_or, set, nat_lt, refl, sym, ap, subst, ◌∙◌, arith, inl, inr, length-set}
 use Rattle.std.specs.Prelude.{count_by}
 use Rattle.std.proofs.lemmas.Bool.{cases_Bool, cases_eq, eq-eqb, eqb-true, lt-ltb, ne_eqb}
-use Rattle.std.proofs.lemmas.List.{get_or-set_other, get_or-set_same, map-append}
+use Rattle.std.proofs.lemmas.List.{get_or-set_other, get_or-set_same, map-append, set-get_or}
 use Rattle.std.proofs.lemmas.List.Sums.{sum_by-cons}
 use Rattle.mg_defs.specs.declared.TermPosting.{TermPosting}
 use Rattle.mg_defs.specs.DocCounts.{docs_with, last_with}
@@ -148,7 +148,7 @@ order-more last_more c terms term doc fed h low t d some = by (term == t) (doc =
         omega (arith, last ∙ ap (λ x. cond x doc (last_with t 0 fed)) p, h.order t d there)
 
 -- in a document that the term was in
-pub doc-known : (last_more : LastMore) (c : DocCounting) (terms term doc : ℕ) (fed : List (ℕ × ℕ)) → 1 ≤ doc → AreDocCounts c terms fed →
+doc-known : (last_more : LastMore) (c : DocCounting) (terms term doc : ℕ) (fed : List (ℕ × ℕ)) → 1 ≤ doc → AreDocCounts c terms fed →
     last_with term 0 fed ≡ doc → AreDocCounts c terms (fed ++ (term, doc) ∷ [])
 doc-known last_more c terms term doc fed some h is = record {
   doc_size = h.doc_size;
@@ -168,7 +168,7 @@ doc-known last_more c terms term doc fed some h is = record {
     same t false e = refl
 
 -- in another one, which is later
-pub doc-fresh : (last_more : LastMore) (c : DocCounting) (terms term doc : ℕ) (fed : List (ℕ × ℕ)) → term < terms → AreDocCounts c terms fed → last_with term 0 fed < doc
+doc-fresh : (last_more : LastMore) (c : DocCounting) (terms term doc : ℕ) (fed : List (ℕ × ℕ)) → term < terms → AreDocCounts c terms fed → last_with term 0 fed < doc
     → AreDocCounts (record { docs = set c.docs term (get_or c.docs term 0 + 1); last = set c.last term doc }) terms (fed ++ (term, doc) ∷ [])
 doc-fresh last_more c terms term doc fed within h later = record {
   doc_size = length-set c.docs term (get_or c.docs term 0 + 1) ∙ h.doc_size;
@@ -210,3 +210,22 @@ doc-fresh last_more c terms term doc fed within h later = record {
         subst (λ x. get_or (set c.docs term (get_or c.docs term 0 + 1)) x 0 ≤ get_or (set c.last term doc) x 0) same (omega (arith, docs-here, last-here, h.few term within, h.last term within, later))
     few t lt false e =
         omega (arith, get_or-set_other c.docs term t (get_or c.docs term 0 + 1) 0 (other-term term t e), get_or-set_other c.last term t doc 0 (other-term term t e), h.few t lt)
+
+-- of a term's documents one is more where the last of them is another, and as many as before else
+pub doc-counted : (last_more : LastMore) (ds ls : List ℕ) (terms term doc count : ℕ) (fed : List (ℕ × ℕ)) → term < terms → 1 ≤ doc → AreDocCounts (record { docs = ds; last = ls }) terms fed →
+    last_with term 0 fed ≤ doc → (get_or ls term 0 ≢ doc → count ≡ get_or ds term 0 + 1) → (get_or ls term 0 ≡ doc → count ≡ get_or ds term 0) →
+    AreDocCounts (record { docs = set ds term count; last = set ls term doc }) terms (fed ++ (term, doc) ∷ [])
+doc-counted last_more ds ls terms term doc count fed within some h low other same = elim (cases_eq (get_or ls term 0) doc) [
+  | inl is ↦
+      let docs : set ds term count ≡ ds = ap (λ n. set ds term n) (same is) ∙ set-get_or ds term 0 in
+      let last : set ls term doc ≡ ls = ap (λ n. set ls term n) (sym is) ∙ set-get_or ls term 0 in
+      subst (λ l. AreDocCounts (record { docs = l; last = set ls term doc }) terms (fed ++ (term, doc) ∷ [])) (sym docs)
+      (subst (λ l. AreDocCounts (record { docs = ds; last = l }) terms (fed ++ (term, doc) ∷ [])) (sym last)
+      (doc-known last_more (record { docs = ds; last = ls }) terms term doc fed some h (sym (h.last term within) ∙ is)))
+  | inr apart ↦
+      let read : get_or ls term 0 ≡ last_with term 0 fed = h.last term within in
+      let differs : last_with term 0 fed ≢ doc = λ e. apart (read ∙ e) in
+      let later : last_with term 0 fed < doc = omega (arith, low, differs) in
+      subst (λ n. AreDocCounts (record { docs = set ds term n; last = set ls term doc }) terms (fed ++ (term, doc) ∷ [])) (sym (other apart))
+      (doc-fresh last_more (record { docs = ds; last = ls }) terms term doc fed within h later)
+]

@@ -2,7 +2,7 @@
 //!
 //! A list is begun with the number of its documents, so they are counted while the occurrences go by:
 //! eight bytes a term, and no posting is held outside the pool.
-ghost use Rattle.std.specs.Prelude.{◌≡◌, ◌≤◌, ◌<◌, ℕ, List, [], length, IfOk};
+ghost use Rattle.std.specs.Prelude.{◌≡◌, ◌≢◌, ◌≤◌, ◌<◌, ◌+◌, ℕ, List, [], length, IfOk};
 ghost use Rattle.mg_defs.specs.DocCounts.{last_with};
 ghost use Rattle.mg_count.specs.DocCounting.{AreDocCounts, CountsOneMore};
 
@@ -23,6 +23,18 @@ impl Model for DocCounts {
     ghost Value = { DocCounting };
 
     ghost view = { λ c. record { docs = c.docs.items; last = c.last.items } };
+}
+
+/// How many documents have a term of which one occurrence more is in a document, where `docs` had it, and `last`
+/// was the last of them. Nothing branches on it: each branch would wait for the last document to be read.
+#[inline]
+fn with_document(docs: u32, last: u32, doc: u32) -> u32
+    requires few { docs ≤ last }
+    requires later { last ≤ doc }
+    ensures other { last ≢ doc → result ≡ docs + 1 }
+    ensures same { last ≡ doc → result ≡ docs }
+{
+    if last == doc { docs } else { docs + 1 }
 }
 
 impl DocCounts {
@@ -46,10 +58,10 @@ impl DocCounts {
     {
         documents_are_counted();
         let at = term as usize;
-        if self.last[at] != doc {
-            self.last[at] = doc;
-            self.docs[at] += 1;
-        }
+        let last = self.last[at];
+        let docs = self.docs[at];
+        self.last[at] = doc;
+        self.docs[at] = with_document(docs, last, doc);
     }
 
     /// How many documents have each term.

@@ -1,32 +1,48 @@
-use Rattle.std.proofs.Common.{◌≡◌, ◌≢◌, ◌<◌, ◌++◌, ◌∷◌, ◌+◌, ℕ, [], length, get_or, set, arith, sym, subst, ◌∙◌}
+use Rattle.std.proofs.Common.{◌≡◌, ◌≤◌, ◌+◌, ℕ, length, get_or, arith, sym, ap, subst, ◌∙◌}
 use Rattle.std.proofs.lemmas.List.{get_or_read}
 use Rattle.mg_defs.specs.DocCounts.{last_with}
 use Rattle.mg_count.specs.DocCounting.{AreDocCounts, DocCounting}
-use Rattle.mg_count.proofs.DocsCounted.{doc-fresh, doc-known}
+use Rattle.mg_count.proofs.DocsCounted.{doc-counted}
 use Rattle.mg_count.proofs.doc_counts.DocCounts.count.Goals as goal
 
-pub returns-then-index-doc-clause-counts : goal.returns-then-index-doc-clause-counts
-returns-then-index-doc-clause-counts c fed h low =
+-- what the two reads give
+pub with_document-requires-clause-few : goal.with_document-requires-clause-few
+with_document-requires-clause-few c =
     let term : ℕ = c.args.term in
-    let doc : ℕ = c.args.doc in
-    let terms : ℕ = length c.args.self.now.docs in
     let i = c.self.inside in
+    let terms : ℕ = length c.args.self.now.docs in
     let now : DocCounting = record { docs = i.docs.items; last = i.last.items } in
-    let before : AreDocCounts now terms fed = subst (λ (v : DocCounting). AreDocCounts v terms fed) (sym c.self.view_is) h in
-    let last_read : c.index.result.now ≡ get_or i.last.items term 0 = get_or_read i.last.items term c.index.result.now (omega (arith, c.requires.term, before.last_size)) c.index.ensures 0 in
-    let docs_read : c.index_mut-then-index-doc.result.now ≡ get_or i.docs.items term 0 = get_or_read i.docs.items term c.index_mut-then-index-doc.result.now
-    (omega (arith, c.requires.term, before.doc_size)) c.index_mut-then-index-doc.ensures.value 0 in
-    let other : last_with term 0 fed ≢ doc = λ e. c.if-index-doc.true (last_read ∙ before.last term c.requires.term ∙ e) in
-    let later : last_with term 0 fed < doc = omega (arith, low, other) in
-    subst (λ n. AreDocCounts (record { docs = set i.docs.items term (n + 1); last = set i.last.items term doc }) terms (fed ++ (term, doc) ∷ [])) (sym docs_read)
-    (doc-fresh c.documents_are_counted.ensures.last now terms term doc fed c.requires.term before later)
+    let before : AreDocCounts now terms c.requires.counts.0 = subst (λ (v : DocCounting). AreDocCounts v terms c.requires.counts.0) (sym c.self.view_is) c.requires.counts.1 in
+    let last_read : c.index-last.result.now ≡ get_or i.last.items term 0
+    = get_or_read i.last.items term c.index-last.result.now (omega (arith, c.requires.term, before.last_size)) c.index-last.ensures 0 in
+    let docs_read : c.index-docs.result.now ≡ get_or i.docs.items term 0
+    = get_or_read i.docs.items term c.index-docs.result.now (omega (arith, c.requires.term, before.doc_size)) c.index-docs.ensures 0 in
+    let few : get_or i.docs.items term 0 ≤ get_or i.last.items term 0 = before.few term c.requires.term in
+    omega (arith, last_read, docs_read, few)
 
-pub returns-else-index-doc-clause-counts : goal.returns-else-index-doc-clause-counts
-returns-else-index-doc-clause-counts c fed h low =
+pub with_document-requires-clause-later : goal.with_document-requires-clause-later
+with_document-requires-clause-later c =
+    let term : ℕ = c.args.term in
+    let i = c.self.inside in
+    let terms : ℕ = length c.args.self.now.docs in
+    let now : DocCounting = record { docs = i.docs.items; last = i.last.items } in
+    let before : AreDocCounts now terms c.requires.counts.0 = subst (λ (v : DocCounting). AreDocCounts v terms c.requires.counts.0) (sym c.self.view_is) c.requires.counts.1 in
+    let last_read : c.index-last.result.now ≡ get_or i.last.items term 0
+    = get_or_read i.last.items term c.index-last.result.now (omega (arith, c.requires.term, before.last_size)) c.index-last.ensures 0 in
+    let last : get_or i.last.items term 0 ≡ last_with term 0 c.requires.counts.0 = before.last term c.requires.term in
+    omega (arith, last_read, last, c.requires.counts.2)
+
+pub returns-clause-counts : goal.returns-clause-counts
+returns-clause-counts c fed h low =
     let term : ℕ = c.args.term in
     let i = c.self.inside in
     let terms : ℕ = length c.args.self.now.docs in
     let now : DocCounting = record { docs = i.docs.items; last = i.last.items } in
     let before : AreDocCounts now terms fed = subst (λ (v : DocCounting). AreDocCounts v terms fed) (sym c.self.view_is) h in
-    let last_read : c.index.result.now ≡ get_or i.last.items term 0 = get_or_read i.last.items term c.index.result.now (omega (arith, c.requires.term, before.last_size)) c.index.ensures 0 in
-    doc-known c.documents_are_counted.ensures.last c.args.self.now terms term c.args.doc fed c.requires.some h (sym (before.last term c.requires.term) ∙ sym last_read ∙ c.if-index-doc.false)
+    let last_read : c.index-last.result.now ≡ get_or i.last.items term 0
+    = get_or_read i.last.items term c.index-last.result.now (omega (arith, c.requires.term, before.last_size)) c.index-last.ensures 0 in
+    let docs_read : c.index-docs.result.now ≡ get_or i.docs.items term 0
+    = get_or_read i.docs.items term c.index-docs.result.now (omega (arith, c.requires.term, before.doc_size)) c.index-docs.ensures 0 in
+    doc-counted c.documents_are_counted.ensures.last i.docs.items i.last.items terms term c.args.doc c.with_document.result fed c.requires.term c.requires.some before low
+    (λ other. c.with_document.ensures.other (λ e. other (sym last_read ∙ e)) ∙ ap (λ n. n + 1) docs_read)
+    (λ same. c.with_document.ensures.same (last_read ∙ same) ∙ docs_read)
