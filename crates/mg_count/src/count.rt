@@ -158,6 +158,7 @@ impl Count {
     }
 
     /// Takes the next byte where it may end a piece, or begin or end a document.
+    #[inline(never)]
     fn take_other(&mut self, byte: u8) -> Result<(), Fault>
         requires given { (fed : List ℕ) × HasCounted self.old fed × (length fed < 2 ^ 32 - 1) }
         ensures given { OnOk result ((fed : List ℕ) → HasCounted self.old fed →
