@@ -1,4 +1,4 @@
-use Rattle.std.proofs.Common.{◌≡◌, ◌++◌, List, ℕ, ap, sym, subst, ◌∙◌}
+use Rattle.std.proofs.Common.{◌≡◌, ◌++◌, List, ap, sym, subst, ◌∙◌}
 use Rattle.mg_defs.specs.Marks.{Mark, marks}
 use Rattle.mg_count.specs.Counting.{AreFew, FirstPass, HasCounted, IsCounted}
 use Rattle.mg_count.specs.Meeting.{Meeting, marks_of}

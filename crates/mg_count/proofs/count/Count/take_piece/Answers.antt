@@ -1,8 +1,7 @@
-use Rattle.std.proofs.Common.{arith, ◌≡◌, ◌+◌, ◌-◌, ◌<◌, ◌^◌, ◌++◌, ◌∷◌, ℕ, List, [], drop, length, sym, subst}
+use Rattle.std.proofs.Common.{arith, ◌≡◌, ◌+◌, ◌++◌, ◌∷◌, List, [], drop, sym, subst}
 use Rattle.mg_defs.specs.declared.Stream.{Stream}
 use Rattle.mg_defs.specs.Marks.{Mark, piece}
 use Rattle.mg_count.specs.Counting.{AreFew, CountStopsAmong, FirstPass, HasCounted, IsCounted, StopsAt}
-use Rattle.mg_count.specs.Scanning.{Scanning}
 use Rattle.mg_count.specs.Whole.{between, fault_by}
 use Rattle.mg_count.proofs.Behind.{behind-none, pass, piece-counted, piece-few, piece-stops}
 use Rattle.mg_count.proofs.count.Count.take_piece.Goals as goal

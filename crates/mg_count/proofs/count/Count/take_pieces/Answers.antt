@@ -1,4 +1,4 @@
-use Rattle.std.proofs.Common.{arith, ◌≡◌, ◌+◌, ◌-◌, ◌<◌, ◌^◌, ◌++◌, ◌∙◌, ℕ, List, length, ap, sym, subst}
+use Rattle.std.proofs.Common.{arith, ◌≡◌, ◌+◌, ◌++◌, ℕ, List, subst}
 use Rattle.mg_count.specs.Counting.{HasCounted}
 use Rattle.mg_count.specs.Whole.{between}
 use Rattle.mg_count.proofs.Behind.{behind-joins, behind-length, behind-none, stops-from}

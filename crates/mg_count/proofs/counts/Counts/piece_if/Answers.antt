@@ -1,5 +1,4 @@
 use Rattle.std.proofs.Common.{◌++◌, ◌∷◌, List, [], sym, subst}
-use Rattle.std.proofs.lemmas.Result.{on_ok_weaker}
 use Rattle.mg_defs.specs.Marks.{Mark, piece}
 use Rattle.mg_count.specs.Counting.{AreFew, IsCounted, StopsAt}
 use Rattle.mg_count.proofs.Counted.{met-mark}
