@@ -117,7 +117,10 @@ impl<'a> SecondPass<'a> {
     }
 
     // Writes a piece of the open document, which has more pieces by the plan, and the occurrence of its term where it
-    // is a word that is not empty. Refused where the stream has no such piece.
+    // is a word that is not empty. Refused where the stream has no such piece. This, `put_symbol` and `piece_if`
+    // are inlined always: what they answer has room for a fault, and out of line each piece would read it back
+    // from memory, behind all that it wrote.
+    #[inline(always)]
     fn put_piece<S: Store>(
         &mut self,
         store: &mut S,
@@ -138,7 +141,7 @@ impl<'a> SecondPass<'a> {
     }
 
     // The same of a piece whose symbol is found.
-    #[inline]
+    #[inline(always)]
     fn put_symbol<S: Store>(
         &mut self,
         store: &mut S,
@@ -230,6 +233,7 @@ impl<'a, S: Store> MarkWriter<'a, S> for SecondPass<'a> {
         Ok(())
     }
 
+    #[inline(always)]
     fn piece_if(
         &mut self,
         store: &mut S,

@@ -219,6 +219,7 @@ impl<'a> SetWriter<'a> {
     }
 
     // Writes what a byte makes that may end a piece, or begin or end a document.
+    #[inline(never)]
     fn take_other<S: Store>(&mut self, store: &mut S, byte: u8) -> Result<(), Fault>
         requires put { (fed : List ℕ) × HasPut self.old (S.files store.old) fed
             × (length fed < 2 ^ 32 - 1) }
