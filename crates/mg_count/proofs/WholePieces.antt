@@ -108,13 +108,16 @@ no-further kind bytes from at after ends further goes = elim (cases_lt at furthe
         let bad : true ≡ false = sym is ∙ other in absurd cc
     met behind (inr closes) = between-at (λ b. b ≢ 2) bytes from at further goes.is_open after behind goes.within closes
 
--- where a whole piece ends, its bytes go on no further
-pub whole-ends : (s : Scanning) (bytes : List ℕ) (at to next : ℕ) → IsWholePiece s bytes at next →
-    GoesOnTo s.reading.kind bytes (at + 1) to → GoesOnNoFurther s.reading.kind bytes (at + 1) to → to ≡ next
-whole-ends s bytes at to next whole goes far =
-    let above : next ≤ to = far next whole.goes_on in
-    let below : to ≤ next = no-further s.reading.kind bytes (at + 1) next whole.goes_on.after (inl whole.ends) to goes in
-    omega (arith, above, below)
+-- where the bytes of the piece that is read go on as far as they can, a whole piece ends
+pub whole-ends : (s v : Scanning) (kind : Stream) (bytes : List ℕ) (at to next : ℕ) → s ≡ v → kind ≡ s.reading.kind → GoesOnTo kind bytes (at + 1) to →
+    GoesOnNoFurther kind bytes (at + 1) to → IsWholePiece v bytes at next → (to ≡ next) × IsWholePiece s bytes at next
+whole-ends s v kind bytes at to next view is goes far h =
+    let whole : IsWholePiece s bytes at next = subst (λ (u : Scanning). IsWholePiece u bytes at next) (sym view) h in
+    let same-goes : GoesOnTo s.reading.kind bytes (at + 1) to = subst (λ (k : Stream). GoesOnTo k bytes (at + 1) to) is goes in
+    let same-far : GoesOnNoFurther s.reading.kind bytes (at + 1) to = subst (λ (k : Stream). GoesOnNoFurther k bytes (at + 1) to) is far in
+    let above : next ≤ to = same-far next whole.goes_on in
+    let below : to ≤ next = no-further s.reading.kind bytes (at + 1) next whole.goes_on.after (inl whole.ends) to same-goes in
+    (omega (arith, above, below), whole)
 
 -- a word byte closes nothing
 pub word-open : (b : ℕ) → is_of_kind Words b ≡ true → b ≢ 2

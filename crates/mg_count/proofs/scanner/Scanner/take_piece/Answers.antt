@@ -2,7 +2,7 @@ use Rattle.std.proofs.Common.{rules, arith, ◌≡◌, ◌≢◌, ◌∙◌, ◌
 use Rattle.mg_defs.specs.declared.Stream.{Stream}
 use Rattle.mg_defs.specs.Parse.{is_of_kind}
 use Rattle.mg_count.specs.Scanning.{Scanning}
-use Rattle.mg_count.specs.Whole.{EndsPiece, GoesOnNoFurther, GoesOnTo, IsWholePiece}
+use Rattle.mg_count.specs.Whole.{EndsPiece, GoesOnTo}
 use Rattle.mg_count.proofs.WholePieces.{ends-piece, whole-ends}
 use Rattle.mg_count.proofs.scanner.Scanner.take_piece.Goals as goal
 
@@ -26,40 +26,24 @@ returns-clause-whole c next h =
     let i = c.self.inside in
     let s : Scanning = record { seen = i.splitter; reading = i.reader; is_open = i.is_open; met = i.met } in
     let end = c.piece_end-next.result in
-    let whole : IsWholePiece s c.args.bytes.now c.args.at next = subst (λ (v : Scanning). IsWholePiece v c.args.bytes.now c.args.at next) (sym c.self.view_is) h in
-    let goes : GoesOnTo i.reader.kind c.args.bytes.now (c.args.at + 1) end
-    = subst (λ (kind : Stream). GoesOnTo kind c.args.bytes.now (c.args.at + 1) end) c.kind.ensures c.piece_end-next.ensures.goes in
-    let far : GoesOnNoFurther i.reader.kind c.args.bytes.now (c.args.at + 1) end
-    = subst (λ (kind : Stream). GoesOnNoFurther kind c.args.bytes.now (c.args.at + 1) end) c.kind.ensures c.piece_end-next.ensures.far in
-    let is : end ≡ next = whole-ends s c.args.bytes.now c.args.at end next whole goes far in
-    is
+    (whole-ends s c.args.self.now c.kind.result c.args.bytes.now c.args.at end next c.self.view_is c.kind.ensures c.piece_end-next.ensures.goes c.piece_end-next.ensures.far h).0
 
 pub returns-then-next-bytes-clause-whole : goal.returns-then-next-bytes-clause-whole
 returns-then-next-bytes-clause-whole c next h =
     let i = c.self.inside in
     let s : Scanning = record { seen = i.splitter; reading = i.reader; is_open = i.is_open; met = i.met } in
     let end = c.piece_end-next.result in
-    let whole : IsWholePiece s c.args.bytes.now c.args.at next = subst (λ (v : Scanning). IsWholePiece v c.args.bytes.now c.args.at next) (sym c.self.view_is) h in
-    let goes : GoesOnTo i.reader.kind c.args.bytes.now (c.args.at + 1) end
-    = subst (λ (kind : Stream). GoesOnTo kind c.args.bytes.now (c.args.at + 1) end) c.kind.ensures c.piece_end-next.ensures.goes in
-    let far : GoesOnNoFurther i.reader.kind c.args.bytes.now (c.args.at + 1) end
-    = subst (λ (kind : Stream). GoesOnNoFurther kind c.args.bytes.now (c.args.at + 1) end) c.kind.ensures c.piece_end-next.ensures.far in
-    let is : end ≡ next = whole-ends s c.args.bytes.now c.args.at end next whole goes far in
-    absurd (omega (arith, is, whole.within, c.if-next-bytes.true))
+    let w = whole-ends s c.args.self.now c.kind.result c.args.bytes.now c.args.at end next c.self.view_is c.kind.ensures c.piece_end-next.ensures.goes c.piece_end-next.ensures.far h in
+    absurd (omega (arith, w.0, w.1.within, c.if-next-bytes.true))
 
 pub returns-then-not-turn_at-clause-whole : goal.returns-then-not-turn_at-clause-whole
 returns-then-not-turn_at-clause-whole c next h =
     let i = c.self.inside in
     let s : Scanning = record { seen = i.splitter; reading = i.reader; is_open = i.is_open; met = i.met } in
     let end = c.piece_end-next.result in
-    let whole : IsWholePiece s c.args.bytes.now c.args.at next = subst (λ (v : Scanning). IsWholePiece v c.args.bytes.now c.args.at next) (sym c.self.view_is) h in
-    let goes : GoesOnTo i.reader.kind c.args.bytes.now (c.args.at + 1) end
-    = subst (λ (kind : Stream). GoesOnTo kind c.args.bytes.now (c.args.at + 1) end) c.kind.ensures c.piece_end-next.ensures.goes in
-    let far : GoesOnNoFurther i.reader.kind c.args.bytes.now (c.args.at + 1) end
-    = subst (λ (kind : Stream). GoesOnNoFurther kind c.args.bytes.now (c.args.at + 1) end) c.kind.ensures c.piece_end-next.ensures.far in
-    let is : end ≡ next = whole-ends s c.args.bytes.now c.args.at end next whole goes far in
-    let stays : get_or c.args.bytes.now end 0 ≢ 2 = subst (λ n. get_or c.args.bytes.now n 0 ≢ 2) (sym is) whole.stays in
-    let ends : is_of_kind i.reader.kind (get_or c.args.bytes.now end 0) ≡ false = subst (λ n. is_of_kind i.reader.kind (get_or c.args.bytes.now n 0) ≡ false) (sym is) whole.ends in
+    let w = whole-ends s c.args.self.now c.kind.result c.args.bytes.now c.args.at end next c.self.view_is c.kind.ensures c.piece_end-next.ensures.goes c.piece_end-next.ensures.far h in
+    let stays : get_or c.args.bytes.now end 0 ≢ 2 = subst (λ n. get_or c.args.bytes.now n 0 ≢ 2) (sym w.0) w.1.stays in
+    let ends : is_of_kind i.reader.kind (get_or c.args.bytes.now end 0) ≡ false = subst (λ n. is_of_kind i.reader.kind (get_or c.args.bytes.now n 0) ≡ false) (sym w.0) w.1.ends in
     let turned : c.turn_at.result ≡ true = c.turn_at.ensures.whenever stays ends in
     let isnt : c.turn_at.result ≡ false = search rules in
     let bad : true ≡ false = sym turned ∙ isnt in
