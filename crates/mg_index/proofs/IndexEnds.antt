@@ -1,11 +1,12 @@
 -- Lists and lexicon before the first term and after the last one.
 use Rattle.std.proofs.Common.{arith, ◌≡◌, ◌≤◌, ◌<◌, ◌^◌, ℕ, List, [], ◌∷◌, length, map, take, sym, ap, subst, ◌∙◌, IsSome}
-use Rattle.std.specs.Prelude.{replicate}
+use Rattle.std.specs.Prelude.{Err, replicate}
 use Rattle.std.specs.declared.option.Option.{Option}
 use Rattle.std.specs.List.{AllByRecursion, flat_map}
 use Rattle.std.proofs.lemmas.List.{drop_all, take_all}
 use Rattle.mg_dev.specs.declared.part.Part.TheVariants.{Lex, LexAt, Post, Skip}
-use Rattle.mg_dev.specs.Files.{Files, bytes_at, file_at}
+use Rattle.mg_dev.specs.Files.{Files, Reads, bytes_at, file_at}
+use Rattle.mg_dev.specs.declared.device.PutErr.{PutErr}
 use Rattle.mg_dev.specs.Names.{full_name}
 use Rattle.mg_defs.proofs.ListLaws.{list_rises}
 use Rattle.mg_defs.specs.declared.TermPosting.{TermPosting}
@@ -21,8 +22,12 @@ use Rattle.mg_lex.specs.Terms.{entries_of, terms_of}
 use Rattle.mg_lex.specs.Writing.{LexWriting, TermsStand, TookTerms}
 use Rattle.mg_post.specs.Writing.{InBytes, Listing, Took}
 use Rattle.mg_runs.specs.Left.{IsMerging, Merging}
+use Rattle.mg_index.specs.ListEnds.{EndsWriters}
 use Rattle.mg_index.specs.Listing.{AreOfCollection, AreSquares, CanIndex, HasIndexed, HasLists, ListsStand, OfPostings}
+use Rattle.mg_index.specs.Steps.{PutStep}
 use Rattle.mg_index.specs.Written.{OfLists, WroteParts}
+use Rattle.mg_index.specs.declared.lists.IndexWriter.{IndexWriter}
+use Rattle.mg_index.specs.declared.lists.Sizes.{Sizes}
 use Rattle.mg_index.proofs.ListFrames.{RunsStay, lex_at_stays, lex_stays, merging_stays_all}
 use Rattle.mg_index.proofs.SquareSteps.{summed_all, summed_none}
 use Rattle.mg_laws.proofs.TermLaws.{lists_long}
@@ -133,3 +138,15 @@ lists_are_there entries base collection w f g post skip all terms wrote bytes = 
   where
     bytes_stay : (f g : Option Files) (name : List ℕ) → file_at g name ≡ file_at f name → bytes_at g name ≡ bytes_at f name
     bytes_stay f g name same = cc
+
+-- ---- where the end is refused
+
+pub ends_err : {writer : IndexWriter} {e : PutErr} {f g : Option Files} {q r : Reads} {m n : ℕ} → PutStep {T = Sizes} OfLists writer.lex.base (Err e) f g q r m n →
+    EndsWriters writer (Err e) f g q r m n
+ends_err step = record {
+  stand = λ collection told all took terms. tt;
+  post_bytes = λ collection all took. tt;
+  skip_count = λ collection all took. tt;
+  few = tt;
+  step = step;
+}

@@ -2,6 +2,7 @@ pub mod Causes
 pub mod ListFrames
 pub mod SquareSteps
 pub mod ListSteps
+pub mod TakeSteps
 pub mod TermSteps
 pub mod IndexSteps
 pub mod IndexEnds

@@ -158,6 +158,12 @@ pub store_stops : {T : Type 0} {l m n : ℕ} (same : Type 0) (refusal : PutErr) 
 store_stops {l = l} {m = m} {n = n} same put.Failed fault later cause is = rw is (rose_behind l m n later (cause.failed refl))
 store_stops same put.Memory fault later cause is = rw is tt
 
+-- the same, told as a reader's
+pub store_refuses : {T : Type 0} {l m n : ℕ} (same : Type 0) (refusal : PutErr) (fault : Fault) → l ≤ m → HasPutCause {T = T} m n (Err refusal) →
+    fault ≡ fault_of_store refusal → ReadStops (Rose l n) same fault
+store_refuses {l = l} {m = m} {n = n} same put.Failed fault later cause is = rw is (rose_behind l m n later (cause.failed refl))
+store_refuses same put.Memory fault later cause is = rw is tt
+
 -- of a reader, where more or less is known
 pub read_for : {rose rose' same same' : Type 0} (f : Fault) → (rose → rose') → (same' → same) → ReadStops rose same f → ReadStops rose' same' f
 read_for fault.StoreFault up down stop = up stop

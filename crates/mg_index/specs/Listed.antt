@@ -1,5 +1,5 @@
 -- What writing lists, lexicon and sums does: words for the contracts of its steps.
-use Rattle.std.specs.Prelude.{◌≡◌, ◌≢◌, ◌≤◌, ◌/◌, ◌++◌, ◌∷◌, ℕ, List, [], Vec, length, take, drop, IfOk, OnOk}
+use Rattle.std.specs.Prelude.{◌≡◌, ◌≢◌, ◌/◌, ◌++◌, ◌∷◌, ℕ, List, [], Vec, length, IfOk, OnOk}
 use Rattle.std.proofs.Common.{Global}
 use Rattle.std.specs.Option.{IsSome}
 use Rattle.std.specs.declared.option.Option.{Option}
@@ -12,11 +12,9 @@ use Rattle.mg_defs.specs.declared.TermPosting.{TermPosting}
 use Rattle.mg_defs.specs.Lists.{inverted, lists_bits, lists_entries, post_bits}
 use Rattle.mg_defs.specs.Split.{documents}
 use Rattle.mg_defs.specs.Squares.{squares_to}
-use Rattle.mg_lex.specs.Terms.{terms_of}
-use Rattle.mg_lex.specs.Writing.{TookTerms}
 use Rattle.mg_post.specs.Writing.{Listing, Took}
 use Rattle.mg_runs.specs.Left.{IsMerging, Merging}
-use Rattle.mg_index.specs.Listing.{AreSquares, CanIndex, HasIndexed, HasLists, IsAtList, IsInList, ListsStand, SquaresFit}
+use Rattle.mg_index.specs.Listing.{AreSquares, CanIndex, HasIndexed, HasLists, IsAtList, SquaresFit}
 use Rattle.mg_index.specs.declared.lists.IndexWriter.{IndexWriter}
 use Rattle.mg_index.specs.declared.lists.Sizes.{Sizes}
 use Rattle.mg_index.specs.declared.lists.Terms.{Terms}
@@ -40,25 +38,6 @@ abbrev pub ListTakes : Listing → Listing → Option Files → Option Files →
 ListTakes lists lists_now files files_now posting =
     (done : List (List Posting)) (ps : List Posting) → Took lists files done ps →
     Took lists_now files_now done (ps ++ posting ∷ [])
-
--- where the store tells its files, the first posting that is left of the list of a number is taken
-abbrev pub TakesPosting : {X T E : Type 0} → ℕ → Merging → Merging → Listing → Listing → Vec ℕ Global → Vec ℕ Global →
-    (X → Option Files) → X → X → Result T E → Type 0
-TakesPosting number merge merge_now lists lists_now sums sums_now files store store_now result =
-    IsSome (files store) → (done : List (List Posting)) (ps : List Posting) (p : Posting) (left : List Posting)
-    (later : List TermPosting)
-    → IsInList number merge lists sums.items (files store) done ps (p ∷ left) later
-    → OnOk result (IsInList number merge_now lists_now sums_now.items (files store_now) done (ps ++ p ∷ []) left later)
-
--- where the store tells its files, the first so many postings that are left of the list of a number are taken
-abbrev pub TakesPostings : {X T E : Type 0} → ℕ → ℕ → Merging → Merging → Listing → Listing → Vec ℕ Global →
-    Vec ℕ Global → (X → Option Files) → X → X → Result T E → Type 0
-TakesPostings docs number merge merge_now lists lists_now sums sums_now files store store_now result =
-    IsSome (files store) → (done : List (List Posting)) (ps left : List Posting) (later : List TermPosting) →
-    docs ≤ length left
-    → IsInList number merge lists sums.items (files store) done ps left later
-    → OnOk result (IsInList number merge_now lists_now sums_now.items (files store_now) done (ps ++ take docs left)
-    (drop docs left) later)
 
 -- ---- between lists
 
@@ -110,18 +89,6 @@ ListsAreLeft terms sums merge files collection = HasLists terms.table.now.terms 
 abbrev pub WhereAllTaken : Listing → Option Files → (List ℕ → Type 0) → Type 0
 WhereAllTaken lists files holds = (collection : List ℕ) → lists.all ≡ length (documents collection) →
     Took lists files (inverted collection) [] → holds collection
-
--- the parts of lists and of the lexicon are those of a collection
-abbrev pub WroteLists : {X T E : Type 0} → (X → Option Files) → X → List ℕ → Result T E → List ℕ → Type 0
-WroteLists files store base result collection = OnOk result (ListsStand (files store) base collection)
-
--- where the store tells its files, they are those of each collection all of whose lists and terms the writers took
-abbrev pub EndsIndex : {X T E : Type 0} → IndexWriter → (X → Option Files) → X → X → Result T E → Type 0
-EndsIndex writer files store store_now result =
-    (collection : List ℕ) → IsSome (files store) → writer.lists.all ≡ length (documents collection) →
-    Took writer.lists (files store) (inverted collection) []
-    → TookTerms writer.lex (files store) (terms_of collection) →
-    WroteLists files store_now writer.lex.base result collection
 
 -- the sums are those of the squared weights of a collection's lists
 abbrev pub SumsAreSquares : {T E : Type 0} → Vec ℕ Global → Result T E → List ℕ → Type 0

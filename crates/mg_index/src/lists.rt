@@ -3,26 +3,19 @@
 //! Postings come by term and then by document. So list by list is written as they come, and beside it
 //! what the lexicon tells of its term. What a posting adds to the weight of its document goes into the
 //! document's sum at once: no list is kept.
-ghost use Rattle.std.specs.Prelude.{◌≡◌, ◌<◌, ◌≤◌, ◌+◌, ◌^◌, List, [], length, replicate, slice_index, IfOk, sum};
+ghost use Rattle.std.specs.Prelude.{◌≡◌, ◌<◌, ◌≤◌, ◌+◌, ◌^◌, IfOk, List, length, replicate, slice_index};
 ghost use Rattle.std.specs.Cmp.Lexicographic.{slice_cmp};
 ghost use Rattle.std.specs.List.Sorted.{IsStrictlySortedBy};
 ghost use Rattle.std.specs.Ordering.{nat_cmp};
-ghost use Rattle.mg_dev.specs.Names.{full_name};
-ghost use Rattle.mg_dev.specs.declared.part.Part.TheVariants as part;
 ghost use Rattle.mg_dev.specs.Moments.{Between};
-ghost use Rattle.mg_defs.specs.declared.Posting.{Posting};
 ghost use Rattle.mg_defs.specs.declared.TermPosting.{TermPosting};
-ghost use Rattle.mg_lex.specs.Terms.{Term};
-ghost use Rattle.mg_lex.specs.Writing.{TookTerms};
-ghost use Rattle.mg_post.specs.Writing.{Took};
 ghost use Rattle.mg_runs.specs.Left.{IsMerging};
 ghost use Rattle.mg_index.specs.Each.{RefusedUnless};
-ghost use Rattle.mg_index.specs.ListEnds.{IndexStep, TermsStep};
-ghost use Rattle.mg_index.specs.Listed.{CanIndexTo, EndsIndex, HasPostBytes, HasSkipCount, ListsAreLeft};
-ghost use Rattle.mg_index.specs.Listed.{NothingLeft, ToIndex, WhereAllTaken};
+ghost use Rattle.mg_index.specs.ListEnds.{AreBegun, CanEnd, EndsWriters, IndexStep, TermsStep};
+ghost use Rattle.mg_index.specs.Listed.{CanIndexTo, ListsAreLeft, NothingLeft, ToIndex};
 ghost use Rattle.mg_index.specs.Listing.{AreListSizes};
+ghost use Rattle.mg_index.specs.Steps.{MergeLook, PutStep};
 ghost use Rattle.mg_index.specs.Written.{OfLists};
-ghost use Rattle.mg_index.specs.Steps.{PutStep, MergeLook};
 
 use crate::one_list::{stray, write_list};
 use mg_dev::{Fault, PutErr, Store};
@@ -73,13 +66,7 @@ fn start_writers<'a, S: Store>(
     all: u32,
 ) -> Result<IndexWriter<'a>, PutErr>
     requires all { all ≤ 2 ^ 24 }
-    ensures lists { IfOk result (λ w. Took w.lists (S.files store.new) [] []) }
-    ensures lex { IfOk result (λ w. TookTerms w.lex (S.files store.new) []) }
-    ensures post { IfOk result (λ w. w.lists.post.name ≡ full_name base.entry.now part.Post) }
-    ensures skip { IfOk result (λ w. w.lists.skip.name ≡ full_name base.entry.now part.Skip) }
-    ensures base { IfOk result (λ w. w.lex.base ≡ base.entry.now) }
-    ensures all { IfOk result (λ w. w.lists.all ≡ all) }
-    ensures nothing { IfOk result (λ w. w.lists.total ≡ 0) }
+    ensures begun { IfOk result (AreBegun base.entry.now all (S.files store.new)) }
     ensures step { Between S.files S.reads S.faults store.old store.new
         (PutStep OfLists base.entry.now result) }
 {
@@ -174,17 +161,9 @@ fn expect_end<S: Store>(store: &mut S, merge: &mut Merge<'_>) -> Result<(), Faul
 
 /// Writes what both writers hold.
 fn finish<S: Store>(store: &mut S, writer: &mut IndexWriter<'_>) -> Result<Sizes, PutErr>
-    requires lists { (done : List (List Posting)) × Took writer.old.lists (S.files store.old) done
-        [] }
-    requires lex { (terms : List Term) × TookTerms writer.old.lex (S.files store.old) terms }
-    requires post { writer.old.lists.post.name ≡ full_name writer.old.lex.base part.Post }
-    requires skip { writer.old.lists.skip.name ≡ full_name writer.old.lex.base part.Skip }
-    ensures stand { EndsIndex writer.old S.files store.old store.new result }
-    ensures post_bytes { WhereAllTaken writer.old.lists (S.files store.old) (HasPostBytes result) }
-    ensures skip_count { WhereAllTaken writer.old.lists (S.files store.old) (HasSkipCount result) }
-    ensures few { IfOk result (λ sizes. sizes.skip_count ≤ writer.old.lists.total) }
-    ensures step { Between S.files S.reads S.faults store.old store.new
-        (PutStep OfLists writer.old.lex.base result) }
+    requires { CanEnd writer.old (S.files store.old) }
+    ensures { Between S.files S.reads S.faults store.old store.new
+        (EndsWriters writer.old result) }
 {
     writer.lex.finish(store)?;
     lists_stay();

@@ -3,21 +3,19 @@
 //! A store that tells nothing may give back any bytes. So each posting that is read is tested: it is
 //! one of the term, of a later document than the one before, and counts at least 1. Over runs that
 //! are those that were written no test fails.
-ghost use Rattle.std.specs.Prelude.{◌≡◌, ◌≢◌, ◌<◌, ◌≤◌, ◌+◌, ◌-◌, ◌*◌, ◌^◌, ℕ, List, length, drop, IfOk, OnOk, is_some};
-ghost use Rattle.mg_dev.specs.Causes.{HasPutCause};
+ghost use Rattle.std.specs.Prelude.{◌≡◌, ◌<◌, ◌≤◌, ◌+◌, ◌^◌, List, length, drop, IfOk, OnOk};
 ghost use Rattle.mg_dev.specs.Faults.{IsDamagedPart};
-ghost use Rattle.mg_dev.specs.Files.{SameReads, file_at};
 ghost use Rattle.mg_dev.specs.Moments.{Between};
 ghost use Rattle.mg_defs.specs.declared.Posting.{Posting};
 ghost use Rattle.mg_defs.specs.declared.TermPosting.{TermPosting};
 ghost use Rattle.mg_defs.specs.Lists.{Follows};
-ghost use Rattle.mg_post.specs.Writing.{Pushed, PushedMore, SameFiles, Took, posting_of};
+ghost use Rattle.mg_post.specs.Writing.{ListStep as WriterStep, Pushed, Took, posting_of};
 ghost use Rattle.mg_runs.specs.Left.{IsMerging};
 ghost use Rattle.mg_index.specs.Each.{RefusedUnless};
-ghost use Rattle.mg_index.specs.ListEnds.{ListStep};
-ghost use Rattle.mg_index.specs.Listed.{ForFirstLeft, ListTakes, SumsTake, TakesPosting, TakesPostings};
-ghost use Rattle.mg_index.specs.Listing.{CanList, HasNext, HasRest, OfPostings};
-ghost use Rattle.mg_index.specs.Steps.{MergeStep, MergeLook};
+ghost use Rattle.mg_index.specs.ListEnds.{ListStep, TakeStep};
+ghost use Rattle.mg_index.specs.Listed.{ForFirstLeft, ListTakes, SumsTake};
+ghost use Rattle.mg_index.specs.Listing.{CanList, HasNext};
+ghost use Rattle.mg_index.specs.Steps.{MergeLook};
 
 use mg_defs::TermPosting;
 use mg_dev::{Bad, Fault, Part, PutErr, Store, What};
@@ -110,12 +108,8 @@ fn write_posting<S: Store>(
         (posting_of posting.doc posting.count)) }
     ensures pushed { OnOk result (Pushed lists.old lists.new posting.doc) }
     ensures each { length sums.new.items ≡ length sums.old.items }
-    ensures same { SameFiles lists.old lists.new }
-    ensures others { (n : List ℕ) → n ≢ lists.old.post.name → n ≢ lists.old.skip.name →
-        file_at (S.files store.new) n ≡ file_at (S.files store.old) n }
-    ensures told { is_some (S.files store.new) ≡ is_some (S.files store.old) }
-    ensures reads { SameReads (S.reads store.old) (S.reads store.new) }
-    ensures cause { HasPutCause (S.faults store.old) (S.faults store.new) result }
+    ensures step { Between S.files S.reads S.faults store.old store.new
+        (WriterStep lists.old lists.new result) }
 {
     lists.push(store, posting.doc, posting.count)?;
     add_square(sums, posting.doc, posting.count);
@@ -135,16 +129,9 @@ fn take_posting<S: Store>(
     requires last { lists.old.last ≡ last }
     requires more { lists.old.pushed < lists.old.docs }
     requires total { lists.old.total < 2 ^ 32 }
-    ensures can { OnOk result (CanList merge.new lists.new sums.new.items (S.files store.new)) }
-    ensures told { TakesPosting number merge.old merge.new lists.old lists.new sums.old sums.new
-        S.files store.old store.new result }
-    ensures pushed { OnOk result (PushedMore lists.old lists.new 1) }
-    ensures last { IfOk result (λ doc. lists.new.last ≡ doc) }
-    ensures refused { RefusedUnless S.faults store.old store.new
-        (HasRest number 1 merge.old lists.old sums.old.items (S.files store.old)) result }
-    ensures files { SameFiles lists.old lists.new }
     ensures step { Between S.files S.reads S.faults store.old store.new
-        (MergeStep OfPostings merge.old.base merge.old merge.new) }
+        (TakeStep 1 number merge.old merge.new lists.old lists.new sums.old sums.new result) }
+    ensures last { IfOk result (λ doc. lists.new.last ≡ doc) }
 {
     let all = sums.len() as u32;
     let posting = next_posting(store, merge, number, last, all)?;
@@ -169,15 +156,8 @@ fn take_postings<S: Store>(
     requires none { lists.old.pushed ≡ 0 }
     requires last { lists.old.last ≡ 0 }
     requires total { lists.old.total + docs ≤ 2 ^ 32 }
-    ensures can { OnOk result (CanList merge.new lists.new sums.new.items (S.files store.new)) }
-    ensures told { TakesPostings docs number merge.old merge.new lists.old lists.new sums.old
-        sums.new S.files store.old store.new result }
-    ensures pushed { OnOk result (PushedMore lists.old lists.new docs) }
-    ensures refused { RefusedUnless S.faults store.old store.new
-        (HasRest number docs merge.old lists.old sums.old.items (S.files store.old)) result }
-    ensures files { SameFiles lists.old lists.new }
-    ensures step { Between S.files S.reads S.faults store.old store.new
-        (MergeStep OfPostings merge.old.base merge.old merge.new) }
+    ensures { Between S.files S.reads S.faults store.old store.new
+        (TakeStep docs number merge.old merge.new lists.old lists.new sums.old sums.new result) }
 {
     let mut last = 0;
     for _ in 0..docs {

@@ -8,9 +8,20 @@ returns-in-Err-clause-step g c =
     let e = c.in-Err.ensures in
     put_err (put_lists refl refl e.told e.others e.reads e.cause)
 
-pub returns-in-Ok-start-clause-lists : goal.returns-in-Ok-start-clause-lists
-returns-in-Ok-start-clause-lists g c =
-    took_beside c.lists_stay.ensures c.args.base.now c.in-Ok.lists _ _ [] [] c.in-Ok.ensures.post c.in-Ok.ensures.skip c.start-2.ensures.told c.start-2.ensures.others c.in-Ok.ensures.took
+pub returns-in-Ok-start-clause-begun : goal.returns-in-Ok-start-clause-begun
+returns-in-Ok-start-clause-begun g c =
+    let e = c.in-Ok.ensures in
+    let x = c.in-Ok-start.ensures in
+    let wrote = c.start-2.ensures in
+    record {
+      lists = took_beside c.lists_stay.ensures c.args.base.now c.in-Ok.lists _ _ [] [] e.post e.skip wrote.told wrote.others e.took;
+      lex = x.took;
+      nothing = e.nothing;
+      post = e.post;
+      skip = e.skip;
+      base_is = x.base;
+      all_are = e.all;
+    }
 
 pub returns-in-Ok-start-clause-step : goal.returns-in-Ok-start-clause-step
 returns-in-Ok-start-clause-step g c =

@@ -21,17 +21,17 @@ returns-in-Err g c = record {
 
 pub write_index-requires-clause-can : goal.write_index-requires-clause-can
 write_index-requires-clause-can g c =
-    let start = c.in-Ok.ensures in
+    let start = c.in-Ok.ensures.begun in
     can_index_begun c.runs_stay.ensures.left c.args.terms.now.table.now.terms c.args.terms.now.docs.now _ _ _ _ _ _ c.args.base.now c.requires.left.0
     c.requires.left.1 c.requires.base c.start_writers.ensures.step.wrote start.lists start.lex start.post start.skip
-    start.base (omega (arith, start.all, c.len-all.ensures, c.args.sums.now.ok.0)) start.nothing
+    start.base_is (omega (arith, start.all_are, c.len-all.ensures, c.args.sums.now.ok.0)) start.nothing
 
 pub returns : goal.returns
 returns g c =
     let terms = c.args.terms.now.table.now.terms in
     let docs = c.args.terms.now.docs.now in
-    let start = c.in-Ok.ensures in
-    let all : c.in-Ok.writer.lists.all ≡ length c.args.sums.now.items = omega (arith, start.all, c.len-all.ensures, c.args.sums.now.ok.0) in
+    let start = c.in-Ok.ensures.begun in
+    let all : c.in-Ok.writer.lists.all ≡ length c.args.sums.now.items = omega (arith, start.all_are, c.len-all.ensures, c.args.sums.now.ok.0) in
     let wrote = c.start_writers.ensures.step.wrote in
     let e = c.write_index.ensures in
     record {
