@@ -90,6 +90,21 @@ pub record KeepsPages (base : List ℕ) (files : Option Files) (one other : Pagi
   pub text : KeepsPage base Text files one
   pub places : KeepsPage base Places files other
 
+-- a claim on the parts of a base was compared with them, by the page of Text and the page of Places that are kept
+pub record ComparedHeld {T : Type 0} (claim : Parts → Type 0) (base : List ℕ) (text places : Paging)
+    (result : Result T PartErr) (files_before files_now : Option Files) (reads_before reads_now : Reads)
+    (faults_before faults_now : ℕ) : Type 0 where
+  -- the claim was compared with the parts
+  pub parts : Compared claim base result files_before files_now reads_before reads_now faults_before faults_now
+  -- the pages still agree with their parts
+  pub pages : KeepsPages base files_now text places
+
+-- the same by the functions that tell of a store
+abbrev pub ComparesHeld : {X T : Type 0} → (Parts → Type 0) → List ℕ → Paging → Paging → Result T PartErr →
+    (X → Option Files) → (X → Reads) → (X → ℕ) → X → X → Type 0
+ComparesHeld claim base text places result files reads faults before now = Between files reads faults before now
+    (ComparedHeld claim base text places result)
+
 -- ---- what they start from
 
 -- a reader of the text of a set, whose head is in range
@@ -102,6 +117,12 @@ pub record ReadsBy (r : TextReading) (files : Option Files) (head : Head) : Type
   pub documents : r.documents ≡ head.documents
   -- its codes are those of a model
   pub model : IsModel r.code
+
+-- such a reader, and a page each of Text and of Places to compare with
+pub record CanReadHeld (r : TextReading) (files : Option Files) (base : List ℕ) (head : Head) (text places : Paging) :
+    Type 0 where
+  pub reads : ReadsBy r files head
+  pub pages : KeepsPages base files text places
 
 -- a reader of a text of so many documents, and the table of the terms of its words
 pub record HasTerms (r : TextReading) (files : Option Files) (table : TermNumbers) (documents : ℕ) : Type 0 where

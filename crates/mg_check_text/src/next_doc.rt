@@ -8,7 +8,7 @@ ghost use Rattle.mg_text.specs.Reading.{TextFits};
 ghost use Rattle.mg_check_text.specs.Checking.{CodeStands, ForNextDoc, FoundMore, HasAdded, IsInRange, PlaceStands, StandsNext, WhereRead};
 ghost use Rattle.mg_check_parts.specs.Refusals.{OnBad};
 ghost use Rattle.mg_check_parts.specs.Decoding.{CanCode};
-ghost use Rattle.mg_check_text.specs.Reads.{Compares, FindsText, KeepsPages, ReadsBy, ReadsText};
+ghost use Rattle.mg_check_text.specs.Reads.{CanReadHeld, ComparesHeld, FindsText, KeepsPages, ReadsText};
 
 use crate::held::{Held, expect_kept};
 use crate::progress::Progress;
@@ -35,10 +35,8 @@ pub(crate) fn expect_place<S: Store>(
     requires pages { KeepsPages set.now.base.now (S.files store.old) held.old.text
         held.old.places }
     requires narrow { set.now.head.now.version ≡ 1 → place < 2 ^ 32 }
-    ensures pages { KeepsPages set.now.base.now (S.files store.new) held.new.text
-        held.new.places }
-    ensures compared { Compares (PlaceStands set.now.head.now.version number place)
-        set.now.base.now result S.files S.reads S.faults store.old store.new }
+    ensures { ComparesHeld (PlaceStands set.now.head.now.version number place) set.now.base.now
+        held.new.text held.new.places result S.files S.reads S.faults store.old store.new }
 {
     let file = FileRef {
         base: set.base,
@@ -132,11 +130,10 @@ fn expect_coded<S: Store>(
         held.old.places }
     requires place { progress.now.place ≤ 2 ^ 60 }
     requires narrow { set.now.head.now.version ≡ 1 → progress.now.place < 2 ^ 32 }
-    ensures pages { KeepsPages set.now.base.now (S.files store.new) held.new.text
-        held.new.places }
     ensures end { IfOk result (λ end. end ≡ progress.now.place + length coded.now) }
-    ensures compared { Compares (CodeStands set.now.head.now.version coded.now progress.now)
-        set.now.base.now result S.files S.reads S.faults store.old store.new }
+    ensures compared { ComparesHeld (CodeStands set.now.head.now.version coded.now progress.now)
+        set.now.base.now held.new.text held.new.places result S.files S.reads S.faults store.old
+        store.new }
 {
     let text = FileRef {
         base: set.base,
@@ -170,11 +167,9 @@ fn add_doc<S: Store>(
     requires bytes { progress.old.bytes < 2 ^ 32 }
     requires place { progress.old.place ≤ 2 ^ 60 }
     requires narrow { set.now.head.now.version ≡ 1 → progress.old.place < 2 ^ 32 }
-    ensures pages { KeepsPages set.now.base.now (S.files store.new) held.new.text
-        held.new.places }
-    ensures compared { Compares (StandsNext set.now.head.now.version model.now
-        held.old.document.bytes.items progress.old) set.now.base.now result S.files S.reads S.faults
-        store.old store.new }
+    ensures compared { ComparesHeld (StandsNext set.now.head.now.version model.now
+        held.old.document.bytes.items progress.old) set.now.base.now held.new.text held.new.places
+        result S.files S.reads S.faults store.old store.new }
     ensures added { OnOk result (HasAdded model.now held.old.document.bytes.items progress.old
         progress.new) }
     ensures short { OnOk result (coded_size model.now held.old.document.bytes.items
@@ -207,9 +202,8 @@ pub(crate) fn next_doc<S: Store>(
     held: &mut Held<'_, S>,
     progress: &mut Progress,
 ) -> Result<(), PartErr>
-    requires reads { ReadsBy reader.old (S.files store.old) set.now.head.now }
-    requires pages { KeepsPages set.now.base.now (S.files store.old) held.old.text
-        held.old.places }
+    requires can { CanReadHeld reader.old (S.files store.old) set.now.base.now set.now.head.now
+        held.old.text held.old.places }
     requires more { progress.old.documents < set.now.head.now.documents }
     requires range { IsInRange reader.old.code set.now.head.now progress.old }
     ensures pages { KeepsPages set.now.base.now (S.files store.new) held.new.text

@@ -7,7 +7,7 @@ ghost use Rattle.mg_defs.specs.Heads.{IsWithin};
 ghost use Rattle.mg_layout.specs.HeadAnswers.{fields_of};
 ghost use Rattle.mg_layout.specs.Stands.{parts_at};
 ghost use Rattle.mg_check_text.specs.Checking.{EndNumbers, EndsAt, FoundDocs, FoundSet, IsInRange, IsLoaded, WhereLoaded};
-ghost use Rattle.mg_check_text.specs.Reads.{Compares, FindsText, KeepsPages, ReadsBy};
+ghost use Rattle.mg_check_text.specs.Reads.{CanReadHeld, Compares, FindsText, KeepsPages, ReadsBy};
 
 use crate::held::Held;
 use crate::next_doc::{expect_place, next_doc};
@@ -33,9 +33,8 @@ fn read_docs<S: Store>(
     reader: &mut TextReader<'_, S>,
     held: &mut Held<'_, S>,
 ) -> Result<Progress, PartErr>
-    requires reads { ReadsBy reader.old (S.files store.old) set.now.head.now }
-    requires pages { KeepsPages set.now.base.now (S.files store.old) held.old.text
-        held.old.places }
+    requires { CanReadHeld reader.old (S.files store.old) set.now.base.now set.now.head.now
+        held.old.text held.old.places }
     ensures pages { KeepsPages set.now.base.now (S.files store.new) held.new.text
         held.new.places }
     ensures range { IfOk result (λ p. IsInRange reader.old.code set.now.head.now p) }
@@ -146,9 +145,8 @@ fn read_held<S: Store>(
     reader: &mut TextReader<'_, S>,
     held: &mut Held<'_, S>,
 ) -> Result<(), PartErr>
-    requires reads { ReadsBy reader.old (S.files store.old) set.now.head.now }
-    requires pages { KeepsPages set.now.base.now (S.files store.old) held.old.text
-        held.old.places }
+    requires { CanReadHeld reader.old (S.files store.old) set.now.base.now set.now.head.now
+        held.old.text held.old.places }
     ensures { FindsText (IsLoaded (S.files store.old) set.now.base.now set.now.head.now reader.old →
         OnOk result (FoundSet (S.files store.old) set.now.base.now set.now.head.now reader.old))
         (WhereLoaded (S.files store.old) set.now.base.now set.now.head.now reader.old)

@@ -9,20 +9,20 @@ use Rattle.mg_check_text.proofs.KeptLaws.{both_there}
 use Rattle.mg_check_text.proofs.next_doc.next_doc.Goals as goal
 
 pub add_doc-requires-clause-pages : goal.add_doc-requires-clause-pages
-add_doc-requires-clause-pages g c = both_there c.decode_next.ensures.text.looks.files c.requires.pages
+add_doc-requires-clause-pages g c = both_there c.decode_next.ensures.text.looks.files c.requires.can.pages
 
 pub returns-in-Err-clause-pages : goal.returns-in-Err-clause-pages
-returns-in-Err-clause-pages g c = both_there c.decode_next.ensures.text.looks.files c.requires.pages
+returns-in-Err-clause-pages g c = both_there c.decode_next.ensures.text.looks.files c.requires.can.pages
 
 pub add_doc-requires-clause-can : goal.add_doc-requires-clause-can
 add_doc-requires-clause-can g c =
     let same : c.model.result.now ≡ c.args.reader.now.code = c.model.ensures ∙ c.decode_next.ensures.text.same.code in
     let left : c.args.progress.now.bytes + length c.decode_next.new.held.bytes.items ≤ c.args.set.now.head.now.collection = omega (arith, c.in-Ok.ensures.short) in
-    let few = (head-few c.args.set.now.head.now c.requires.reads.within).0 in
+    let few = (head-few c.args.set.now.head.now c.requires.can.reads.within).0 in
     let range = c.requires.range in
     record {
       short = omega (arith, left, few);
-      model = subst IsModel (sym same) c.requires.reads.model;
+      model = subst IsModel (sym same) c.requires.can.reads.model;
       words = record { size = range.word_places ∙ ap (λ (code : TextCode). length code.words.pieces) (sym same); few = omega (arith, range.words, left, few) };
       others = record { size = range.other_places ∙ ap (λ (code : TextCode). length code.others.pieces) (sym same); few = omega (arith, range.others, left, few) };
     }
@@ -48,12 +48,16 @@ returns-clause-read g c = record {
   none = λ loaded docs so.
       let same : c.model.result.now ≡ c.args.reader.now.code = c.model.ensures ∙ c.decode_next.ensures.text.same.code in
       let files = c.decode_next.ensures.text.looks.files in
-      other-next c.decode_next.new.held.bytes.items c.add_doc.result loaded so c.requires.more
+      let before = g.S.Store.files c.args.store.now in
+      let there = g.S.Store.files c.decode_next.new.store in
+      let set = c.args.set.now in
+      let code = c.args.reader.now.code in
+      let doc = c.decode_next.new.held.bytes.items in
+      other-next doc c.add_doc.result loaded so c.requires.more
       (λ collection stand short. c.in-Ok.ensures.own collection (record { stands = stand; short = omega (arith, short) }))
-      (on-bad (IsNextDoc (parts_at (g.S.Store.files c.decode_next.new.store) c.args.set.now.base.now) c.args.set.now.head.now.version c.model.result.now c.decode_next.new.held.bytes.items c.args.progress.now)
-      (IsNextDoc (parts_at (g.S.Store.files c.args.store.now) c.args.set.now.base.now) c.args.set.now.head.now.version c.args.reader.now.code c.decode_next.new.held.bytes.items c.args.progress.now) c.add_doc.result
-      (λ next. next-there (g.S.Store.files c.args.store.now) (g.S.Store.files c.decode_next.new.store) c.args.set.now.base.now c.args.set.now.head.now.version
-      c.args.reader.now.code c.model.result.now c.decode_next.new.held.bytes.items c.args.progress.now files same next)
-      (c.add_doc.ensures.compared.other (told-there files loaded.told)));
-  text = text_looks c.in-Ok.ensures.text c.add_doc.ensures.compared.looks;
+      (on-bad (IsNextDoc (parts_at there set.base.now) set.head.now.version c.model.result.now doc c.args.progress.now)
+      (IsNextDoc (parts_at before set.base.now) set.head.now.version code doc c.args.progress.now) c.add_doc.result
+      (λ next. next-there before there set.base.now set.head.now.version code c.model.result.now doc c.args.progress.now files same next)
+      (c.add_doc.ensures.compared.parts.other (told-there files loaded.told)));
+  text = text_looks c.in-Ok.ensures.text c.add_doc.ensures.compared.parts.looks;
 }

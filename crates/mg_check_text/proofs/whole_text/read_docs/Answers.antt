@@ -5,14 +5,13 @@ use Rattle.mg_check_text.proofs.NextLaws.{code-range, docs-more, docs-none, none
 use Rattle.mg_dev.specs.declared.part_err.PartErr.TheVariants.{Memory}
 use Rattle.mg_check_text.proofs.whole_text.read_docs.Goals as goal
 
-pub next_doc-requires-clause-reads : goal.next_doc-requires-clause-reads
-next_doc-requires-clause-reads g c = reads_on c.requires.reads c.loop-number.invariant.text.fits c.loop-number.invariant.text.same
+pub next_doc-requires-clause-can : goal.next_doc-requires-clause-can
+next_doc-requires-clause-can g c =
+    let inv = c.loop-number.invariant in
+    record { reads = reads_on c.requires.reads inv.text.fits inv.text.same; pages = inv.pages }
 
 pub next_doc-requires-clause-range : goal.next_doc-requires-clause-range
 next_doc-requires-clause-range g c = code-range c.loop-number.invariant.text.same.code c.loop-number.invariant.range
-
-pub next_doc-requires-clause-pages : goal.next_doc-requires-clause-pages
-next_doc-requires-clause-pages g c = c.loop-number.invariant.pages
 
 pub loop-number-init : goal.loop-number-init
 loop-number-init g c =
