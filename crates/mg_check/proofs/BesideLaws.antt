@@ -20,9 +20,10 @@ use Rattle.mg_defs.proofs.TextBitsLaws.{cost-of_pieces}
 use Rattle.mg_defs.proofs.VocabularyLaws.{distinct-sorted}
 use Rattle.mg_laws.proofs.InOrderLaws.{Have, terms_there}
 use Rattle.mg_check_index.specs.Packing.{beside_in, beside_of}
-use Rattle.mg_check_index.specs.Listing.{HoldsLists, Ranged, lists_upto}
+use Rattle.mg_check_index.specs.Listing.{HoldsLists, Ranged, SameRooms, lists_upto}
 use Rattle.mg_check_index.proofs.CallerLemmas.{often_beside}
-use Rattle.mg_check.specs.IndexedText.{beside_behind}
+use Rattle.mg_check.specs.IndexedText.{HasRoomForNext, HasWholeRoom, beside_behind}
+use Rattle.mg_check.proofs.DocumentLaws.{room_for_all, room_stays}
 
 -- ---- the terms of a document
 
@@ -95,6 +96,14 @@ pub left_next : (w v : Ranged) (collection : List ℕ) (n : ℕ) → n < length 
     length (occurrences collection) / 256 ≤ w.left → 256 * w.left ≤ 256 * v.left + terms_upto n collection → beside_behind n collection ≤ v.left
 left_next w v collection n lt few room left =
     omega (arith, room, left, beside_few collection n lt few, terms_more collection n lt, terms_few collection (n + 1))
+
+-- so there is room for the document
+pub next_room : (w v : Ranged) (collection : List ℕ) (n : ℕ) → n < length (documents collection) → SameRooms w v → HasWholeRoom w collection →
+    256 * w.left ≤ 256 * v.left + terms_upto n collection → HasRoomForNext v n collection
+next_room w v collection n lt same room left = record {
+  each = room_for_all v collection (n + 1) (omega (arith, lt)) (room_stays w v collection same room.all).each;
+  beside = left_next w v collection n lt room.few room.beside left;
+}
 
 -- and is left behind it
 pub left_more : (w v u : Ranged) (collection : List ℕ) (n : ℕ) → n < length (documents collection) → length (documents collection) ≤ 2 ^ 24 →

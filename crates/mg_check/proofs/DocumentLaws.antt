@@ -16,7 +16,6 @@ use Rattle.mg_text.specs.Reading.{TextReading, TextStands}
 use Rattle.mg_check_parts.specs.Documents.{counted_in}
 use Rattle.mg_check_text.proofs.CallerLemmas.{table_terms}
 use Rattle.mg_check_index.specs.Listing.{HasRoomFor, HasRoomForAll, HoldsLists, Ranged, SameRooms, lists_of, lists_upto, postings_in, room_at, with_document}
-use Rattle.mg_check.specs.IndexedText.{beside_behind}
 
 -- ---- the posting of a document in the list of one of its terms
 
@@ -89,11 +88,10 @@ pub holds_upto : (w : Ranged) (collection : List ℕ) (n : ℕ) → n < length (
 holds_upto w collection n lt within holds = record { each = λ k in_range. holds.each k in_range ∙ upto_more collection n (w.first + k) lt (omega (arith, within, in_range)) }
 
 pub room_upto : (w : Ranged) (collection : List ℕ) (n : ℕ) → n < length (documents collection) → w.first + length w.next ≤ length (dictionary collection) →
-    HasRoomFor w (lists_upto (n + 1) collection) (beside_behind n collection) →
-    HasRoomFor w (with_document (lists_upto n collection) (n + 1) (counted_in (dictionary collection) (get_or (documents collection) n []))) (beside_behind n collection)
+    HasRoomFor w (lists_upto (n + 1) collection) →
+    HasRoomFor w (with_document (lists_upto n collection) (n + 1) (counted_in (dictionary collection) (get_or (documents collection) n [])))
 room_upto w collection n lt within room = record {
   each = λ k in_range. subst (λ ps. length ps ≤ room_at w k) (sym (upto_more collection n (w.first + k) lt (omega (arith, within, in_range)))) (room.each k in_range);
-  left = room.left;
 }
 
 -- the first documents have no more than all
@@ -105,12 +103,11 @@ grows_to collection t n (suc more) is =
     let next = ap (λ (ps : List Posting). length ps) (grows-by collection t n (omega (arith, is))) ∙ length-append (postings_upto n collection t) (one (n + 1) (freq collection (n + 1) t)) in
     omega (arith, grows_to collection t (n + 1) more (omega (arith, is)), next)
 
-pub room_for_all : (w : Ranged) (collection : List ℕ) (n beside : ℕ) → n ≤ length (documents collection) →
-    ((k : ℕ) → k < length w.next → room_at w k ≡ docs collection (get_or (dictionary collection) (w.first + k) [])) → beside ≤ w.left →
-    HasRoomFor w (lists_upto n collection) beside
-room_for_all w collection n beside le rooms left = record {
+pub room_for_all : (w : Ranged) (collection : List ℕ) (n : ℕ) → n ≤ length (documents collection) →
+    ((k : ℕ) → k < length w.next → room_at w k ≡ docs collection (get_or (dictionary collection) (w.first + k) [])) →
+    HasRoomFor w (lists_upto n collection)
+room_for_all w collection n le rooms = record {
   each = λ k in_range. omega (arith, rooms k in_range, grows_to collection (get_or (dictionary collection) (w.first + k) []) n (length (documents collection) - n) (omega (arith, le)));
-  left = left;
 }
 
 -- ---- lists as far as documents go

@@ -47,11 +47,16 @@ abbrev pub beside_behind : ℕ → List ℕ → ℕ
 beside_behind before collection = beside_in (before + 1)
     (counted_in (dictionary collection) (get_or (documents collection) before []))
 
+-- lists have room for the postings of the document behind so many
+pub record HasRoomForNext (lists : Ranged) (before : ℕ) (collection : List ℕ) : Type 0 where
+  pub each : HasRoomFor lists (lists_upto (before + 1) collection)
+  -- also for those that are kept beside
+  pub beside : beside_behind before collection ≤ lists.left
+
 -- for each of them whose lists are held as far as so many documents go, and have room for one document more
 abbrev pub ForNextLists : TextReading → Option Files → Ranged → ℕ → (List ℕ → Type 0) → Type 0
 ForNextLists reader files lists before claim = (collection : List ℕ) → TextStands reader files collection →
-    HoldsLists lists (lists_upto before collection) →
-    HasRoomFor lists (lists_upto (before + 1) collection) (beside_behind before collection) → claim collection
+    HoldsLists lists (lists_upto before collection) → HasRoomForNext lists before collection → claim collection
 
 -- for each collection whose text the reader reads, and whose terms, numbers of documents and occurrences these are
 abbrev pub ForIndex : TextReading → Option Files → Indexed → (List ℕ → Type 0) → Type 0

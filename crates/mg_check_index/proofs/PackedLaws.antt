@@ -1,6 +1,7 @@
 -- Postings of four bytes each: what a number stands for, and what changes where a posting more is kept beside.
-use Rattle.std.proofs.Common.{arith, ◌≡◌, ◌≢◌, ◌<◌, ◌≤◌, ◌+◌, ◌-◌, ◌*◌, ◌/◌, ◌%◌, ◌++◌, ◌∷◌, ◌∙◌, ◌==◌, Bool, true, false, cond, ℕ, zero, suc, List, [], ◌⊎◌, ◌^◌, inl, inr, length, map, take, drop, get_or, set, refl, sym, ap}
+use Rattle.std.proofs.Common.{arith, ◌≡◌, ◌≢◌, ◌<◌, ◌≤◌, ◌+◌, ◌-◌, ◌*◌, ◌/◌, ◌%◌, ◌++◌, ◌∷◌, ◌∙◌, ◌==◌, Bool, true, false, cond, ℕ, zero, suc, List, [], ◌⊎◌, ◌^◌, inl, inr, length, map, take, drop, get_or, set, min, refl, sym, ap}
 use Rattle.std.specs.List.{All}
+use Rattle.std.proofs.Math.Nat.{le-min, min-le_left, min-le_right}
 use Rattle.std.proofs.lemmas.Bool.{cases_lt}
 use Rattle.std.proofs.lemmas.Bool.Decides.{nat_tests}
 use Rattle.std.proofs.lemmas.List.{drop-map, get_or_append_left, map-set, take-map}
@@ -122,3 +123,20 @@ pub put_behind : (beside more : List Posting) (words : List ℕ) (place word : �
 put_behind beside more words place word p old old_is is known word_is =
     put_is beside more words place word p old old_is (ap (λ (b : List Posting). map (unpacked b) words) is ∙ all_stay beside p words known)
     (ap (λ (b : List Posting). unpacked b word) is ∙ own_place beside p word word_is)
+
+-- ---- room beside
+
+-- where a place is told by four bytes, the room that is left is not less by more than one, though it may have grown
+pub room_grown : (before now kept : ℕ) → before ≤ now → kept < now → kept < 2 ^ 24 →
+    min before (2 ^ 24) - kept ≤ min now (2 ^ 24) - (kept + 1) + 1
+room_grown before now kept more there few =
+    omega (arith, min-le_left before (2 ^ 24), min-le_right before (2 ^ 24), by_size (cases_lt now (2 ^ 24)))
+  where
+    by_size : (now < 2 ^ 24) ⊎ (2 ^ 24 ≤ now) → (now ≤ min now (2 ^ 24)) ⊎ (2 ^ 24 ≤ min now (2 ^ 24))
+    by_size (inl lt) = inl (le-min (omega arith) (omega (arith, lt)))
+    by_size (inr le) = inr (le-min (omega (arith, le)) (omega arith))
+
+-- where room is left, fewer are kept than there is capacity for, and than four bytes tell places
+pub room_left : (capacity kept : ℕ) → 1 ≤ min capacity (2 ^ 24) - kept → (kept + 1 ≤ capacity) × (kept < 2 ^ 24)
+room_left capacity kept some =
+    (omega (arith, some, min-le_left capacity (2 ^ 24)), omega (arith, some, min-le_right capacity (2 ^ 24)))

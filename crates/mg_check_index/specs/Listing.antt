@@ -45,7 +45,7 @@ pub record AreSizes (docs : List ℕ) (terms all : ℕ) : Type 0 where
 -- ---- the lists of a range of terms
 
 -- the number of the first term, where each list begins and the last one ends, where the next posting of each goes, all
--- postings, and how many more of them may be kept beside
+-- postings, and how many more of them may be kept beside without memory
 pub record Ranged : Type 0 where
   pub first : ℕ
   pub starts : List ℕ
@@ -89,10 +89,9 @@ pub record HasRooms (w : Ranged) (docs : List ℕ) (first end : ℕ) : Type 0 wh
 pub record HoldsLists (w : Ranged) (lists : ℕ → List Posting) : Type 0 where
   pub each : (k : ℕ) → k < length w.next → list_at w k ≡ lists (w.first + k)
 
--- there is room for these lists, and for so many postings more beside
-pub record HasRoomFor (w : Ranged) (lists : ℕ → List Posting) (beside : ℕ) : Type 0 where
+-- there is room for these lists
+pub record HasRoomFor (w : Ranged) (lists : ℕ → List Posting) : Type 0 where
   pub each : (k : ℕ) → k < length w.next → length (lists (w.first + k)) ≤ room_at w k
-  pub left : beside ≤ w.left
 
 -- the same lists, of which each may hold others
 pub record SameRooms (old new : Ranged) : Type 0 where
@@ -100,7 +99,8 @@ pub record SameRooms (old new : Ranged) : Type 0 where
   pub starts : new.starts ≡ old.starts
   pub count : length new.next ≡ length old.next
 
--- a step that adds to lists, and keeps at most so many postings beside: they are the same ones, and each is still within its room
+-- a step that adds to lists, and takes room beside for at most so many postings: they are the same ones, and each is still
+-- within its room
 pub record KeepsRooms (old new : Ranged) (beside : ℕ) : Type 0 where
   pub laid : IsLaidOut new
   pub same : SameRooms old new

@@ -1,5 +1,5 @@
 -- Postings of four bytes each: what such a number stands for.
-use Rattle.std.specs.Prelude.{ℕ, ◌+◌, ◌/◌, ◌%◌, ◌^◌, ◌<◌, ◌≤◌, ◌≡◌, ◌==◌, ◌&&◌, Bool, nat_le, nat_lt, if◌then◌else◌, List, All, get_or, length, set, sum_by}
+use Rattle.std.specs.Prelude.{ℕ, ◌+◌, ◌/◌, ◌%◌, ◌<◌, ◌≤◌, ◌≡◌, ◌==◌, ◌&&◌, Bool, nat_le, nat_lt, if◌then◌else◌, List, get_or, set, sum_by}
 use Rattle.mg_defs.specs.Limits.{version_2}
 use Rattle.mg_defs.specs.declared.Posting.{Posting}
 
@@ -17,21 +17,15 @@ unpacked beside word = if word % 256 == 0 then get_or beside (word / 256) nothin
 abbrev pub IsKnown : ℕ → ℕ → Type 0
 IsKnown count word = word % 256 ≡ 0 → word / 256 < count
 
--- The numbers of postings tell none behind those that are kept beside, for which there is room of this capacity; each place
--- there has a number.
-pub record ArePacked (words : List ℕ) (beside : List Posting) (capacity : ℕ) : Type 0 where
-  pub known : All (IsKnown (length beside)) words
-  pub few : capacity ≤ 2 ^ 24
-
--- postings, and how many more of them may be kept beside
+-- postings, and how many more of them may be kept beside without memory
 pub record Packed : Type 0 where
   pub all : List Posting
   pub left : ℕ
 
--- a posting is put in a place, and so many are kept beside for it, told before and after
+-- a posting is put in a place, and at most so much of the room beside is taken for it, told before and after
 pub record Puts (place : ℕ) (posting : Posting) (beside : ℕ) (old new : Packed) : Type 0 where
   pub all : new.all ≡ set old.all place posting
-  pub left : old.left ≡ new.left + beside
+  pub left : old.left ≤ new.left + beside
 
 -- a posting has room in four bytes
 abbrev pub is_small : Posting → Bool

@@ -2,9 +2,8 @@
 //!
 //! The postings of a range are the most that a check holds. The number of a document has at most 24 bits, and mostly it has
 //! a term fewer than 256 times. A posting that has no room so is kept beside, and the four bytes tell which one it is. Room for
-//! such postings is reserved at first, so no memory is wanted where a posting is put.
-ghost use Rattle.std.specs.Prelude.{◌≡◌, ◌≢◌, ◌<◌, ◌≤◌, ◌-◌, ◌/◌, ◌%◌, ◌^◌, ℕ, List, IfNone, IfOk, IfSome, IsTrue, OnSome, length, take, drop, get_or, min};
-ghost use Rattle.std.specs.Bool.{OnFalse, OnTrue};
+//! such postings is reserved at first. Only where that is used up, a posting that is put takes memory.
+ghost use Rattle.std.specs.Prelude.{◌≡◌, ◌≢◌, ◌<◌, ◌≤◌, ◌-◌, ◌/◌, ◌%◌, ◌^◌, ℕ, List, IfNone, IfOk, IfSome, IsOk, OnErr, OnOk, OnSome, length, take, drop, get_or, min};
 ghost use Rattle.mg_defs.specs.declared.Posting.{Posting};
 ghost use Rattle.mg_check_index.specs.Packing.{Puts, beside_of, nothing, unpacked};
 
@@ -29,14 +28,14 @@ pub(crate) struct PackedPostings {
 }
 
 impl Model for PackedPostings {
-    ghost use Rattle.std.specs.Prelude.{◌-◌, map, vec_capacity, vec_len};
-    ghost use Rattle.mg_check_index.specs.Packing.{ArePacked, Packed, unpacked};
+    ghost use Rattle.std.specs.Prelude.{◌-◌, ◌^◌, All, length, map, min, vec_capacity, vec_len};
+    ghost use Rattle.mg_check_index.specs.Packing.{IsKnown, Packed, unpacked};
 
     ghost Value = { Packed };
 
-    ghost view = { λ p. record { all = map (unpacked p.beside.items) p.packed.items; left = vec_capacity p.beside - vec_len p.beside } };
+    ghost view = { λ p. record { all = map (unpacked p.beside.items) p.packed.items; left = min (vec_capacity p.beside) (2 ^ 24) - vec_len p.beside } };
 
-    ghost invariant = { λ p. ArePacked p.packed.items p.beside.items (vec_capacity p.beside) };
+    ghost invariant = { λ p. All (IsKnown (length p.beside.items)) p.packed.items };
 }
 
 /// Some of the postings that are packed.
@@ -104,33 +103,38 @@ impl PackedPostings {
         Ok(PackedPostings { packed, beside })
     }
 
-    // Puts a posting in a place, and keeps it beside. False, and nothing changed, where no room is left there.
-    fn put_beside(&mut self, place: usize, posting: Posting) -> bool
+    // Puts a posting in a place, and keeps it beside. After want of memory nothing changed.
+    fn put_beside(&mut self, place: usize, posting: Posting) -> Result<(), AllocError>
         requires within { place < length self.old.all }
-        ensures put { OnTrue result (Puts place posting 1 self.old self.new) }
-        ensures same { OnFalse result (self.new ≡ self.old) }
-        ensures room { 1 ≤ self.old.left → IsTrue result }
+        ensures put { OnOk result (Puts place posting 1 self.old self.new) }
+        ensures same { OnErr result (self.new ≡ self.old) }
+        ensures sure { 1 ≤ self.old.left → IsOk result }
     {
         let kept = self.beside.len();
-        if kept == self.beside.capacity() {
-            return false;
+        if kept as u64 >= MOST_BESIDE {
+            return Err(AllocError);
+        }
+        match self.beside.reserve(1) {
+            Ok(()) => {}
+            Err(AllocError) => return Err(AllocError),
         }
         self.beside.push_reserved(posting);
         self.packed[place] = kept as u32 * LOW;
-        true
+        Ok(())
     }
 
-    /// Puts a posting in a place. False, and nothing changed, where it has no room in four bytes and none is left beside.
-    pub(crate) fn put(&mut self, place: usize, posting: Posting) -> bool
+    /// Puts a posting in a place. After want of memory nothing changed. None is wanted for a posting of four bytes, nor
+    /// where room is left beside.
+    pub(crate) fn put(&mut self, place: usize, posting: Posting) -> Result<(), AllocError>
         requires within { place < length self.old.all }
-        ensures put { OnTrue result (Puts place posting (beside_of posting) self.old self.new) }
-        ensures same { OnFalse result (self.new ≡ self.old) }
-        ensures room { beside_of posting ≤ self.old.left → IsTrue result }
+        ensures put { OnOk result (Puts place posting (beside_of posting) self.old self.new) }
+        ensures same { OnErr result (self.new ≡ self.old) }
+        ensures sure { beside_of posting ≤ self.old.left → IsOk result }
     {
         match pack(posting) {
             Some(word) => {
                 self.packed[place] = word;
-                true
+                Ok(())
             }
             None => self.put_beside(place, posting),
         }

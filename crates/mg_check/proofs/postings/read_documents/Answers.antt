@@ -1,9 +1,8 @@
 use Rattle.std.proofs.Common.{arith, ◌<◌, ◌+◌, length, refl}
 use Rattle.mg_defs.specs.Split.{documents}
 use Rattle.mg_check_index.proofs.CallerLemmas.{same_more}
-use Rattle.mg_check.specs.IndexedText.{beside_behind}
-use Rattle.mg_check.proofs.BesideLaws.{left_more, left_next}
-use Rattle.mg_check.proofs.DocumentLaws.{room_for_all, room_stays, upto_all, upto_none}
+use Rattle.mg_check.proofs.BesideLaws.{left_more, next_room}
+use Rattle.mg_check.proofs.DocumentLaws.{upto_all, upto_none}
 use Rattle.mg_check_text.proofs.CallerLemmas.{stands_on, terms_here, text_none, text_then}
 use Rattle.mg_check.proofs.postings.read_documents.Goals as goal
 
@@ -32,8 +31,7 @@ returns-in-Err-clause-never_bad g c = λ collection stand room.
     let there = stands_on _ _ _ _ collection inv.text.same inv.text.looks.files stand in
     let so_far = inv.held collection stand room in
     let lt : c.loop-before.before < length (documents collection) = omega (arith, c.loop-before-test.true, c.requires.text.all, stand.documents) in
-    let enough = room_for_all c.loop-before.lists collection (c.loop-before.before + 1) (beside_behind c.loop-before.before collection) (omega (arith, lt))
-    (room_stays _ _ collection inv.rooms room.all).each (left_next c.args.lists.now c.loop-before.lists collection c.loop-before.before lt room.few room.beside so_far.left) in
+    let enough = next_room c.args.lists.now c.loop-before.lists collection c.loop-before.before lt inv.rooms room so_far.left in
     c.in-Err.ensures.never_bad collection there so_far.lists enough
 
 pub returns-in-Err-clause-filled : goal.returns-in-Err-clause-filled
@@ -52,8 +50,7 @@ loop-before-preserved g c =
       held = λ collection stand room.
           let so_far = inv.held collection stand room in
           let lt : c.loop-before.before < length (documents collection) = omega (arith, c.loop-before-test.true, c.requires.text.all, stand.documents) in
-          let enough = room_for_all c.loop-before.lists collection (c.loop-before.before + 1) (beside_behind c.loop-before.before collection) (omega (arith, lt))
-          (room_stays _ _ collection inv.rooms room.all).each (left_next c.args.lists.now c.loop-before.lists collection c.loop-before.before lt room.few room.beside so_far.left) in
+          let enough = next_room c.args.lists.now c.loop-before.lists collection c.loop-before.before lt inv.rooms room so_far.left in
           let next = c.in-Ok.ensures.held collection (stands_on _ _ _ _ collection inv.text.same inv.text.looks.files stand) so_far.lists enough in
           record { lists = next.lists; left = left_more c.args.lists.now c.loop-before.lists c.read_document.new.lists collection c.loop-before.before lt room.few so_far.left next.left };
     }
