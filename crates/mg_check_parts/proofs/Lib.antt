@@ -8,3 +8,4 @@ mod Counts
 mod WeightSums
 mod CountedTerms
 pub mod CallerLemmas
+mod TermWords

@@ -51,3 +51,8 @@ pub record AreTermsOf (words : List (List ℕ)) (doc : List ℕ) (t : TermsRead)
   pub counts : All (IsCounted (length words)) t.counted
   -- no document has more terms
   pub short : length t.numbers < 2 ^ 32
+
+-- the terms that were read are those of some document
+pub record AreTermsOfSome (words : List (List ℕ)) (t : TermsRead) : Type 0 where
+  pub doc : List ℕ
+  pub terms : AreTermsOf words doc t

@@ -9,10 +9,11 @@ mod doc_terms;
 mod expected;
 mod recent;
 mod uses;
+mod word_table;
 mod words;
 
 pub use coded_doc::{CodedDoc, code_doc};
 pub use doc_terms::{DocTerms, weight_of};
 pub use expected::{expect_more, expect_whole, wanted};
 pub use uses::{Uses, expect_used};
-pub use words::expect_words;
+pub use word_table::WordTable;

@@ -1,7 +1,4 @@
 //! Whether the words of a model are words.
-//!
-//! Symbols tell the terms of a document without its bytes. There is a document of any words, so what is counted of them
-//! is counted of a document, whatever the text of a set holds.
 ghost use Rattle.std.specs.Prelude.{◌≡◌, ◌==◌, length, OnErr, OnOk};
 ghost use Rattle.std.specs.List.{prefix_len};
 ghost use Rattle.mg_defs.specs.Parse.{is_word_byte};
@@ -30,7 +27,7 @@ fn other_word(symbol: u32) -> Bad {
 }
 
 /// Refuses a model one of whose words has a byte that no word has. No model of a collection has one.
-pub fn expect_words(model: &TextModel) -> Result<(), Bad>
+pub(crate) fn expect_words(model: &TextModel) -> Result<(), Bad>
     ensures words { OnOk result (AreWords model.now.words.pieces) }
     ensures other { OnErr result (AreWords model.now.words.pieces → ⊥) }
 {

@@ -13,7 +13,6 @@ use Rattle.mg_model.specs.Terms.{TermNumbers, terms_and_numbers}
 use Rattle.mg_text.specs.Reading.{SameText, TextFits, TextReading}
 use Rattle.mg_check_parts.specs.Looks.{LooksAtSet}
 use Rattle.mg_check_parts.specs.Refusals.{IsNotDevice}
-use Rattle.mg_check_parts.specs.Words.{AreWords}
 use Rattle.mg_check_parts.proofs.CallerLemmas.{looks_bad, looks_err, looks_none, looks_ok, looks_own, looks_pure, looks_then, looks_two}
 use Rattle.mg_check_text.specs.Reads.{HasTerms, ReadsText}
 
@@ -72,7 +71,6 @@ terms_stay {a = a} {b = b} {table = table} fits same has = record {
   all = has.all ∙ sym same.documents;
   table_is = has.table_is ∙ sym (ap_words same);
   few = has.few;
-  words = subst (λ (code : TextCode). AreWords code.words.pieces) (sym same.code) has.words;
 }
   where
     ap_words : SameText a b → terms_and_numbers b.code.words.pieces ≡ terms_and_numbers a.code.words.pieces
@@ -80,7 +78,7 @@ terms_stay {a = a} {b = b} {table = table} fits same has = record {
 
 -- as many documents as the reader has
 pub terms_here : {a b : TextReading} {f g : Option Files} {table : TermNumbers} {documents : ℕ} → TextFits b g → SameText a b → HasTerms a f table documents → HasTerms b g table b.documents
-terms_here fits same has = let stay = terms_stay fits same has in record { fits = fits; all = refl; table_is = stay.table_is; few = has.few; words = stay.words }
+terms_here fits same has = let stay = terms_stay fits same has in record { fits = fits; all = refl; table_is = stay.table_is; few = has.few }
 
 -- a document was read
 pub text_read : {T : Type 0} {result : Result T PartErr} {old new : TextReading} {f g : Option Files} {r s : Reads} {m n : ℕ} → TextFits new g →

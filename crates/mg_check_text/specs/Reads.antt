@@ -22,7 +22,6 @@ use Rattle.mg_text.specs.Reading.{SameText, TextFits, TextReading, TextStands}
 use Rattle.mg_check_parts.specs.Looks.{LooksAtSet}
 use Rattle.mg_check_parts.specs.Refusals.{OnBad}
 use Rattle.mg_check_parts.specs.TermsRead.{AreTermsOf, TermsRead}
-use Rattle.mg_check_parts.specs.Words.{AreWords}
 
 -- ---- calls that read the text
 
@@ -134,8 +133,6 @@ pub record HasTerms (r : TextReading) (files : Option Files) (table : TermNumber
   pub table_is : table ≡ terms_and_numbers r.code.words.pieces
   -- no table has more terms
   pub few : length table.terms ≤ 2 ^ 22
-  -- its words are words
-  pub words : AreWords r.code.words.pieces
 
 -- ---- the terms of a document
 

@@ -1,17 +1,16 @@
 //! The terms of documents that are read one after the other.
 //!
 //! The words of a document are listed by their symbols, of which the table tells the terms. So no byte of a document is
-//! put together here, and no word is looked up. That each word of the model is a word was seen before.
+//! put together here, and no word is looked up.
 ghost use Rattle.std.specs.Prelude.{◌≡◌, ◌≤◌, IfErr, OnOk};
 ghost use Rattle.mg_dev.specs.Bads.{IsNotBad};
 ghost use Rattle.mg_dev.specs.Moments.{Between};
 ghost use Rattle.mg_text.specs.Reading.{WhereTextStands};
 ghost use Rattle.mg_check_text.specs.Reads.{HasTerms, ReadsText, HasReadTerms};
 
-use mg_check_parts::DocTerms;
+use mg_check_parts::{DocTerms, WordTable};
 use mg_defs::COLLECTION_BYTES;
 use mg_dev::{Bad, Part, PartErr, Store};
-use mg_model::TermTable;
 use mg_text::{TextReader, WordList};
 use std::alloc::{AllocError, Global};
 use std::marker::Model;
@@ -57,7 +56,7 @@ impl TermReader {
         &mut self,
         store: &mut S,
         reader: &mut TextReader<'_, S>,
-        table: &TermTable,
+        table: &WordTable,
         number: u32,
     ) -> Result<(), PartErr>
         requires text { HasTerms reader.old (S.files store.old) table.now reader.old.documents }

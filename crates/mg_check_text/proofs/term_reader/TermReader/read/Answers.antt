@@ -4,8 +4,8 @@ use Rattle.mg_dev.specs.declared.part_err.PartErr.TheVariants.{Bad, Memory}
 use Rattle.mg_defs.specs.CodedText.{TextCode}
 use Rattle.mg_defs.specs.Terms.{document}
 use Rattle.mg_model.specs.Terms.{terms_and_numbers}
-use Rattle.mg_check_parts.specs.Words.{AreWords, pieces_of}
-use Rattle.mg_check_parts.proofs.CallerLemmas.{has_terms, some_document, words_few, words_of_symbols}
+use Rattle.mg_check_parts.specs.Words.{pieces_of}
+use Rattle.mg_check_parts.proofs.CallerLemmas.{has_terms, words_few}
 use Rattle.mg_check_text.proofs.CallerLemmas.{doc_short}
 use Rattle.mg_check_text.proofs.ReadLaws.{text_bad, text_ok, text_read}
 use Rattle.mg_check_text.proofs.term_reader.TermReader.read.Goals as goal
@@ -32,25 +32,17 @@ take-requires-clause-symbols g c =
 pub returns-clause-terms : goal.returns-clause-terms
 returns-clause-terms g c =
     let code : c.model.result.now ≡ c.args.reader.now.code = c.model.ensures ∙ c.words.ensures.same.code in
-    let pieces : List (List ℕ) = c.model.result.now.words.pieces in
-    let symbols : List ℕ = c.symbols-symbols.result.now in
-    let words : AreWords c.model.result.now.words.pieces = subst (λ (k : TextCode). AreWords k.words.pieces) (sym code) c.requires.text.words in
-    let low : All (λ (s : ℕ). s < length c.args.reader.now.code.words.pieces) c.words.new.list.symbols =
-    All-from_recursion (λ (s : ℕ). s < length c.args.reader.now.code.words.pieces) c.words.new.list.symbols c.in-Ok.ensures.of_words in
-    let within : All (λ (s : ℕ). s < length c.model.result.now.words.pieces) c.symbols-symbols.result.now =
-    subst (λ (ss : List ℕ). All (λ (s : ℕ). s < length c.model.result.now.words.pieces) ss) (sym c.symbols-symbols.ensures)
-    (subst (λ (k : TextCode). All (λ (s : ℕ). s < length k.words.pieces) c.words.new.list.symbols) (sym code) low) in
-    let made = some_document (pieces_of pieces symbols) (words_of_symbols pieces symbols words within) in
+    let some = c.in-Ok-true.ensures.some (search rules) in
     let taken = c.in-Ok-true.ensures.terms (search rules) in
     let same : pieces_of c.model.result.now.words.pieces c.symbols-symbols.result.now ≡ pieces_of c.args.reader.now.code.words.pieces c.words.new.list.symbols =
     ap (λ (k : TextCode). pieces_of k.words.pieces c.symbols-symbols.result.now) code ∙ ap (pieces_of c.args.reader.now.code.words.pieces) c.symbols-symbols.ensures in
     record {
-      doc = made.0;
-      terms = taken made.0 made.1;
+      doc = some.doc;
+      terms = some.terms;
       own = λ collection stand.
           let short = doc_short collection c.args.number stand.few in
           taken (document collection c.args.number)
-          (has_terms pieces symbols (document collection c.args.number) (same ∙ c.in-Ok.ensures.content collection (record { stands = stand; short = short })));
+          (has_terms c.model.result.now.words.pieces c.symbols-symbols.result.now (document collection c.args.number) (same ∙ c.in-Ok.ensures.content collection (record { stands = stand; short = short })));
     }
 
 pub returns-clause-text : goal.returns-clause-text
