@@ -11,10 +11,10 @@ ghost use Rattle.mg_defs.specs.Limits.{version_2};
 
 use crate::pair_lexicon::{finish_terms, lexicon_pair, push_term, start_terms};
 use crate::pair_store::WrittenPair;
+use mg_check_parts::WordTable;
 use mg_dev::{PartErr, Store};
 use mg_layout::TermInfo;
 use mg_lex::{LexWriter, lexicon_has_its_terms};
-use mg_model::TermTable;
 use std::alloc::Global;
 
 /// The lexicon of the terms so far, written anew, and what was written of its two parts.
@@ -55,7 +55,7 @@ impl<'a> Lexicon<'a> {
     pub(crate) fn push<S: Store>(
         &mut self,
         store: &mut S,
-        table: &TermTable,
+        table: &WordTable,
         info: &TermInfo,
     ) -> Result<(), PartErr>
         requires can { CanPush table.now.terms info.now.number self.old.writer
@@ -71,7 +71,7 @@ impl<'a> Lexicon<'a> {
         ensures never_bad { IfErr result IsNotBad }
         ensures looks { Between S.files S.reads S.faults store.old store.new (LooksAtSet result) }
     {
-        let term = table.term(info.number);
+        let term = table.terms().term(info.number);
         push_term(store, &mut self.pair, &mut self.writer, term, info)
     }
 
