@@ -9,19 +9,17 @@ ghost use Rattle.mg_text.specs.Reading.{TextReading};
 ghost use Rattle.mg_check_text.specs.Checking.{HasHead, IsLoaded};
 ghost use Rattle.mg_check_text.specs.Reads.{HasTerms, ReadsBy};
 ghost use Rattle.mg_check_parts.specs.Refusals.{IsNotDevice};
-ghost use Rattle.mg_check_parts.specs.Words.{AreWords};
 ghost use Rattle.mg_check.specs.Rest.{Compares, ComparesByText, ComparesTold, HaveSizes, IsTold, PartsStand, RestStands, SetChecked};
 ghost use Rattle.mg_model.specs.Terms.{terms_and_numbers};
 
 use crate::counting::{CountedSet, check_terms};
 use crate::index::check_index;
 use mg_check_index::{Indexed, SKIP_ENTRY_BYTES};
-use mg_check_parts::expect_words;
+use mg_check_parts::WordTable;
 use mg_check_text::{load_text, read_text};
 use mg_defs::{LEAST_BUDGET, OCCURRENCE_BYTES};
 use mg_dev::{Bad, FileRef, Part, PartErr, Store};
 use mg_layout::{Head, expect_size};
-use mg_model::TermTable;
 use mg_text::TextReader;
 use std::alloc::Global;
 
@@ -116,7 +114,7 @@ fn check_parts<S: Store>(
     base: &str,
     head: &Head,
     reader: &mut TextReader<'_, S>,
-    table: &TermTable,
+    table: &WordTable,
 ) -> Result<(), PartErr>
     requires reads { ReadsBy reader.old (S.files store.old) head.now }
     requires text { HasTerms reader.old (S.files store.old) table.now head.now.documents }
@@ -158,11 +156,10 @@ fn check_told<S: Store>(
     base: &str,
     head: &Head,
     reader: &mut TextReader<'_, S>,
-    table: &TermTable,
+    table: &WordTable,
 ) -> Result<(), PartErr>
     requires reads { ReadsBy reader.old (S.files store.old) head.now }
     requires table { table.now ≡ terms_and_numbers reader.old.code.words.pieces }
-    requires words { AreWords reader.old.code.words.pieces }
     ensures rest { Between S.files S.reads S.faults store.old store.new
         (ComparesByText reader.old (RestStands (S.files store.old) base.now head.now) result) }
 {
@@ -174,8 +171,8 @@ fn check_told<S: Store>(
     check_parts(alloc, store, base, head, reader, table)
 }
 
-// Sees the same, where each word of the model is a word, and makes the table, which is dropped here: so who compares has
-// none of its parts to drop.
+// Sees the same, and makes the table, which is dropped here: so who compares has none of its parts to drop. A model one of
+// whose words is none is refused.
 fn check_rest<S: Store>(
     alloc: Global,
     store: &mut S,
@@ -187,13 +184,9 @@ fn check_rest<S: Store>(
     ensures rest { Between S.files S.reads S.faults store.old store.new
         (ComparesByText reader.old (RestStands (S.files store.old) base.now head.now) result) }
 {
-    match expect_words(reader.model()) {
-        Ok(()) => {}
-        Err(bad) => return Err(PartErr::Bad(bad)),
-    }
-    match TermTable::of(alloc, reader.model()) {
+    match WordTable::of(alloc, reader.model()) {
         Ok(table) => check_told(alloc, store, base, head, reader, &table),
-        Err(_) => Err(PartErr::Memory),
+        Err(refusal) => Err(refusal),
     }
 }
 

@@ -13,9 +13,9 @@ ghost use Rattle.mg_check.specs.Rest.{RefutesTerms};
 ghost use Rattle.mg_defs.specs.Limits.{least_cap, greatest_cap};
 
 use mg_check_index::Tally;
+use mg_check_parts::WordTable;
 use mg_check_text::TermReader;
 use mg_dev::{PartErr, Store};
-use mg_model::TermTable;
 use mg_text::TextReader;
 use std::alloc::{AllocError, Global};
 
@@ -23,7 +23,7 @@ use std::alloc::{AllocError, Global};
 #[derive(Drop)]
 pub(crate) struct CountedSet<'t> {
     pub(crate) base: &'t str,
-    pub(crate) table: &'t TermTable,
+    pub(crate) table: &'t WordTable,
     pub(crate) cap: u32,
     pub(crate) documents: u32,
 }
@@ -41,7 +41,7 @@ pub(crate) struct Counts {
 fn count_document<S: Store>(
     store: &mut S,
     reader: &mut TextReader<'_, S>,
-    table: &TermTable,
+    table: &WordTable,
     before: u32,
     terms: &mut TermReader,
     tally: &mut Tally<'_>,
@@ -66,7 +66,7 @@ fn count_document<S: Store>(
 fn count_documents<S: Store>(
     store: &mut S,
     reader: &mut TextReader<'_, S>,
-    table: &TermTable,
+    table: &WordTable,
     documents: u32,
     terms: &mut TermReader,
     tally: &mut Tally<'_>,
@@ -91,7 +91,7 @@ fn count_text<S: Store>(
     alloc: Global,
     store: &mut S,
     reader: &mut TextReader<'_, S>,
-    table: &TermTable,
+    table: &WordTable,
     documents: u32,
     tally: &mut Tally<'_>,
 ) -> Result<(), PartErr>

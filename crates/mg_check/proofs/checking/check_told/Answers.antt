@@ -57,5 +57,4 @@ check_parts-requires-clause-text g c =
       all = sym c.requires.reads.documents;
       table_is = c.requires.table;
       few = c.count.ensures.few;
-      words = c.requires.words;
     }
