@@ -1,5 +1,5 @@
 -- Documents that are made of words, and the words of a collection.
-use Rattle.std.proofs.Common.{arith, ◌≡◌, ◌<◌, ◌≤◌, ◌+◌, ℕ, zero, suc, ◌==◌, Bool, true, not, List, [], ◌∷◌, ◌++◌, length, map, filter, get_or, slice_get, Some, take, All, refl, sym, ap, subst, ◌∙◌, inl, inr}
+use Rattle.std.proofs.Common.{arith, ◌≡◌, ◌<◌, ◌≤◌, ℕ, zero, suc, ◌==◌, Bool, true, not, List, [], ◌∷◌, ◌++◌, length, map, filter, get_or, slice_get, Some, take, All, refl, sym, ap, subst, ◌∙◌, inl, inr}
 use Rattle.std.specs.List.{AllByRecursion, flat_map, list_any, prefix_len}
 use Rattle.std.specs.Str.{bytes_eq}
 use Rattle.std.proofs.lemmas.Bool.{cases_Bool, eqb-true}
@@ -9,7 +9,7 @@ use Rattle.std.proofs.lemmas.List.Elements.{All-map, recursion_from_All}
 use Rattle.mg_defs.specs.declared.Stream.TheVariants.{Words, Others}
 use Rattle.mg_defs.specs.Parse.{ArePairs, EndsBefore, Pair, is_of_kind, is_word_byte, parse, text}
 use Rattle.mg_defs.specs.Split.{documents}
-use Rattle.mg_defs.specs.Terms.{folded, is_empty, terms, terms_of_words}
+use Rattle.mg_defs.specs.Terms.{folded, is_empty, terms_of_words}
 use Rattle.mg_defs.specs.Vocabulary.{all_pieces, piece_of_pair, pieces_in, sorted_pieces}
 use Rattle.mg_defs.proofs.ParseLaws.{front-passes, parse-is, parse-unique, parse_short}
 use Rattle.mg_defs.proofs.SortedLaws.{has-from, same-is, sorted-is}
