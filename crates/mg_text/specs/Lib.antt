@@ -6,3 +6,4 @@ pub mod Held
 pub mod Listing
 pub mod HeldPairs
 pub mod Stood
+pub mod PieceCounts

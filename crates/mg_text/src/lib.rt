@@ -11,6 +11,9 @@
 mod closing;
 mod decoder;
 mod held_document;
+mod piece_counter;
+mod piece_counts;
+mod piece_kinds;
 mod places;
 mod reader_laws;
 mod reader_parts;
@@ -22,6 +25,7 @@ mod word_lister;
 
 pub use closing::is_closed;
 pub use held_document::HeldDocument;
+pub use piece_counts::PieceCounts;
 pub use reader_laws::texts_stand;
 pub use show_buffer::ShowBuffer;
 pub use text_reader::TextReader;

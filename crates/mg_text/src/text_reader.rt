@@ -9,20 +9,24 @@ ghost use Rattle.mg_front.specs.Reading.{IsNotBad, LookedAt};
 ghost use Rattle.mg_text.specs.Decoding.{bytes_to_come};
 ghost use Rattle.mg_text.specs.Held.{ForShortDocument, WhereShort};
 ghost use Rattle.mg_text.specs.Listing.{ReadsWords};
+ghost use Rattle.mg_text.specs.PieceCounts.{CountsPieces};
 ghost use Rattle.mg_text.specs.Reading.{AnswersReader, CanRead, ComparesSizes, DiffersInSize, GathersDoc, IsReaderOver, IsTextReader, ReadsDoc, TextFits, TextStands, WhereIsText, WhereTextStands, WritesDocument, GatheredAll, WroteAll, stored_at};
 ghost use Rattle.mg_dev.specs.Moments.{Between};
 ghost use Rattle.mg_dev.specs.Streams.{AfterPut};
 
 use crate::decoder::{gather_doc, show_doc};
+use crate::piece_counter::{count_doc, is_failure};
+use crate::piece_counts::PieceCounts;
+use crate::piece_kinds::has_pieces_of;
 use crate::places::{first_byte, width_of};
 use crate::reader_parts::ReaderParts;
 use crate::show_buffer::ShowBuffer;
 use crate::word_list::WordList;
 use crate::word_lister::list_doc;
 use mg_bits::{BitReader, PageFeed};
-use mg_dev::{FileRef, Part, PartErr, ShowErr, Sink, Store};
+use mg_dev::{Failed, FileRef, Part, PartErr, ShowErr, Sink, Store};
 use mg_layout::{Head, expect_size};
-use mg_model::TextModel;
+use mg_model::{Stream, TextModel};
 use std::alloc::{AllocError, Global};
 use std::marker::Model;
 
@@ -283,6 +287,44 @@ impl<'a, S: Store> TextReader<'a, S> {
         self.text.seek(8 * byte);
         list.begin(most, 8 * byte);
         list_doc(&self.model, &mut self.text, store, list)
+    }
+
+    /// Whether each piece of the models is such as documents have: those of a collection's text have no other
+    /// ones. Nothing is promised of it.
+    pub fn has_pieces(&self) -> bool {
+        has_pieces_of(&self.model, Stream::Words) && has_pieces_of(&self.model, Stream::Others)
+    }
+
+    /// Counts the pieces of a document, from 1 to the number of documents, and answers how many pairs it has. None where
+    /// the text is damaged or its pieces come as in no document, memory is wanted or there are too many pieces: then the
+    /// counts are of no use, and it is not told why. The reader stays of use whatever it answers.
+    ///
+    /// # Errors
+    ///
+    /// `Failed` where the store failed.
+    pub fn count(
+        &mut self,
+        store: &mut S,
+        number: u32,
+        counts: &mut PieceCounts,
+    ) -> Result<Option<u32>, Failed>
+        requires { CanRead self.old (S.files store.old) number }
+        ensures { Between S.files S.reads S.faults store.old store.new
+            (CountsPieces number result self.old self.new counts.old counts.new) }
+    {
+        let (version, size) = (self.version, self.size);
+        let byte = match first_byte(&mut self.places, store, version, size, number - 1) {
+            Ok(byte) => byte,
+            Err(refusal) => {
+                let failed = is_failure(&refusal);
+                if failed {
+                    return Err(Failed);
+                }
+                return Ok(None);
+            }
+        };
+        self.text.seek(8 * byte);
+        count_doc(&self.model, &mut self.text, store, counts)
     }
 
     /// The models of both streams, as they were loaded.
