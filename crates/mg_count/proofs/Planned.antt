@@ -17,7 +17,7 @@ use Rattle.mg_defs.proofs.VocabularyLaws.{collection-symbols}
 use Rattle.mg_model.specs.Terms.{TermNumbers, terms_and_numbers}
 use Rattle.mg_count.specs.Counting.{Counting, IsCountOf}
 use Rattle.mg_count.specs.Pairs.{paired}
-use Rattle.mg_count.specs.Plans.{IsPlan, IsPlanOf, IsRoomFor, Plan, Rooming}
+use Rattle.mg_count.specs.Plans.{AreCountsOf, IsPlan, IsPlanOf, IsRoomFor, Plan, Rooming}
 
 -- the laws of lower crates that a plan stands on
 pub record PlanLaws : Type 0 where
@@ -63,6 +63,38 @@ plan-is laws p collection few h table =
       terms = table;
       pairs = omega (arith, ap length h.pairs, length-map (documents collection) (λ (doc : List ℕ). length (parse doc)), h.limits.documents);
       small = omega (arith, ap sum h.pairs, laws.few_pairs collection, few);
+    }
+
+-- ---- what was counted otherwise
+
+counted-code : (kind : Stream) (collection : List ℕ) (entries : List (List ℕ × ℕ)) (code : StreamCode) → entries ≡ vocabulary (all_pieces kind collection) →
+    code.pieces ≡ sorted_of entries → IsHuffman (counts_of entries) code.lengths → IsCodeOf kind collection code
+counted-code kind collection entries code is pieces lengths =
+    let symbols = collection-symbols kind collection in
+    record {
+      pieces = pieces ∙ ap sorted_of is ∙ symbols.0;
+      lengths = subst (λ (counts : List ℕ). IsHuffman counts code.lengths) (ap counts_of is ∙ symbols.1) lengths;
+    }
+
+pub plan-of-counts : ((collection : List ℕ) → (terms_and_numbers (sorted_pieces Words collection)).terms ≡ dictionary collection) →
+    (words others : List (List ℕ × ℕ)) (p : Plan) (collection : List ℕ) → length p.pairs ≤ 2 ^ 24 → IsStreamCode p.code.words → IsStreamCode p.code.others →
+    AreCountsOf words others p.pairs p.open_end collection → p.code.words.pieces ≡ sorted_of words → p.code.others.pieces ≡ sorted_of others →
+    IsHuffman (counts_of words) p.code.words.lengths → IsHuffman (counts_of others) p.code.others.lengths → p.terms ≡ terms_and_numbers p.code.words.pieces →
+    IsPlanOf p collection
+plan-of-counts terms words others p collection few word_code other_code h word_pieces other_pieces word_lengths other_lengths table =
+    let of_words = counted-code Words collection words p.code.words h.words_are word_pieces word_lengths in
+    let of_others = counted-code Others collection others p.code.others h.others_are other_pieces other_lengths in
+    record {
+      limits = record {
+        bytes = omega (arith, h.few);
+        documents = omega (arith, few, ap length h.pairs_are, length-map (documents collection) (λ (doc : List ℕ). length (parse doc)));
+        words = omega (arith, ap length of_words.pieces, word_code.few);
+        others = omega (arith, ap length of_others.pieces, other_code.few);
+      };
+      code = (of_words, of_others);
+      pairs = h.pairs_are;
+      terms = ap (λ (t : TermNumbers). t.terms) table ∙ ap (λ (words : List (List ℕ)). (terms_and_numbers words).terms) of_words.pieces ∙ terms collection;
+      open_end = h.end;
     }
 
 -- ---- a plan with its room

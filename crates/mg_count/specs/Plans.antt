@@ -1,10 +1,12 @@
 -- What the first pass hands on to the second.
-use Rattle.std.specs.Prelude.{◌≡◌, ◌≤◌, ◌-◌, ◌^◌, ℕ, Bool, List, [], length, replicate, sum}
+use Rattle.std.specs.Prelude.{◌≡◌, ◌≤◌, ◌<◌, ◌-◌, ◌^◌, ℕ, Bool, List, [], length, replicate, sum}
 use Rattle.mg_defs.specs.CodedText.{IsTextCode, TextCode}
 use Rattle.mg_defs.specs.WithinLimits.{IsWithinLimits}
 use Rattle.mg_defs.specs.Marks.{pair_counts}
 use Rattle.mg_defs.specs.Means.{IsModel}
 use Rattle.mg_defs.specs.Split.{has_open_end}
+use Rattle.mg_defs.specs.Vocabulary.{all_pieces, vocabulary}
+use Rattle.mg_defs.specs.declared.Stream.TheVariants.{Words, Others}
 use Rattle.mg_defs.specs.Terms.{dictionary}
 use Rattle.mg_model.specs.Terms.{TermNumbers, terms_and_numbers}
 use Rattle.mg_runs.specs.Pooled.{Pooled}
@@ -40,6 +42,14 @@ pub record IsPlanOf (p : Plan) (collection : List ℕ) : Type 0 where
   pub pairs : p.pairs ≡ pair_counts collection
   pub terms : p.terms.terms ≡ dictionary collection
   pub open_end : p.open_end ≡ has_open_end collection
+
+-- These are the words, the others and the pairs of each document of a collection of fewer than 2^32 bytes.
+pub record AreCountsOf (words others : List (List ℕ × ℕ)) (pairs : List ℕ) (open_end : Bool) (collection : List ℕ) : Type 0 where
+  pub few : length collection < 2 ^ 32
+  pub words_are : words ≡ vocabulary (all_pieces Words collection)
+  pub others_are : others ≡ vocabulary (all_pieces Others collection)
+  pub pairs_are : pairs ≡ pair_counts collection
+  pub end : open_end ≡ has_open_end collection
 
 -- room for what the second pass counts: the pool of the runs, how many documents have each term, and the sum of squared weights of each document
 pub record Rooming : Type 0 where

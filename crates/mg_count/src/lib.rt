@@ -22,5 +22,5 @@ mod whole;
 pub use count::Count;
 pub use doc_counts::DocCounts;
 pub use met::Met;
-pub use plan::{Entries, Plan, Room};
+pub use plan::{Entries, Plan, Room, plan_of_counts};
 pub use scanner::Scanner;

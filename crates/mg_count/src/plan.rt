@@ -2,17 +2,17 @@
 //!
 //! Both are made before anything is written. So a build that lacks memory for them has left all files
 //! as they were.
-ghost use Rattle.std.specs.Prelude.{◌≡◌, ◌≤◌, ℕ, List, replicate, IfOk};
+ghost use Rattle.std.specs.Prelude.{◌≡◌, ◌≤◌, ◌-◌, ◌^◌, ℕ, List, length, replicate, sum, IfOk};
 ghost use Rattle.mg_defs.specs.Limits.{greatest_budget, least_budget};
 ghost use Rattle.mg_count.specs.Counting.{IsCountOf};
 ghost use Rattle.mg_count.specs.Entries.{AreEntries};
-ghost use Rattle.mg_count.specs.Plans.{IsPlan, IsPlanOf, IsRoomFor, plan_by};
+ghost use Rattle.mg_count.specs.Plans.{AreCountsOf, IsPlan, IsPlanOf, IsRoomFor, plan_by};
 
 use crate::counts::Counts;
 use crate::doc_counts::DocCounts;
 use crate::pairs::pair;
 use mg_laws::{few_of_each, limits_of_marks, marks_have_all};
-use mg_model::{Stream, TermTable, TextModel, codes_are_models, terms_are_the_dictionary};
+use mg_model::{Stream, TermTable, TextModel, Vocab, codes_are_models, terms_are_the_dictionary};
 use mg_runs::Pool;
 use std::alloc::{AllocError, Global};
 use std::marker::Model;
@@ -72,6 +72,32 @@ impl Plan {
         terms_are_the_dictionary();
         let (words, others, pairs) = counts.into_parts();
         let model = TextModel::of(alloc, words, others)?;
+        match Plan::by(alloc, model, pairs, open_end) {
+            Ok(plan) => Ok(plan),
+            Err(refusal) => Err(refusal),
+        }
+    }
+
+    // The plan of pieces and pairs that were counted so.
+    fn of_counts(
+        alloc: Global,
+        words: Vocab,
+        others: Vocab,
+        pairs: Vec<u32>,
+        open_end: bool,
+    ) -> Result<Self, AllocError>
+        requires few { length pairs.items ≤ 2 ^ 24 }
+        requires small { sum pairs.items ≤ 2 ^ 32 - 1 }
+        ensures plan { IfOk result (λ plan. IsPlan plan) }
+        ensures of { (collection : List ℕ) →
+            AreCountsOf words others pairs.items open_end collection →
+            IfOk result (λ plan. IsPlanOf plan collection) }
+    {
+        terms_are_the_dictionary();
+        let model = TextModel::of(alloc, words, others)?;
+        // For the proof: the code of each stream of a model is one of a stream.
+        let _ = model.canon(Stream::Words);
+        let _ = model.canon(Stream::Others);
         match Plan::by(alloc, model, pairs, open_end) {
             Ok(plan) => Ok(plan),
             Err(refusal) => Err(refusal),
@@ -152,6 +178,33 @@ pub(crate) fn plan_of(
     ensures room { IfOk result (λ r. IsRoomFor r.1 r.0 budget) }
 {
     let plan = match Plan::of(alloc, counts, open_end) {
+        Ok(plan) => plan,
+        Err(refusal) => return Err(refusal),
+    };
+    let room = Room::new(alloc, &plan, budget);
+    pair(plan, room)
+}
+
+/// The plan of pieces and pairs that were counted otherwise than byte by byte, and room for what its second pass counts.
+pub fn plan_of_counts(
+    alloc: Global,
+    pieces: (Vocab, Vocab),
+    pairs: Vec<u32>,
+    open_end: bool,
+    budget: u64,
+) -> Result<(Plan, Room), AllocError>
+    requires least { least_budget ≤ budget }
+    requires most { budget ≤ greatest_budget }
+    requires few { length pairs.items ≤ 2 ^ 24 }
+    requires small { sum pairs.items ≤ 2 ^ 32 - 1 }
+    ensures plan { IfOk result (λ r. IsPlan r.0) }
+    ensures of { (collection : List ℕ) →
+        AreCountsOf pieces.0 pieces.1 pairs.items open_end collection →
+        IfOk result (λ r. IsPlanOf r.0 collection) }
+    ensures room { IfOk result (λ r. IsRoomFor r.1 r.0 budget) }
+{
+    let (words, others) = pieces;
+    let plan = match Plan::of_counts(alloc, words, others, pairs, open_end) {
         Ok(plan) => plan,
         Err(refusal) => return Err(refusal),
     };
