@@ -6,6 +6,7 @@ mod StopLaws
 mod HeadLaws
 mod GivenLaws
 mod PassLaws
+mod TallyLaws
 mod LimitLaws
 mod MergeLaws
 mod WrittenLaws

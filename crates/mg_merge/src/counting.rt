@@ -1,18 +1,137 @@
 //! The first pass over two texts.
-ghost use Rattle.std.specs.Prelude.{◌≤◌, ℕ, List, [], IfOk, OnOk};
+//!
+//! The pieces of a text are told by its symbols, so that no byte has to be looked at. That is so of texts that stand, and is
+//! promised of them alone. Where such a count does not come to its end, the bytes are counted: then it is told why.
+ghost use Rattle.std.specs.Prelude.{◌≡◌, ◌≤◌, ◌+◌, ◌-◌, ◌^◌, ◌++◌, ◌∷◌, ℕ, List, [], IfOk, IfSome, OnOk, sum};
+ghost use Rattle.std.specs.Bool.{OnTrue};
 ghost use Rattle.mg_defs.specs.Limits.{greatest_budget, least_budget};
 ghost use Rattle.mg_make.specs.Counting.{HasCounted};
 ghost use Rattle.mg_make.specs.Outcomes.{BetweenMoments};
 ghost use Rattle.mg_make.specs.Plans.{IsPlan, IsPlanOf, IsRoomFor};
-ghost use Rattle.mg_merge.specs.Counted.{CountsTexts};
+ghost use Rattle.mg_defs.specs.Split.{documents};
+ghost use Rattle.mg_merge.specs.Counted.{AreFewPairs, AreTallied, CountsTexts, TalliesTexts};
 ghost use Rattle.mg_merge.specs.Passes.{AreAllGiven};
 ghost use Rattle.mg_merge.specs.Texts.{TextsFit, TextsStand};
 
 use crate::documents::Documents;
 use crate::retelling::{too_long, too_short};
-use mg_dev::{Fault, Store};
+use mg_count::plan_of_counts;
+use mg_dev::{Failed, Fault, Store};
 use mg_make::{Count, Plan, Room};
+use mg_text::PieceCounts;
 use std::alloc::Global;
+
+/// The most documents of a collection.
+const MOST_DOCUMENTS: u32 = 1 << 24;
+
+// Keeps how many pairs a document has, where so many more may come. False where there are too many, or no memory.
+fn keep_pairs(pairs: &mut Vec<u32>, left: &mut u32, found: u32) -> bool
+    requires few { sum pairs.old.items + left.old ≡ 2 ^ 32 - 1 }
+    ensures kept { OnTrue result (pairs.new.items ≡ pairs.old.items ++ found ∷ []) }
+    ensures few { OnTrue result (sum pairs.new.items + left.new ≡ 2 ^ 32 - 1) }
+{
+    if found > *left {
+        return false;
+    }
+    *left -= found;
+    match pairs.push(found) {
+        Ok(()) => true,
+        Err(_) => false,
+    }
+}
+
+// Whether so many documents, whose pieces have so many bytes, have the size that the heads tell; and whether the last one
+// has a pair where no byte closes it. Nothing is promised of it.
+fn has_size(documents: u32, bytes: u64, open_end: bool, last: u32, size: u64) -> bool {
+    let closed = bytes.saturating_add(u64::from(documents));
+    if open_end {
+        return last > 0 && closed == size.saturating_add(1);
+    }
+    closed == size
+}
+
+// Counts the pieces of each document by their symbols, and keeps how many pairs each has. False where that does not come to
+// its end, or where the documents have another size than the heads tell.
+fn tally_documents<'a, S: Store, D: Documents<'a, S>>(
+    store: &mut S,
+    texts: &mut D,
+    counts: &mut PieceCounts,
+    pairs: &mut Vec<u32>,
+) -> Result<bool, Failed>
+    requires fits { TextsFit (D.texts texts.old) (S.files store.old) }
+    requires no_words { counts.old.words ≡ [] }
+    requires no_others { counts.old.others ≡ [] }
+    requires no_pairs { pairs.old.items ≡ [] }
+    ensures few { IfOk result (λ done. OnTrue done (AreFewPairs pairs.new.items)) }
+    ensures tallied { (collection : List ℕ) → TextsStand (D.texts texts.old)
+        (S.files store.old) collection → IfOk result (λ done. OnTrue done (AreTallied
+        (documents collection) counts.new pairs.new.items)) }
+    ensures tallies { BetweenMoments S.files S.reads S.faults store.old store.new (λ before now.
+        TalliesTexts (D.texts texts.old) (D.texts texts.new) before now result) }
+{
+    let all = texts.documents();
+    if all > MOST_DOCUMENTS {
+        return Ok(false);
+    }
+    let mut left = u32::MAX;
+    let mut last = 0;
+    for index in 0..all {
+        let counted = match texts.count(store, index + 1, counts) {
+            Ok(counted) => counted,
+            Err(failed) => return Err(failed),
+        };
+        let found = match counted {
+            Some(found) => found,
+            None => return Ok(false),
+        };
+        let kept = keep_pairs(pairs, &mut left, found);
+        if !kept {
+            return Ok(false);
+        }
+        last = found;
+    }
+    let open_end = texts.has_open_end();
+    let whole = has_size(all, counts.bytes(), open_end, last, texts.size());
+    Ok(whole)
+}
+
+// The plan of two texts by the symbols of their pieces, and its room. None where these are not counted to the end.
+fn tallied<'a, S: Store, D: Documents<'a, S>>(
+    alloc: Global,
+    store: &mut S,
+    texts: &mut D,
+    budget: u64,
+) -> Result<Option<(Plan, Room)>, Failed>
+    requires least { least_budget ≤ budget }
+    requires most { budget ≤ greatest_budget }
+    requires fits { TextsFit (D.texts texts.old) (S.files store.old) }
+    ensures plan { IfOk result (λ found. IfSome found (λ made. IsPlan made.0)) }
+    ensures room { IfOk result (λ found. IfSome found (λ made. IsRoomFor made.1 made.0 budget)) }
+    ensures of { (collection : List ℕ) → TextsStand (D.texts texts.old)
+        (S.files store.old) collection →
+        IfOk result (λ found. IfSome found (λ made. IsPlanOf made.0 collection)) }
+    ensures tallies { BetweenMoments S.files S.reads S.faults store.old store.new (λ before now.
+        TalliesTexts (D.texts texts.old) (D.texts texts.new) before now result) }
+{
+    let pieces = texts.have_pieces();
+    if !pieces {
+        return Ok(None);
+    }
+    let mut counts = PieceCounts::new(alloc);
+    let mut pairs = Vec::new(alloc);
+    let open_end = texts.has_open_end();
+    let done = match tally_documents(store, texts, &mut counts, &mut pairs) {
+        Ok(done) => done,
+        Err(failed) => return Err(failed),
+    };
+    if !done {
+        return Ok(None);
+    }
+    match plan_of_counts(alloc, counts.into_parts(), pairs, open_end, budget) {
+        Ok(made) => Ok(Some(made)),
+        Err(_) => Ok(None),
+    }
+}
 
 // Counts each document of the texts.
 fn count_documents<'a, S: Store, D: Documents<'a, S>>(
@@ -66,8 +185,8 @@ fn counted<'a, S: Store, D: Documents<'a, S>>(
     count_documents(store, texts, &mut count).and(Ok(count))
 }
 
-/// Counts two texts, and makes all that the second pass takes of memory, with a pool of so many bytes.
-pub(crate) fn count_all<'a, S: Store, D: Documents<'a, S>>(
+// Counts the bytes of two texts, and makes all that the second pass takes of memory, with a pool of so many bytes.
+fn count_bytes<'a, S: Store, D: Documents<'a, S>>(
     alloc: Global,
     store: &mut S,
     texts: &mut D,
@@ -86,5 +205,32 @@ pub(crate) fn count_all<'a, S: Store, D: Documents<'a, S>>(
     match counted(alloc, store, texts) {
         Ok(count) => count.finish(alloc, budget),
         Err(refusal) => Err(refusal),
+    }
+}
+
+/// Counts two texts, and makes all that the second pass takes of memory, with a pool of so many bytes.
+pub(crate) fn count_all<'a, S: Store, D: Documents<'a, S>>(
+    alloc: Global,
+    store: &mut S,
+    texts: &mut D,
+    budget: u64,
+) -> Result<(Plan, Room), Fault>
+    requires least { least_budget ≤ budget }
+    requires most { budget ≤ greatest_budget }
+    requires fits { TextsFit (D.texts texts.old) (S.files store.old) }
+    ensures plan { IfOk result (λ made. IsPlan made.0) }
+    ensures room { IfOk result (λ made. IsRoomFor made.1 made.0 budget) }
+    ensures of { (collection : List ℕ) → TextsStand (D.texts texts.old)
+        (S.files store.old) collection → IfOk result (λ made. IsPlanOf made.0 collection) }
+    ensures counts { BetweenMoments S.files S.reads S.faults store.old store.new (λ before now.
+        CountsTexts (D.texts texts.old) (D.texts texts.new) before now result) }
+{
+    let found = match tallied(alloc, store, texts, budget) {
+        Ok(found) => found,
+        Err(_) => return Err(Fault::StoreFault),
+    };
+    match found {
+        Some(made) => Ok(made),
+        None => count_bytes(alloc, store, texts, budget),
     }
 }

@@ -1,19 +1,21 @@
 //! Documents that are read one after the other, with the bytes that close them.
 //!
 //! Both passes take whatever reads them: they see no more of it than this trait tells.
-ghost use Rattle.std.specs.Prelude.{◌≡◌, ◌<◌, ◌≤◌, ◌+◌, ◌^◌, IfErr, IfOk, OnOk, length};
+ghost use Rattle.std.specs.Prelude.{◌≡◌, ◌<◌, ◌≤◌, ◌+◌, ◌^◌, ℕ, List, IfErr, IfOk, OnErr, OnOk, length};
 ghost use Rattle.mg_dev.specs.Moments.{Between};
 ghost use Rattle.mg_dev.specs.Causes.{Rose};
 ghost use Rattle.mg_dev.specs.Faults.{ReadStops};
 ghost use Rattle.mg_defs.specs.Heads.{IsWithin};
 ghost use Rattle.mg_layout.specs.HeadAnswers.{fields_of};
 ghost use Rattle.mg_make.specs.Outcomes.{Fails};
+ghost use Rattle.mg_text.specs.PieceCounts.{CountsIfFound};
 ghost use Rattle.mg_merge.specs.Looks.{LooksAtTexts};
 ghost use Rattle.mg_merge.specs.Merging.{joined_size};
 ghost use Rattle.mg_merge.specs.Texts.{AreShort, AreSomeSets, AreTextsOf, ForSetsBy, ForShort, SameTexts, TextsFit, TextsStand, TwoTexts, closed_document};
 
-use mg_dev::{Fault, Store};
+use mg_dev::{Failed, Fault, Store};
 use mg_layout::Head;
+use mg_text::PieceCounts;
 use std::alloc::Global;
 
 /// The documents of one set, and behind them those of another, each with the byte that closes it.
@@ -49,6 +51,13 @@ pub(crate) trait Documents<'a, S: Store> {
     fn size(&self) -> u64
         ensures { result ≡ (texts self.now).size };
 
+    /// Whether no byte closes the last document.
+    fn has_open_end(&self) -> bool
+        ensures { result ≡ (texts self.now).open_end };
+
+    /// Whether each piece of the models has bytes of its kind alone. Nothing is promised of it.
+    fn have_pieces(&self) -> bool;
+
     /// The document that was read last, with the byte that closes it.
     fn bytes(&self) -> &[u8]
         ensures { result.now ≡ (texts self.now).held };
@@ -68,4 +77,22 @@ pub(crate) trait Documents<'a, S: Store> {
         ensures looks { Between S.files S.reads S.faults store.old store.new LooksAtTexts }
         ensures refused { IfErr result (ReadStops (Rose (S.faults store.old) (S.faults store.new))
             (AreShort (texts self.old) (S.files store.old) number most)) };
+
+    /// Counts the pieces of a document, from 1 to their number, and answers how many pairs it has. None where it could not
+    /// be counted, for another cause than a failure of the store: then the counts are of no use.
+    fn count(
+        &mut self,
+        store: &mut S,
+        number: u32,
+        counts: &mut PieceCounts,
+    ) -> Result<Option<u32>, Failed>
+        requires fits { TextsFit (texts self.old) (S.files store.old) }
+        requires some { 1 ≤ number }
+        requires within { number ≤ (texts self.old).all }
+        ensures fits { TextsFit (texts self.new) (S.files store.new) }
+        ensures same { SameTexts (texts self.old) (texts self.new) }
+        ensures counted { (collection : List ℕ) → TextsStand (texts self.old) (S.files store.old)
+            collection → CountsIfFound result number collection counts.old counts.new }
+        ensures looks { Between S.files S.reads S.faults store.old store.new LooksAtTexts }
+        ensures failed { OnErr result (Rose (S.faults store.old) (S.faults store.new)) };
 }

@@ -24,7 +24,7 @@ use std::alloc::Global;
 /// Makes the set of the documents of two sets under a third base, in version 2 and with the first one's cap. The two may be
 /// one, and of either version.
 ///
-/// Both texts are decoded twice: first they are counted, and nothing is written before that is done; then the head is
+/// Both texts are read twice: first they are counted, and nothing is written before that is done; then the head is
 /// emptied, the other parts are written, and last the head. So what a merge that stops leaves stands for no collection.
 /// It takes the memory of a build of the joined collection, and that of its longest document.
 ///

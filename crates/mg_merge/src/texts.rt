@@ -16,9 +16,9 @@ ghost use Rattle.mg_merge.specs.Texts.{AreReaders, AreSomeSets, BothTextsStand, 
 use crate::documents::Documents;
 use crate::dropping::without;
 use crate::heads::joined_size;
-use mg_dev::{Fault, PartErr, Store};
+use mg_dev::{Failed, Fault, PartErr, Store};
 use mg_layout::Head;
-use mg_text::{HeldDocument, TextReader, is_closed, texts_stand};
+use mg_text::{HeldDocument, PieceCounts, TextReader, is_closed, texts_stand};
 use std::alloc::Global;
 use std::marker::Model;
 
@@ -154,6 +154,14 @@ impl<'a, S: Store> Documents<'a, S> for Texts<'a, S> {
         self.size
     }
 
+    fn has_open_end(&self) -> bool {
+        self.open_end
+    }
+
+    fn have_pieces(&self) -> bool {
+        self.first.has_pieces() && self.second.has_pieces()
+    }
+
     fn bytes(&self) -> &[u8] {
         self.held.bytes()
     }
@@ -172,5 +180,18 @@ impl<'a, S: Store> Documents<'a, S> for Texts<'a, S> {
             Err(_) => return Err(Fault::Memory),
         }
         Ok(())
+    }
+
+    fn count(
+        &mut self,
+        store: &mut S,
+        number: u32,
+        counts: &mut PieceCounts,
+    ) -> Result<Option<u32>, Failed> {
+        if number <= self.ahead {
+            return self.first.count(store, number, counts);
+        }
+        let behind = number - self.ahead;
+        self.second.count(store, behind, counts)
     }
 }
