@@ -3,10 +3,10 @@
 ghost use Rattle.std.specs.Prelude.{◌≡◌};
 ghost use Rattle.mg_text.specs.Reading.{TextFits};
 
-use mg_dev::{Bad, FileRef, Part, PartErr, PutErr, ShowErr, Store};
+use mg_dev::{Bad, Failed, FileRef, Part, PartErr, PutErr, ShowErr, Store};
 use mg_layout::Head;
 use mg_mem::MemStore;
-use mg_text::{HeldDocument, TextReader, WordList};
+use mg_text::{HeldDocument, PieceCounts, TextReader, WordList};
 use std::alloc::Global;
 use std::test::Fail;
 
@@ -205,5 +205,67 @@ fn words_beyond_the_bound_are_refused_as_shown_bytes_are(rt: HostRuntime) -> Res
     assert!(rt; list(alloc, &mut store, &[2], 16_381) == Err(PartErr::Bad(BEYOND)));
     let shown = show_second(alloc, &mut store, 16_381);
     assert!(rt; shown == Err(ShowErr::Part(PartErr::Bad(BEYOND))));
+    Ok(())
+}
+
+// Counts the pieces of documents of the three, and answers how many pairs they have together. None where one is not counted.
+fn count_all<S: Store>(
+    reader: &mut TextReader<'_, S>,
+    store: &mut S,
+    numbers: &[u32],
+    counts: &mut PieceCounts,
+) -> Result<Option<u64>, Failed>
+    requires fits { TextFits reader.old (S.files store.old) }
+    requires documents { reader.old.documents ≡ 3 }
+{
+    let mut pairs = 0u64;
+    for number in numbers {
+        if *number >= 1 && *number <= 3 {
+            let found = match reader.count(store, *number, counts)? {
+                Some(found) => found,
+                None => return Ok(None),
+            };
+            pairs = pairs.saturating_add(u64::from(found));
+        }
+    }
+    Ok(Some(pairs))
+}
+
+// The same by a reader of its own.
+fn count<S: Store>(
+    alloc: Global,
+    store: &mut S,
+    counts: &mut PieceCounts,
+) -> Result<Option<u64>, PartErr> {
+    let mut reader = TextReader::load(alloc, store, "set", &head())?;
+    Ok(count_all(&mut reader, store, &[1, 2, 3], counts)?)
+}
+
+#[test]
+fn pieces_are_counted_and_pages_are_read_once(rt: HostRuntime) -> Result<(), Fail> {
+    let alloc = rt.alloc();
+    let mut store = MemStore::new(alloc);
+    write_three(&mut store)?;
+    let mut counts = PieceCounts::new(alloc);
+    assert!(rt; count(alloc, &mut store, &mut counts) == Ok(Some(3 * 8_191)));
+    assert!(rt; counts.bytes() == 3 * 16_382);
+    assert!(rt; store.reads_of(Part::Text) == 2 && store.reads_of(Part::Places) == 1);
+    let (words, others) = counts.into_parts();
+    assert!(rt; words.len() == 1 && others.len() == 1);
+    Ok(())
+}
+
+#[test]
+fn a_device_that_fails_is_told_of_a_count(rt: HostRuntime) -> Result<(), Fail> {
+    let alloc = rt.alloc();
+    let mut store = MemStore::new(alloc);
+    write_three(&mut store)?;
+    let mut counts = PieceCounts::new(alloc);
+    assert!(rt; count(alloc, &mut store, &mut counts).is_ok());
+    let last = store.calls().saturating_sub(1);
+    let mut other = MemStore::new(alloc);
+    write_three(&mut other)?;
+    other.fail_at(last, 0)?;
+    assert!(rt; count(alloc, &mut other, &mut counts) == Err(PartErr::Device));
     Ok(())
 }
