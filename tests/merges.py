@@ -106,6 +106,36 @@ def kinds(suite):
     merged(suite, "nothing behind an open end", A, b"")
 
 
+def damaged(suite):
+    """A set that stands for no collection and is decoded all the same: a merge makes the set of these bytes.
+
+    So it is where a word has other bytes than words have, or pieces come as in no document.
+    """
+    put_set(suite, "b", K, 2)
+    first = b"ab cd, ab\x02cd\x02\x02" + b"x" * 256 + b" y\x02ab"
+    tried = 0
+    for ending in ("words", "nonwords", "text"):
+        put_set(suite, "a", first, 2)
+        file = suite.folder / f"a.{ending}"
+        sound = file.read_bytes()
+        for place in range(8 * len(sound)):
+            wrong = bytearray(sound)
+            wrong[place // 8] ^= 1 << place % 8
+            file.write_bytes(bytes(wrong))
+            status, data, _ = suite.run(["decode", "a"])
+            if status != 0 or data == first or len(data) != len(first):
+                continue
+            tried += 1
+            name = f"a merge behind bit {place} of {ending}"
+            whole = joined(data, K)
+            suite.check(name, suite.run(["merge", "a", "b", "n"])[0], 0)
+            suite.check(f"{name}: decoded", suite.run(["decode", "n"]), (0, whole, b""))
+            suite.check(f"{name}: the set stands", check(read_parts(suite.folder / "n")).data == whole, True)
+    suite.check("damaged sets were merged", tried > 20, True)
+    for base in ("a", "b", "n"):
+        remove(suite, base)
+
+
 def three(suite):
     """Three sets merged from the left and from the right stand for the same."""
     for name, collections in [
@@ -150,5 +180,5 @@ def limits(suite):
         remove(suite, base)
 
 
-PARTS = [rows, too_large, kinds, three]
+PARTS = [rows, too_large, kinds, damaged, three]
 SLOW = [limits]
