@@ -20,7 +20,8 @@ use Rattle.mg_check_index.specs.InPair.{pair_files}
 use Rattle.mg_check_index.specs.declared.indexed.Indexed.{Indexed}
 use Rattle.mg_check_index.specs.declared.lists.Compared.{Compared}
 use Rattle.mg_check_index.specs.declared.lists.Places.{Places}
-use Rattle.mg_check_index.specs.Listing.{AreRooms, AreSizes, BeginsAt, CanCompareIn, ComparedIn, HasCompared, HasRooms, IsStart, LexiconStands, ListsAgree, ListsStand, Ranged, SameRooms, post_upto, skip_upto}
+use Rattle.mg_check_index.specs.Listing.{AreRooms, AreSizes, BeginsAt, CanCompareIn, ComparedIn, HasCompared, HasRooms, IsStart}
+use Rattle.mg_check_index.specs.Listing.{LexiconStands, ListsAgree, ListsStand, Ranged, SameRooms, post_upto, skip_upto}
 
 -- ---- rooms
 

@@ -114,7 +114,8 @@ listed-on {w} {ts} {before} {n} {collection} {lists} {lex} f g p q same has =
 pub follow-on : {base : List ℕ} {all : ℕ} {done : List (List Posting)} {before : Places} (f g : Option Files) → f ≡ g → ListsFollow f base all done before → ListsFollow g base all done before
 follow-on {base} {all} {done} {before} f g same follow = subst (λ h. ListsFollow h base all done before) same follow
 
-pub took-on : {lists : Listing} {done : List (List Posting)} {ps : List Posting} (f g : Option Files) (p : WrittenPair) → f ≡ g → Took lists (pair_files f p) done ps → Took lists (pair_files g p) done ps
+pub took-on : {lists : Listing} {done : List (List Posting)} {ps : List Posting} (f g : Option Files) (p : WrittenPair) → f ≡ g →
+    Took lists (pair_files f p) done ps → Took lists (pair_files g p) done ps
 took-on {lists} {done} {ps} f g p same took = subst (λ h. Took lists (pair_files h p) done ps) same took
 
 pub new-on : {all : ℕ} {base : List ℕ} {before : Places} {lists : NewLists} (f g : Option Files) → f ≡ g → IsNewLists f all base before lists → IsNewLists g all base before lists

@@ -1,5 +1,6 @@
 -- Postings of four bytes each: what a number stands for, and what changes where a posting more is kept beside.
-use Rattle.std.proofs.Common.{arith, ◌≡◌, ◌≢◌, ◌<◌, ◌≤◌, ◌+◌, ◌-◌, ◌*◌, ◌/◌, ◌%◌, ◌++◌, ◌∷◌, ◌∙◌, ◌==◌, Bool, true, false, cond, ℕ, zero, suc, List, [], ◌⊎◌, ◌^◌, inl, inr, length, map, take, drop, get_or, set, min, refl, sym, ap}
+use Rattle.std.proofs.Common.{arith, ◌≡◌, ◌≢◌, ◌<◌, ◌≤◌, ◌+◌, ◌-◌, ◌*◌, ◌/◌, ◌%◌, ◌++◌, ◌∷◌, ◌∙◌, ◌==◌, ◌⊎◌, ◌^◌}
+use Rattle.std.proofs.Common.{Bool, true, false, cond, ℕ, zero, suc, List, [], inl, inr, length, map, take, drop, get_or, set, min, refl, sym, ap}
 use Rattle.std.specs.List.{All}
 use Rattle.std.proofs.Math.Nat.{le-min, min-le_left, min-le_right}
 use Rattle.std.proofs.lemmas.Bool.{cases_lt}

@@ -29,6 +29,7 @@ use Rattle.mg_check_parts.specs.Refusals.{Refutes}
 use Rattle.mg_check_parts.specs.Looks.{reads_outside}
 use Rattle.mg_check_index.specs.InPair.{PutsPair, SamePlace, SamePlaces, all_looks, bytes_of, code_of_pair, pair_faults, pair_files, pair_reads, set_name, two_files}
 use Rattle.mg_check_index.specs.InStore.{emptied}
+use Rattle.mg_check_index.specs.PairCalls.{SameReferences}
 use Rattle.mg_check_index.specs.declared.pair_store.WrittenPair.{WrittenPair}
 use Rattle.mg_check_index.specs.declared.written_part.WrittenPart.{WrittenPart}
 use Rattle.mg_check_index.proofs.InStoreLaws.{code-inj, files-inj, head-is, tail-is}
@@ -440,10 +441,6 @@ own-put {result = result} m n a b none same told = own-faults (λ k l. HasPutCau
 pub own-part : {T : Type 0} {result : Result T PartErr} (m n a b : ℕ) → a ≡ 0 → b ≡ a → HasPartCause (pair_faults m a) (pair_faults n b) result → HasPartCause m n result
 own-part {result = result} m n a b none same told = own-faults (λ k l. HasPartCause k l result) m n a b none same told
 
--- what is known of a value holds of one that is the same
-pub at-last : {X : Type 0} (P : X → Type 0) (now last : X) → last ≡ now → P now → P last
-at-last P now last same p = subst P (sym same) p
-
 -- a writer's refusal, as that of who compares
 pub put-part : {T U : Type 0} (e : PutErr) (r : PartErr) (m n : ℕ) → (r ≡ Device → e ≡ Failed) → HasPutCause {T = T} m n (Err e) → HasPartCause {T = U} m n (Err r)
 put-part e Device m n is cause = record { later = cause.later; device = cause.failed (ap (λ (x : PutErr). Err x) (is refl)) }
@@ -453,19 +450,28 @@ put-part e (Bad bad) m n is cause = record { later = cause.later; device = tt }
 pub put-done : {T U : Type 0} {x : U} {result : Result T PutErr} (m n : ℕ) → HasPutCause m n result → HasPartCause {T = U} m n (Ok x)
 put-done m n cause = record { later = cause.later; device = tt }
 
--- what a call did, told of the parts and of the store at last
-module _ {X : Type 0} (files : X → Option Files) (reads : X → Reads) (faults : X → ℕ) where
-  pub puts-last : {T : Type 0} {result : Result T PartErr} (old now last : WrittenPair) (s t end : X) → last ≡ now → end ≡ t →
-      PutsPair old now result (files s) (files t) (reads s) (reads t) (faults s) (faults t) →
-      PutsPair old last result (files s) (files end) (reads s) (reads end) (faults s) (faults end)
-  puts-last {result = result} old now last s t end pair_is store_is puts =
-      subst (λ p. PutsPair old p result (files s) (files end) (reads s) (reads end) (faults s) (faults end)) (sym pair_is)
-      (subst (λ x. PutsPair old now result (files s) (files x) (reads s) (reads x) (faults s) (faults x)) (sym store_is) puts)
+-- what a call promises of two parts and of a store, told of these at last
+pub told-last : {X : Type 0} (P : WrittenPair → X → Type 0) (now last : WrittenPair) (t end : X) → last ≡ now → end ≡ t →
+    P now t → P last end
+told-last P now last t end pair_is store_is told = subst (λ p. P p end) (sym pair_is) (subst (λ x. P now x) (sym store_is) told)
+
+-- a call through a store of two files keeps its references
+pub same-references : {store_is store_now pair_is pair_now : ℕ} {p q : WrittenPair} {f g : Option Files} {r s : Reads} →
+    IsKept store_is store_now pair_is pair_now p q f g r s → SameReferences store_is pair_is store_now pair_now
+same-references is = record { store = is.store; pair = is.pair }
+
+-- and writes to the two files alone
+pub puts-kept : {T : Type 0} {result : Result T PartErr} {store_is store_now pair_is pair_now : ℕ} {p q : WrittenPair}
+    {f g : Option Files} {r s : Reads} {m n : ℕ} →
+    IsKept store_is store_now pair_is pair_now p q f g r s → HasPartCause m n result → PutsPair p q result f g r s m n
+puts-kept is cause = record { places = is.places; looks = record { files = is.files; unread = is.outside; cause = cause } }
 
 -- ---- what was written, by the files that are told
 
 pub told-pair : (files : Option Files) (p : WrittenPair) → IsSome files → IsSome (pair_files files p)
-told-pair None p told = told-written (written (emptied None) p.one.own.now (bytes_of None p.one)) p.other.own.now (bytes_of None p.other) ∙ told-written (emptied None) p.one.own.now (bytes_of None p.one)
+told-pair None p told =
+    told-written (written (emptied None) p.one.own.now (bytes_of None p.one)) p.other.own.now (bytes_of None p.other)
+    ∙ told-written (emptied None) p.one.own.now (bytes_of None p.one)
     ∙ told
 told-pair (Some f) p told =
     told-written (written (emptied (Some f)) p.one.own.now (bytes_of (Some f) p.one)) p.other.own.now (bytes_of (Some f) p.other)

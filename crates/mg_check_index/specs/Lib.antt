@@ -4,3 +4,4 @@ pub mod Listing
 pub mod Anew
 pub mod InStore
 pub mod InPair
+pub mod PairCalls

@@ -99,7 +99,8 @@ impl<'s, S: Store> ComparingStore<'s, S> {
         ensures from { self.new.from ≡ self.old.from }
         ensures standing { self.new.standing ≡ self.old.standing }
         ensures looked { self.new.looked ≡ self.old.looked }
-        ensures held { OnOk result (self.new.rest.now.items ≡ self.old.rest.now.items ++ piece.now) }
+        ensures held { OnOk result
+            (self.new.rest.now.items ≡ self.old.rest.now.items ++ piece.now) }
         ensures kept { OnErr result (self.new.rest.now.items ≡ self.old.rest.now.items) }
         ensures memory { result ≢ Err PutErr.Failed }
     {

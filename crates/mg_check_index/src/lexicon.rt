@@ -1,12 +1,12 @@
 //! The lexicon against one that is written anew.
-ghost use Rattle.std.specs.Prelude.{◌≡◌, ◌<◌, ◌≤◌, ◌+◌, ℕ, List, [], IfErr, IfOk, OnOk, length};
+ghost use Rattle.std.specs.Prelude.{◌≡◌, ◌<◌, ◌≤◌, ◌+◌, ℕ, List, [], IfOk, OnOk, length};
 ghost use Rattle.std.specs.Cmp.Lexicographic.{slice_cmp};
 ghost use Rattle.std.specs.List.Sorted.{IsStrictlySortedBy};
 ghost use Rattle.std.specs.Ordering.{nat_cmp};
-ghost use Rattle.mg_dev.specs.Bads.{IsNotBad};
 ghost use Rattle.mg_dev.specs.Moments.{Between};
 ghost use Rattle.mg_lex.specs.Writing.{TookTerms};
 ghost use Rattle.mg_check_parts.specs.Looks.{LooksAtSet};
+ghost use Rattle.mg_check_index.specs.PairCalls.{LooksOnly};
 ghost use Rattle.mg_defs.specs.Limits.{version_2};
 
 use crate::pair_lexicon::{finish_terms, lexicon_pair, push_term, start_terms};
@@ -41,8 +41,7 @@ impl<'a> Lexicon<'a> {
             CanPush terms 0 lexicon.writer (pair_files (S.files store.old) lexicon.pair)) }
         ensures goes { IfOk result (λ lexicon.
             GoesToLexicon lexicon.writer lexicon.pair base.entry.now) }
-        ensures never_bad { IfErr result IsNotBad }
-        ensures looks { Between S.files S.reads S.faults store.old store.new (LooksAtSet result) }
+        ensures looks { Between S.files S.reads S.faults store.old store.new (LooksOnly result) }
     {
         let mut pair = lexicon_pair(alloc, base);
         match start_terms(alloc, store, &mut pair) {
@@ -68,8 +67,7 @@ impl<'a> Lexicon<'a> {
         ensures took { TakesTerm (S.files store.old) table.now.terms info.now self.old self.new
             result }
         ensures same { SameLexicon self.old self.new }
-        ensures never_bad { IfErr result IsNotBad }
-        ensures looks { Between S.files S.reads S.faults store.old store.new (LooksAtSet result) }
+        ensures looks { Between S.files S.reads S.faults store.old store.new (LooksOnly result) }
     {
         let term = table.terms().term(info.number);
         push_term(store, &mut self.pair, &mut self.writer, term, info)

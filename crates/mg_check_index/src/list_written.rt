@@ -1,12 +1,13 @@
 //! A list that is written anew, into any store.
-ghost use Rattle.std.specs.Prelude.{◌≡◌, ◌<◌, ◌≤◌, ◌+◌, ◌^◌, ◌∷◌, List, [], IfErr, IfOk, OnOk, length};
+ghost use Rattle.std.specs.Prelude.{◌≡◌, ◌<◌, ◌≤◌, ◌+◌, ◌^◌, ◌∷◌, List, IfErr, OnOk, length};
 ghost use Rattle.mg_dev.specs.Bads.{IsNotBad};
 ghost use Rattle.mg_dev.specs.Moments.{Between};
 ghost use Rattle.mg_defs.specs.Limits.{version_2};
 ghost use Rattle.mg_defs.specs.declared.Posting.{Posting};
 ghost use Rattle.mg_defs.specs.Lists.{Rises};
 ghost use Rattle.mg_post.specs.Writing.{Pushed, PushedMore, Took, TookPosting};
-ghost use Rattle.mg_check_index.specs.Anew.{AreBetween, AreEndsOf, PutsLists, TookPostings, TookWhole};
+ghost use Rattle.mg_check_index.specs.Anew.{AreBetween, PutsLists, TookPostings};
+ghost use Rattle.mg_check_index.specs.PairCalls.{CanWriteList, WritesList};
 
 use crate::packed_postings::Postings;
 use mg_defs::Posting;
@@ -116,17 +117,9 @@ pub(crate) fn write_list<T: Store>(
     count: u32,
     all: u32,
 ) -> Result<(u64, u32), PartErr>
-    requires between { AreBetween writer.old (T.files store.old) all }
-    requires some { 1 ≤ count }
-    requires within { count ≤ all }
-    requires total { writer.old.total + count ≤ 2 ^ 32 }
-    ensures took { OnOk result (TookWhole writer.old writer.new (T.files store.old)
-        (T.files store.new) postings.now) }
-    ensures answer { IfOk result (AreEndsOf writer.old (T.files store.old) all) }
-    ensures between { OnOk result (writer.new.pushed ≡ 0) }
-    ensures total { OnOk result (writer.new.total ≡ writer.old.total + count) }
-    ensures never_bad { Rises all 0 postings.now → length postings.now ≡ count →
-        IfErr result (λ refusal. IsNotBad refusal) }
+    requires can { CanWriteList writer.old (T.files store.old) count all }
+    ensures written { WritesList postings.now count all writer.old writer.new
+        (T.files store.old) (T.files store.new) result }
     ensures step { Between T.files T.reads T.faults store.old store.new
         (PutsLists writer.old writer.new result) }
 {

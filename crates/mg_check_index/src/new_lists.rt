@@ -1,11 +1,11 @@
 //! Lists that are written anew, and compared with Post and Skip as they are written.
-ghost use Rattle.std.specs.Prelude.{◌≤◌, List, [], IfErr, IfOk};
-ghost use Rattle.mg_dev.specs.Bads.{IsNotBad};
+ghost use Rattle.std.specs.Prelude.{◌≤◌, List, [], IfOk};
 ghost use Rattle.mg_dev.specs.Moments.{Between};
 ghost use Rattle.mg_defs.specs.Limits.{version_2};
 ghost use Rattle.mg_defs.specs.declared.Posting.{Posting};
 ghost use Rattle.mg_post.specs.Writing.{Took};
 ghost use Rattle.mg_check_parts.specs.Looks.{LooksAtSet};
+ghost use Rattle.mg_check_index.specs.PairCalls.{LooksOnly};
 
 use crate::lists::Places;
 use crate::pair_lists::{finish_compared, lists_pair, start_compared};
@@ -38,8 +38,7 @@ impl<'a> NewLists<'a> {
         requires places { ArePlaces before }
         ensures new { IfOk result
             (IsNewLists (S.files store.old) all base.entry.now before) }
-        ensures never_bad { IfErr result IsNotBad }
-        ensures looks { Between S.files S.reads S.faults store.old store.new (LooksAtSet result) }
+        ensures looks { Between S.files S.reads S.faults store.old store.new (LooksOnly result) }
     {
         let mut pair = lists_pair(alloc, base, before);
         match start_compared(alloc, store, &mut pair, all) {

@@ -1,16 +1,13 @@
 //! Lists into a store that compares them, told by the store with which it compares.
-ghost use Rattle.std.specs.Prelude.{◌≡◌, ◌≤◌, ◌+◌, ◌^◌, List, [], IfErr, IfOk, IsSome, OnOk, codes, length};
-ghost use Rattle.mg_dev.specs.Bads.{IsNotBad};
+ghost use Rattle.std.specs.Prelude.{◌≡◌, ◌≤◌, List, []};
 ghost use Rattle.mg_dev.specs.Moments.{Between};
-ghost use Rattle.mg_dev.specs.Names.{full_name};
-ghost use Rattle.mg_dev.specs.declared.part.Part.TheVariants as part;
 ghost use Rattle.mg_defs.specs.Limits.{version_2};
 ghost use Rattle.mg_defs.specs.declared.Posting.{Posting};
-ghost use Rattle.mg_defs.specs.Lists.{Rises};
-ghost use Rattle.mg_post.specs.Writing.{SameFiles, Took};
-ghost use Rattle.mg_check_index.specs.Anew.{AreBetween, AreEndsOf, FollowsPlaces, ForWritten, GoesToPair, HoldsWritten, TookWhole};
-ghost use Rattle.mg_check_index.specs.InPair.{PutsPair, all_looks, looks_in, pair_files};
+ghost use Rattle.mg_post.specs.Writing.{Took};
+ghost use Rattle.mg_check_index.specs.Anew.{FollowsPlaces, GoesToPair};
+ghost use Rattle.mg_check_index.specs.InPair.{all_looks, looks_in, pair_files};
 ghost use Rattle.mg_check_index.specs.Listing.{ArePlaces};
+ghost use Rattle.mg_check_index.specs.PairCalls.{AreListFiles, CanWriteList, ComparesList, FinishesLists, SameReferences, StartsLists};
 
 use crate::list_written::{refusal_of, write_list};
 use crate::lists::Places;
@@ -28,8 +25,7 @@ const BASE: &str = "w";
 pub(crate) fn lists_pair<'b>(alloc: Global, base: &'b str, before: Places) -> WrittenPair<'b>
     requires places { ArePlaces before }
     ensures follows { FollowsPlaces result base.entry.now before }
-    ensures post { result.one.own.now ≡ codes "w.post" }
-    ensures skip { result.other.own.now ≡ codes "w.skip" }
+    ensures files { AreListFiles result }
 {
     let post = FileRef {
         base,
@@ -53,18 +49,11 @@ fn start_into<S: Store>(
 ) -> Result<ListWriter<'static>, PartErr>
     requires unread { all_looks (looks_in into.old.looks) ≡ 0 }
     requires all { all ≤ version_2.documents }
-    requires post { into.old.pair.now.one.own.now ≡ codes "w.post" }
-    requires skip { into.old.pair.now.other.own.now ≡ codes "w.skip" }
-    ensures store { into.new.store.ghost_name ≡ into.old.store.ghost_name }
-    ensures pair { into.new.pair.ghost_name ≡ into.old.pair.ghost_name }
-    ensures took { IfOk result (λ w. Took w
-        (pair_files (S.files into.old.store.now) into.new.pair.now) [] []) }
-    ensures goes { IfOk result (λ w. GoesToPair w into.new.pair.now) }
-    ensures all { IfOk result (λ w. w.all ≡ all) }
-    ensures nothing { IfOk result (λ w. w.total ≡ 0) }
-    ensures never_bad { IfErr result IsNotBad }
-    ensures puts { Between S.files S.reads S.faults into.old.store.now into.new.store.now
-        (PutsPair into.old.pair.now into.new.pair.now result) }
+    requires files { AreListFiles into.old.pair.now }
+    ensures same { SameReferences into.old.store.ghost_name into.old.pair.ghost_name
+        into.new.store.ghost_name into.new.pair.ghost_name }
+    ensures started { Between S.files S.reads S.faults into.old.store.now into.new.store.now
+        (StartsLists all into.old.pair.now into.new.pair.now result) }
 {
     match ListWriter::start(alloc, into, BASE, all) {
         Ok(writer) => Ok(writer),
@@ -81,25 +70,13 @@ fn write_into<S: Store>(
     all: u32,
 ) -> Result<(u64, u32), PartErr>
     requires unread { all_looks (looks_in into.old.looks) ≡ 0 }
-    requires between { AreBetween writer.old
-        (pair_files (S.files into.old.store.now) into.old.pair.now) all }
-    requires some { 1 ≤ count }
-    requires within { count ≤ all }
-    requires total { writer.old.total + count ≤ 2 ^ 32 }
-    ensures store { into.new.store.ghost_name ≡ into.old.store.ghost_name }
-    ensures pair { into.new.pair.ghost_name ≡ into.old.pair.ghost_name }
-    ensures took { OnOk result (TookWhole writer.old writer.new
-        (pair_files (S.files into.old.store.now) into.old.pair.now)
-        (pair_files (S.files into.old.store.now) into.new.pair.now) postings.now) }
-    ensures answer { IfOk result (AreEndsOf writer.old
-        (pair_files (S.files into.old.store.now) into.old.pair.now) all) }
-    ensures between { OnOk result (writer.new.pushed ≡ 0) }
-    ensures total { OnOk result (writer.new.total ≡ writer.old.total + count) }
-    ensures never_bad { Rises all 0 postings.now → length postings.now ≡ count →
-        IfErr result (λ refusal. IsNotBad refusal) }
-    ensures same { SameFiles writer.old writer.new }
-    ensures puts { Between S.files S.reads S.faults into.old.store.now into.new.store.now
-        (PutsPair into.old.pair.now into.new.pair.now result) }
+    requires can { CanWriteList writer.old
+        (pair_files (S.files into.old.store.now) into.old.pair.now) count all }
+    ensures same { SameReferences into.old.store.ghost_name into.old.pair.ghost_name
+        into.new.store.ghost_name into.new.pair.ghost_name }
+    ensures compared { Between S.files S.reads S.faults into.old.store.now into.new.store.now
+        (ComparesList postings.now count all writer.old writer.new into.old.pair.now
+        into.new.pair.now result) }
 {
     write_list(writer, into, postings, count, all)
 }
@@ -113,16 +90,10 @@ fn finish_into<S: Store>(
     requires took { (done : List (List Posting)) × Took writer.old
         (pair_files (S.files into.old.store.now) into.old.pair.now) done [] }
     requires goes { GoesToPair writer.old into.old.pair.now }
-    ensures store { into.new.store.ghost_name ≡ into.old.store.ghost_name }
-    ensures pair { into.new.pair.ghost_name ≡ into.old.pair.ghost_name }
-    ensures holds { IsSome (S.files into.old.store.now) →
-        ForWritten writer.old (pair_files (S.files into.old.store.now) into.old.pair.now)
-        (λ done. OnOk result (HoldsWritten (S.files into.old.store.now) into.new.pair.now
-        writer.old.all done)) }
-    ensures never_bad { IfErr result IsNotBad }
-    ensures same { SameFiles writer.old writer.new }
-    ensures puts { Between S.files S.reads S.faults into.old.store.now into.new.store.now
-        (PutsPair into.old.pair.now into.new.pair.now result) }
+    ensures same { SameReferences into.old.store.ghost_name into.old.pair.ghost_name
+        into.new.store.ghost_name into.new.pair.ghost_name }
+    ensures finished { Between S.files S.reads S.faults into.old.store.now into.new.store.now
+        (FinishesLists writer.old writer.new into.old.pair.now into.new.pair.now result) }
 {
     match writer.finish(into) {
         Ok(_) => Ok(()),
@@ -138,15 +109,9 @@ pub(crate) fn start_compared<S: Store>(
     all: u32,
 ) -> Result<ListWriter<'static>, PartErr>
     requires all { all ≤ version_2.documents }
-    requires post { pair.old.one.own.now ≡ codes "w.post" }
-    requires skip { pair.old.other.own.now ≡ codes "w.skip" }
-    ensures took { IfOk result (λ w. Took w (pair_files (S.files store.old) pair.new) [] []) }
-    ensures goes { IfOk result (λ w. GoesToPair w pair.new) }
-    ensures all { IfOk result (λ w. w.all ≡ all) }
-    ensures nothing { IfOk result (λ w. w.total ≡ 0) }
-    ensures never_bad { IfErr result IsNotBad }
-    ensures puts { Between S.files S.reads S.faults store.old store.new
-        (PutsPair pair.old pair.new result) }
+    requires files { AreListFiles pair.old }
+    ensures started { Between S.files S.reads S.faults store.old store.new
+        (StartsLists all pair.old pair.new result) }
 {
     let mut into = PairStore {
         store,
@@ -166,22 +131,9 @@ pub(crate) fn write_compared<S: Store>(
     count: u32,
     all: u32,
 ) -> Result<(u64, u32), PartErr>
-    requires between { AreBetween writer.old (pair_files (S.files store.old) pair.old) all }
-    requires some { 1 ≤ count }
-    requires within { count ≤ all }
-    requires total { writer.old.total + count ≤ 2 ^ 32 }
-    ensures took { OnOk result (TookWhole writer.old writer.new
-        (pair_files (S.files store.old) pair.old) (pair_files (S.files store.old) pair.new)
-        postings.now) }
-    ensures answer { IfOk result
-        (AreEndsOf writer.old (pair_files (S.files store.old) pair.old) all) }
-    ensures between { OnOk result (writer.new.pushed ≡ 0) }
-    ensures total { OnOk result (writer.new.total ≡ writer.old.total + count) }
-    ensures never_bad { Rises all 0 postings.now → length postings.now ≡ count →
-        IfErr result (λ refusal. IsNotBad refusal) }
-    ensures same { SameFiles writer.old writer.new }
-    ensures puts { Between S.files S.reads S.faults store.old store.new
-        (PutsPair pair.old pair.new result) }
+    requires can { CanWriteList writer.old (pair_files (S.files store.old) pair.old) count all }
+    ensures compared { Between S.files S.reads S.faults store.old store.new
+        (ComparesList postings.now count all writer.old writer.new pair.old pair.new result) }
 {
     let mut into = PairStore {
         store,
@@ -200,14 +152,8 @@ pub(crate) fn finish_compared<S: Store>(
     requires took { (done : List (List Posting))
         × Took writer.old (pair_files (S.files store.old) pair.old) done [] }
     requires goes { GoesToPair writer.old pair.old }
-    ensures holds { IsSome (S.files store.old) →
-        ForWritten writer.old (pair_files (S.files store.old) pair.old)
-        (λ done. OnOk result
-        (HoldsWritten (S.files store.old) pair.new writer.old.all done)) }
-    ensures never_bad { IfErr result IsNotBad }
-    ensures same { SameFiles writer.old writer.new }
-    ensures puts { Between S.files S.reads S.faults store.old store.new
-        (PutsPair pair.old pair.new result) }
+    ensures finished { Between S.files S.reads S.faults store.old store.new
+        (FinishesLists writer.old writer.new pair.old pair.new result) }
 {
     let mut into = PairStore {
         store,

@@ -1,14 +1,15 @@
 use Rattle.std.proofs.Common.{rules}
-use Rattle.mg_check_index.proofs.PairLaws.{puts-last, at-last}
-use Rattle.std.specs.Prelude.{OnOk}
-use Rattle.mg_check_index.specs.Anew.{HoldsTerms}
+use Rattle.mg_dev.specs.Moments.{Between}
+use Rattle.mg_check_index.specs.PairCalls.{FinishesTerms}
+use Rattle.mg_check_index.proofs.PairLaws.{told-last}
 use Rattle.mg_check_index.proofs.pair_lexicon.finish_terms.Goals as goal
 
-pub returns-clause-holds : goal.returns-clause-holds
-returns-clause-holds g c = λ told ts took.
-    at-last (λ p. OnOk c.finish_into.result (HoldsTerms (g.S.Store.files c.args.store.now) p ts)) c.finish_into.new.into.pair.now _ (search rules) (c.finish_into.ensures.holds told ts took)
-
-pub returns-clause-puts : goal.returns-clause-puts
-returns-clause-puts g c =
-    puts-last g.S.Store.files g.S.Store.reads g.S.Store.faults c.args.pair.now c.finish_into.new.into.pair.now _ c.args.store.now c.finish_into.new.into.store.now _ (search rules) (search rules)
-    c.finish_into.ensures.puts
+pub returns : goal.returns
+returns g c =
+    let store = c.finish_into.ensures.same.store in
+    let pair = c.finish_into.ensures.same.pair in
+    record {
+      finished = told-last
+          (λ p s. Between g.S.Store.files g.S.Store.reads g.S.Store.faults c.args.store.now s (FinishesTerms c.args.writer.now c.args.pair.now p c.finish_into.result))
+          c.finish_into.new.into.pair.now _ c.finish_into.new.into.store.now _ (search rules) (search rules) c.finish_into.ensures.finished;
+    }

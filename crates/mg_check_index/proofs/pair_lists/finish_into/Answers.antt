@@ -1,33 +1,36 @@
 use Rattle.mg_check_index.proofs.NewListsLaws.{holds-written}
-use Rattle.mg_check_index.proofs.PairLaws.{kept, looks-kept, made-kept, own-put, put-done, put-part, told-pair}
+use Rattle.mg_check_index.proofs.PairLaws.{kept, looks-kept, made-kept, own-put, put-done, put-part, puts-kept, same-references, told-pair}
 use Rattle.mg_check_index.proofs.pair_lists.finish_into.Goals as goal
 
-pub returns-in-Ok-clause-store : goal.returns-in-Ok-clause-store
-returns-in-Ok-clause-store g c = (kept (made-kept _ _ _ _ c.finish.ensures.step.reads)).store
+pub returns-in-Ok-clause-same : goal.returns-in-Ok-clause-same
+returns-in-Ok-clause-same g c = same-references (kept (made-kept _ _ _ _ c.finish.ensures.step.reads))
 
-pub returns-in-Ok-clause-pair : goal.returns-in-Ok-clause-pair
-returns-in-Ok-clause-pair g c = (kept (made-kept _ _ _ _ c.finish.ensures.step.reads)).pair
+pub returns-in-Err-clause-same : goal.returns-in-Err-clause-same
+returns-in-Err-clause-same g c = same-references (kept (made-kept _ _ _ _ c.finish.ensures.step.reads))
 
-pub returns-in-Ok-clause-holds : goal.returns-in-Ok-clause-holds
-returns-in-Ok-clause-holds g c = λ told done took.
-    let is = kept (made-kept _ _ _ _ c.finish.ensures.step.reads) in
-    holds-written (g.S.Store.files c.args.into.now.store.now) (g.S.Store.files c.finish.new.store.store.now) c.args.into.now.pair.now c.finish.new.store.pair.now c.args.writer.now done
-    is.files is.places c.requires.goes told (c.in-Ok.ensures.bytes done took (told-pair (g.S.Store.files c.args.into.now.store.now) c.args.into.now.pair.now told))
-
-pub returns-in-Ok-clause-puts : goal.returns-in-Ok-clause-puts
-returns-in-Ok-clause-puts g c =
+pub returns-in-Ok-clause-finished : goal.returns-in-Ok-clause-finished
+returns-in-Ok-clause-finished g c =
     let is = kept (made-kept _ _ _ _ c.finish.ensures.step.reads) in
     let cause = own-put _ _ _ _ c.requires.unread (looks-kept _ _ _ _ c.finish.ensures.step.reads) c.finish.ensures.step.cause in
-    record { places = is.places; looks = record { files = is.files; unread = is.outside; cause = put-done _ _ cause } }
+    let old = g.S.Store.files c.args.into.now.store.now in
+    let now = g.S.Store.files c.finish.new.store.store.now in
+    let p = c.args.into.now.pair.now in
+    record {
+      holds = λ told done took.
+          holds-written old now p c.finish.new.store.pair.now c.args.writer.now done is.files is.places c.requires.goes told
+          (c.in-Ok.ensures.bytes done took (told-pair old p told));
+      never_bad = tt;
+      same = c.finish.ensures.step.same;
+      puts = puts-kept is (put-done _ _ cause);
+    }
 
-pub returns-in-Err-clause-store : goal.returns-in-Err-clause-store
-returns-in-Err-clause-store g c = (kept (made-kept _ _ _ _ c.finish.ensures.step.reads)).store
-
-pub returns-in-Err-clause-pair : goal.returns-in-Err-clause-pair
-returns-in-Err-clause-pair g c = (kept (made-kept _ _ _ _ c.finish.ensures.step.reads)).pair
-
-pub returns-in-Err-clause-puts : goal.returns-in-Err-clause-puts
-returns-in-Err-clause-puts g c =
+pub returns-in-Err-clause-finished : goal.returns-in-Err-clause-finished
+returns-in-Err-clause-finished g c =
     let is = kept (made-kept _ _ _ _ c.finish.ensures.step.reads) in
     let cause = own-put _ _ _ _ c.requires.unread (looks-kept _ _ _ _ c.finish.ensures.step.reads) c.in-Err.ensures.step.cause in
-    record { places = is.places; looks = record { files = is.files; unread = is.outside; cause = put-part _ _ _ _ c.refusal_of.ensures.failed cause } }
+    record {
+      holds = λ told done took. tt;
+      never_bad = c.refusal_of.ensures.never_bad;
+      same = c.finish.ensures.step.same;
+      puts = puts-kept is (put-part _ _ _ _ c.refusal_of.ensures.failed cause);
+    }

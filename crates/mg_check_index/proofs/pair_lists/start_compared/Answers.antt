@@ -1,13 +1,15 @@
 use Rattle.std.proofs.Common.{rules}
-use Rattle.std.specs.Prelude.{IfOk}
-use Rattle.mg_check_index.specs.Anew.{GoesToPair}
-use Rattle.mg_check_index.proofs.PairLaws.{at-last, puts-last}
+use Rattle.mg_dev.specs.Moments.{Between}
+use Rattle.mg_check_index.specs.PairCalls.{StartsLists}
+use Rattle.mg_check_index.proofs.PairLaws.{told-last}
 use Rattle.mg_check_index.proofs.pair_lists.start_compared.Goals as goal
 
-pub returns-clause-goes : goal.returns-clause-goes
-returns-clause-goes g c = at-last (λ p. IfOk c.start_into.result (λ w. GoesToPair w p)) c.start_into.new.into.pair.now _ (search rules) c.start_into.ensures.goes
-
-pub returns-clause-puts : goal.returns-clause-puts
-returns-clause-puts g c =
-    puts-last g.S.Store.files g.S.Store.reads g.S.Store.faults c.args.pair.now c.start_into.new.into.pair.now _ c.args.store.now c.start_into.new.into.store.now _ (search rules) (search rules)
-    c.start_into.ensures.puts
+pub returns : goal.returns
+returns g c =
+    let store = c.start_into.ensures.same.store in
+    let pair = c.start_into.ensures.same.pair in
+    record {
+      started = told-last
+          (λ p s. Between g.S.Store.files g.S.Store.reads g.S.Store.faults c.args.store.now s (StartsLists c.args.all c.args.pair.now p c.start_into.result))
+          c.start_into.new.into.pair.now _ c.start_into.new.into.store.now _ (search rules) (search rules) c.start_into.ensures.started;
+    }

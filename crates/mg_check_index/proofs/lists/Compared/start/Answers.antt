@@ -14,7 +14,7 @@ returns-in-Ok-clause-start g c = record {
 }
 
 pub returns-in-Ok-clause-looks : goal.returns-in-Ok-clause-looks
-returns-in-Ok-clause-looks g c = looks_ok c.in-Ok.ensures.looks
+returns-in-Ok-clause-looks g c = looks_ok c.in-Ok.ensures.looks.looks
 
 pub returns-in-Err-clause-looks : goal.returns-in-Err-clause-looks
-returns-in-Err-clause-looks g c = looks_err c.in-Err.ensures.looks
+returns-in-Err-clause-looks g c = looks_err c.in-Err.ensures.looks.looks

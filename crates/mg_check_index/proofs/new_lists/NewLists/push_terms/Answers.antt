@@ -31,7 +31,8 @@ loop-index-preserved g c =
       can = can-list-on _ _ c.push_term.new.self.pair files listed.can;
       push = can-push-on _ _ c.push_term.new.lexicon.pair files listed.push;
       listed = λ collection has.
-          listed-on _ _ c.push_term.new.self.pair c.push_term.new.lexicon.pair files (listed.listed collection (listed-on _ _ c.loop-index.self.pair c.loop-index.lexicon.pair (sym files) (inv.listed collection has)));
+          let so_far = listed-on _ _ c.loop-index.self.pair c.loop-index.lexicon.pair (sym files) (inv.listed collection has) in
+          listed-on _ _ c.push_term.new.self.pair c.push_term.new.lexicon.pair files (listed.listed collection so_far);
       step = record { lists = writes-then inv.step.lists (writes-ok listed.step.lists); lexicon_is = lexicon-more inv.step.lexicon_is listed.step.lexicon_is };
     }
 

@@ -10,7 +10,8 @@ pub returns-in-Err-clause-other : goal.returns-in-Err-clause-other
 returns-in-Err-clause-other g c = λ told.
     let w = c.args.self.now in
     let files = g.S.Store.files c.args.store.now in
-    refutes_wider _ (bytes_at files (set_name w) ≡ bytes_of files w) c.in-Err.refusal (whole-stands w.from (bytes_at files (set_name w)) (bytes_of files w) c.requires.whole) (c.in-Err.ensures.other told)
+    refutes_wider _ (bytes_at files (set_name w) ≡ bytes_of files w) c.in-Err.refusal
+    (whole-stands w.from (bytes_at files (set_name w)) (bytes_of files w) c.requires.whole) (c.in-Err.ensures.other told)
 
 pub returns-in-Err-clause-looks : goal.returns-in-Err-clause-looks
 returns-in-Err-clause-looks g c = looks_err c.in-Err.ensures.looks
