@@ -81,8 +81,22 @@ impl<F: Feed> BitReader<F> {
         ensures some { (files : Option Files) → F.fits self.now.feed files →
             HasBits (F.feeding self.now.feed) files (8 * (self.now.place / 8)) 64 → IsSome result }
     {
-        match self.feed.word(self.place / 8) {
-            Some(word) => Some(middle(word, (self.place % 8) as u32)),
+        self.peek_at(self.place)
+    }
+
+    /// The same of the 57 bits from any place on. Whoever keeps a place of his own looks with it, and
+    /// seeks once he is done.
+    #[inline]
+    pub fn peek_at(&self, place: u64) -> Option<u64>
+        ensures below { IfSome result (λ next. next < 2 ^ 57) }
+        ensures told { ToldBits (F.feeding self.now.feed) (F.fits self.now.feed) place
+            result (λ next. Begins (digits 57 next)) }
+        ensures held { IfSome result (λ next. HoldsBits (F.feeding self.now.feed) place 57) }
+        ensures some { (files : Option Files) → F.fits self.now.feed files →
+            HasBits (F.feeding self.now.feed) files (8 * (place / 8)) 64 → IsSome result }
+    {
+        match self.feed.word(place / 8) {
+            Some(word) => Some(middle(word, (place % 8) as u32)),
             None => None,
         }
     }
