@@ -13,7 +13,6 @@ use Rattle.mg_defs.proofs.BitLaws.{length_digits}
 use Rattle.mg_defs.proofs.CanonSteps.{first-step, first-zero, first-last, nth}
 use Rattle.mg_defs.proofs.CanonLaws.{digits-low, good_within, good_full, codeword-many, codewords_free, goes_on_to}
 use Rattle.mg_canon.specs.Tables.{count_below, place_of, AreNumbered, AreTables, AreBeginnings, IsBeginning, found_in}
-use Rattle.mg_canon.specs.declared.found.Found.{Found}
 use Rattle.mg_canon.proofs.Refused.{good_from}
 use Rattle.mg_canon.proofs.Placing.{room_for}
 
@@ -313,6 +312,13 @@ next_value next read value short is =
     let whole : 2 * value + cond (is_odd (next / 2 ^ (56 - read))) 1 0 ≡ next / 2 ^ (56 - read) = omega (arith, odd_or_not (next / 2 ^ (56 - read)), half) in
     whole ∙ ap (λ k. next / 2 ^ k) (sym f)
 
+-- the next of 57 bits is read, where the first ones are the front of longer codewords alone
+pub walk_on : {lengths values firsts offsets symbols : List ℕ} {read : ℕ} (next : ℕ) → AreTables lengths values firsts offsets symbols → 0 < length lengths →
+    Walk lengths read (next / 2 ^ (57 - read)) → (read ≡ 0) ⊎ (next / 2 ^ (57 - read) < get_or firsts read 0) → (read < 48) × Walk lengths (read + 1) (next / 2 ^ (57 - (read + 1)))
+walk_on {lengths} {read = read} next t some w more =
+    let goes = by_tables t some w more in
+    (goes.on, subst (λ v. Walk lengths (read + 1) v) (next_value next read (next / 2 ^ (57 - read)) (omega (arith, goes.on)) refl) (goes.more (is_odd (next / 2 ^ (56 - read)))))
+
 -- 57 bits begin with what their first ones begin with
 pub of_front : (next width size : ℕ) → width ≤ 57 → size ≤ width → next / 2 ^ (57 - width) / 2 ^ (width - size) ≡ next / 2 ^ (57 - size)
 of_front next width size few short =
@@ -333,6 +339,27 @@ front_below front width few below =
 pub start_value : (next : ℕ) → next < 2 ^ 57 → 0 ≡ next / 2 ^ (57 - 0)
 start_value next small = omega arith
 
+-- the way begins with one bit, or with one more than some below all codewords of so many
+pub walk_begins : {lengths values firsts offsets symbols : List ℕ} {read : ℕ} (next : ℕ) → AreTables lengths values firsts offsets symbols → 0 < length lengths → next < 2 ^ 57 →
+    1 ≤ read → read ≤ 48 → (1 < read → next / 2 ^ (57 - (read - 1)) < get_or firsts (read - 1) 0) → (1 < read → 0 < get_or firsts 10 0) → Walk lengths read (next / 2 ^ (57 - read))
+walk_begins {lengths} {values} {firsts} {offsets} {symbols} {read} next t some small one short longer ten =
+    let good : AreGood lengths = tables_good lengths values firsts offsets symbols t in
+    let ten_at = t.first_numbers.at 10 (omega arith) in
+    let last_at = t.first_numbers.at (read - 1) (omega arith) in
+    ⊎_elim
+    (λ more.
+    let below = longer more in
+    let above = ten more in
+    let again : read - 1 + 1 ≡ read = omega arith in
+    let before : Walk lengths (read - 1) (next / 2 ^ (57 - (read - 1))) =
+    walk_from lengths (read - 1) (next / 2 ^ (57 - (read - 1))) good (omega arith) (inr (omega arith)) (λ e. absurd (omega arith)) (λ e. omega (arith, last_at, below)) (λ e. omega (arith, ten_at, above)) in
+    subst (λ r. Walk lengths r (next / 2 ^ (57 - r))) again (walk_on next t some before (inr below)).1)
+    (λ few.
+    let first : 0 + 1 ≡ read = omega arith in
+    let none : Walk lengths 0 (next / 2 ^ (57 - 0)) = subst (λ v. Walk lengths 0 v) (start_value next small) (walk_start lengths good) in
+    subst (λ r. Walk lengths r (next / 2 ^ (57 - r))) first (walk_on next t some none (inl refl)).1)
+    (cases_lt 1 read)
+
 -- an entry that was read tells what the bits of its place begin with
 pub entry_is : (lengths : List ℕ) (width : ℕ) (entries : List ℕ) (i entry : ℕ) → AreBeginnings lengths width entries → i < length entries → entry ≡ get_or entries i entry →
     IsBeginning lengths width i (found_in entry)
@@ -348,12 +375,3 @@ entry_more lengths width entries entry told begins = λ i h. ⊎_elim
     subst (λ k. IsBeginning lengths width k (found_in (get_or (entries ++ entry ∷ []) k 0))) (sym e)
     (subst (λ n. IsBeginning lengths width (length entries) (found_in n)) (sym (get_or_push entries entry 0 (length entries) refl)) begins))
     (cases_lt i (length entries))
-
--- what an entry tells of a codeword is so of the codeword
-pub entry_tells : (lengths : List ℕ) (width front entry : ℕ) (found : Found) → (found_in entry).symbol ≡ found.symbol → (found_in entry).size ≡ found.size →
-    IsBeginning lengths width front found → IsBeginning lengths width front (found_in entry)
-entry_tells lengths width front entry found symbol size begins = record {
-  short = subst (λ n. n ≤ width) (sym size) begins.short;
-  symbol = λ some. subst (λ s. s < length lengths) (sym symbol) (begins.symbol (subst (λ n. 0 < n) size some));
-  code = λ some. ap (λ s. codeword lengths s) symbol ∙ begins.code (subst (λ n. 0 < n) size some) ∙ ap (λ n. digits n (front / 2 ^ (width - n))) (sym size);
-}

@@ -10,9 +10,9 @@ use Rattle.mg_defs.proofs.FrontLaws.{shows_right}
 use Rattle.mg_bits.specs.Feed.{Feeding, HoldsBits}
 use Rattle.mg_bits.specs.Reading.{Reading}
 use Rattle.mg_bits.proofs.CallerLemmas.{digits_split, holds_inside, read_held, told_first, walk_whole}
-use Rattle.mg_canon.specs.Pairs.{AreShort, FirstTwoFound, HeldSymbols, HeldSymbol, ahead}
+use Rattle.mg_canon.specs.Pairs.{AreShort, HeldSymbols, HeldSymbol, ahead}
 use Rattle.mg_canon.specs.Symbols.{FirstFound}
-use Rattle.mg_canon.specs.declared.found.Found.{Found}
+use Rattle.mg_canon.specs.Tables.{Found}
 
 -- ---- what is told of bits behind the first ones
 
@@ -61,12 +61,9 @@ module _ {Fed : Type 0} {agrees : Fed → Option Files → Type 0} {feeding : Fe
   -- two codewords, one behind the other
   pub held_two : {first second : List ℕ} {old new : Reading Fed} {next : ℕ} {one two : Found} → 0 < (feeding old.feed).page → HoldsBits (feeding old.feed) old.place 57 →
       ((files : Option Files) → agrees old.feed files → FromPlace ((feeding old.feed).source files) old.place (Begins (digits 57 next))) →
-      FirstTwoFound first second next (Some (one, two)) → new.feed ≡ old.feed → new.place ≡ old.place + (one.size + two.size) →
+      FirstFound first next (Some one) → FirstFound second (next * 2 ^ one.size % 2 ^ 57) (Some two) → one.size + two.size ≤ 57 → new.feed ≡ old.feed → new.place ≡ old.place + (one.size + two.size) →
       HeldSymbols agrees feeding first second old new (one.symbol, two.symbol)
-  held_two {first} {second} {old} {new} {next} {one} {two} some holds told found feed place =
-      let a = found.one in
-      let b = found.two in
-      let within = found.within in
+  held_two {first} {second} {old} {new} {next} {one} {two} some holds told a b within feed place =
       let long : length (codeword first one.symbol) ≡ one.size = ap length a.code ∙ length_digits one.size _ in
       let behind : Reading Fed = ahead old one.size in
       let is : ahead old one.size ≡ ahead old (length (codeword first one.symbol)) = ap (ahead old) (sym long) in

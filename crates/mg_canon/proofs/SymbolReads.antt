@@ -1,5 +1,5 @@
 -- The ways out of a reader of a symbol: each makes what the reader promises.
-use Rattle.std.proofs.Common.{◌≡◌, ◌-◌, ◌/◌, ◌^◌, ◌<◌, ◌≤◌, ℕ, Bool, List, length, Option, Some, None, Result, Ok, Err, ap, ◌∙◌, subst}
+use Rattle.std.proofs.Common.{◌≡◌, ◌-◌, ◌/◌, ◌%◌, ◌^◌, ◌<◌, ◌≤◌, ℕ, Bool, List, length, Option, Some, None, Result, Ok, Err, ap, sym, ◌∙◌, subst}
 use Rattle.mg_dev.specs.Files.{Files}
 use Rattle.mg_defs.specs.Answers.{Below}
 use Rattle.mg_defs.specs.Bits.{digits}
@@ -16,6 +16,7 @@ use Rattle.mg_bits.specs.declared.code_err.CodeErr.{CodeErr}
 use Rattle.mg_bits.specs.declared.code_err.CodeErr.TheVariants.{Over}
 use Rattle.mg_bits.proofs.CallerLemmas.{HasRead, a_code_is_cut, code_is_read, no_code_is_read}
 use Rattle.mg_canon.specs.Symbols.{FirstFound, ReadsSymbol}
+use Rattle.mg_canon.specs.Tables.{Found, found_in}
 use Rattle.mg_canon.proofs.Decoding.{GoesOn, IsCodeword, NoCodeword}
 
 -- ---- from 57 bits
@@ -26,6 +27,15 @@ first_is {read = read} found some small is = record { symbol = found.taken; code
 
 pub first_is_none : {lengths : List ℕ} {next : ℕ} → length lengths ≡ 1 → FirstFound lengths next None
 first_is_none alone = record { symbol = tt; code = tt; some = tt; small = tt; none = alone }
+
+abbrev pair_of : ℕ → ℕ → Found
+pair_of symbol size = record { symbol = symbol; size = size }
+
+-- the same where both are told by an entry
+pub entry_found : {lengths : List ℕ} {next : ℕ} (entry symbol size : ℕ) → entry / 64 ≡ symbol → entry % 64 ≡ size → FirstFound lengths next (Some (pair_of symbol size)) →
+    FirstFound lengths next (Some (found_in entry))
+entry_found {lengths} {next} entry symbol size of_symbol of_size found =
+    subst (λ k. FirstFound lengths next (Some (pair_of (entry / 64) k))) (sym of_size) (subst (λ k. FirstFound lengths next (Some (pair_of k size))) (sym of_symbol) found)
 
 -- ---- bit by bit
 

@@ -9,7 +9,7 @@ use Rattle.mg_bits.specs.Feed.{Feeding, Device}
 use Rattle.mg_bits.specs.NextBits.{ReadNext}
 use Rattle.mg_bits.specs.Reading.{Reading}
 use Rattle.mg_canon.specs.Symbols.{FirstFound}
-use Rattle.mg_canon.specs.declared.found.Found.{Found}
+use Rattle.mg_canon.specs.Tables.{found_in}
 
 -- a symbol was read where the reader holds the bits of its codeword: on whatever device it agrees with, for none is asked
 pub record HeldSymbol {Fed : Type 0} (agrees : Fed → Option Files → Type 0) (feeding : Fed → Feeding) (lengths : List ℕ)
@@ -23,6 +23,10 @@ pub record HeldSymbol {Fed : Type 0} (agrees : Fed → Option Files → Type 0) 
   -- the codeword stands there
   pub told : (files : Option Files) → agrees old.feed files → FromPlace ((feeding old.feed).source files) old.place
       (AnswersCode (Ok symbol) (Below (length lengths)) (codeword lengths) 1 old.place)
+
+-- a reader of a feed at a place
+abbrev pub standing : {Fed : Type 0} → Fed → ℕ → Reading Fed
+standing feed place = record { feed = feed; place = place }
 
 -- a reader so many bits on
 abbrev pub ahead : {Fed : Type 0} → Reading Fed → ℕ → Reading Fed
@@ -41,13 +45,15 @@ pub record AreShort (first second : List ℕ) : Type 0 where
   pub short : (s t : ℕ) → s < length first → t < length second →
       length (codeword first s) + length (codeword second t) ≤ 57
 
--- a codeword of each of two codes is found, with which 57 bits begin one behind the other
-pub record FirstTwoFound (first second : List ℕ) (next : ℕ) (result : Option (Found × Found)) : Type 0 where
+-- A codeword of each of two codes is found, with which 57 bits begin one behind the other. Both are told as entries of
+-- a table.
+pub record FirstTwoFound (first second : List ℕ) (next : ℕ) (result : Option (ℕ × ℕ)) : Type 0 where
   -- the first one
-  pub one : IfSome result (λ found. FirstFound first next (Some found.0))
+  pub one : IfSome result (λ found. FirstFound first next (Some (found_in found.0)))
   -- the bits behind it begin with the second one, were they followed by zero-bits
-  pub two : IfSome result (λ found. FirstFound second (next * 2 ^ found.0.size % 2 ^ 57) (Some found.1))
+  pub two : IfSome result (λ found. FirstFound second (next * 2 ^ (found_in found.0).size % 2 ^ 57)
+      (Some (found_in found.1)))
   -- both are among the bits
-  pub within : IfSome result (λ found. found.0.size + found.1.size ≤ 57)
+  pub within : IfSome result (λ found. (found_in found.0).size + (found_in found.1).size ≤ 57)
   -- they are found where both codes are short
   pub none : IfNone result (AreShort first second → ⊥)

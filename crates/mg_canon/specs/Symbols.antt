@@ -10,7 +10,7 @@ use Rattle.mg_bits.specs.NextBits.{FromNext, ReadNext}
 use Rattle.mg_bits.specs.Reading.{Reading}
 use Rattle.mg_bits.specs.declared.code_err.CodeErr.{CodeErr}
 use Rattle.mg_bits.specs.declared.code_err.CodeErr.TheVariants.{Over}
-use Rattle.mg_canon.specs.declared.found.Found.{Found}
+use Rattle.mg_canon.specs.Tables.{Found}
 
 -- the symbol is answered whose codeword stands at the reader's place, or why there is none, by the lengths of the codewords
 pub record ReadsSymbol {Fed Dev : Type 0} (lengths : List ℕ) (agrees : Fed → Option Files → Type 0) (feeding : Fed → Feeding)

@@ -17,7 +17,7 @@ ghost use Rattle.mg_canon.specs.Refusals.{IsFirstBad, IsUnfilled, HaveLengths};
 use crate::CanonErr;
 use crate::bits::number_of;
 use crate::check::check;
-use crate::found::{Found, entry_of, read_entry};
+use crate::found::{entry_of, size_in, symbol_in};
 use crate::tables::{ByLength, count_lengths, first_codewords, first_places, number};
 use mg_bits::{BitReader, BitWriter, CodeErr, Feed, refused};
 use mg_dev::{PutErr, Store};
@@ -165,69 +165,68 @@ impl Canon {
             Some(next) => next,
             None => return None,
         };
-        match self.first_of(next) {
-            Some(found) => {
-                reader.seek(reader.place() + u64::from(found.size));
-                Some(found.symbol)
-            }
-            None => None,
+        let entry = self.first_of(next);
+        let size = size_in(entry);
+        if size == 0 {
+            return None;
         }
+        reader.seek(reader.place() + u64::from(size));
+        Some(symbol_in(entry))
     }
 
-    /// The symbol whose codeword 57 bits begin with: none is longer than 48. There is one but for a
-    /// single symbol and a one-bit.
+    /// The entry of the symbol whose codeword 57 bits begin with: none is longer than 48. There is one
+    /// but for a single symbol and a one-bit, where the answer has no bits.
     #[inline(always)]
-    pub(crate) fn first_of(&self, next: u64) -> Option<Found>
+    pub(crate) fn first_of(&self, next: u64) -> u32
         requires next { next < 2 ^ 57 }
         requires some { 0 < length self.now }
-        ensures { FirstFound self.now next result }
+        ensures found { 0 < (found_in result).size →
+            FirstFound self.now next (Some (found_in result)) }
+        ensures none { (found_in result).size ≡ 0 → FirstFound self.now next None }
     {
-        let found = self.first_by_table(next);
-        if found.size > 0 {
-            return Some(found);
+        let entry = self.first_by_table(next);
+        if size_in(entry) > 0 {
+            return entry;
         }
-        self.first_by_lengths(next, found.symbol)
+        self.first_by_lengths(next, symbol_in(entry))
     }
 
     /// The same by the table. Where it answers no bits, the symbol tells behind how many bits a codeword
     /// is to be sought.
     #[inline(always)]
-    fn first_by_table(&self, next: u64) -> Found
+    fn first_by_table(&self, next: u64) -> u32
         requires next { next < 2 ^ 57 }
-        ensures { 0 < result.size → FirstFound self.now next (Some result) }
+        ensures { 0 < (found_in result).size →
+            FirstFound self.now next (Some (found_in result)) }
     {
         let front = (next >> (57 - self.width)) as usize;
         if front >= self.beginnings.len() {
-            return Found { symbol: 0, size: 0 };
+            return 0;
         }
-        read_entry(self.beginnings[front])
+        self.beginnings[front]
     }
 
     /// The same by the lengths of codewords, from the shortest one on; or behind so many bits, where
     /// all codewords that these begin are longer.
     #[inline(always)]
-    fn first_by_lengths(&self, next: u64, behind: u32) -> Option<Found>
+    fn first_by_lengths(&self, next: u64, behind: u32) -> u32
         requires next { next < 2 ^ 57 }
         requires some { 0 < length self.now }
-        ensures { FirstFound self.now next result }
+        ensures found { 0 < (found_in result).size →
+            FirstFound self.now next (Some (found_in result)) }
+        ensures none { (found_in result).size ≡ 0 → FirstFound self.now next None }
     {
         let firsts = &self.firsts;
-        let from = start_of(firsts, next, behind);
-        let mut value = from.value;
-        let mut read = from.read;
-        while needs_bit(firsts, read, value) {
-            let bit = (next >> (56 - read)) % 2 == 1;
-            value = 2 * value + number_of(bit);
+        let mut read = start_of(firsts, next, behind);
+        while next >> (57 - read) < u64::from(firsts[read]) {
             read += 1;
         }
-        let index = (self.offsets[read] + (value - firsts[read])) as usize;
+        let past = (next >> (57 - read)) - u64::from(firsts[read]);
+        let index = (u64::from(self.offsets[read]) + past) as usize;
         if index >= self.symbols.len() {
-            return None;
+            return 0;
         }
-        Some(Found {
-            symbol: self.symbols[index],
-            size: read as u32,
-        })
+        entry_of(self.symbols[index], read as u32)
     }
 
     /// The most bits, up to 32, than which all codewords that these bits begin are longer, and at least
@@ -255,10 +254,11 @@ impl Canon {
         requires few { length self.now ≤ 2 ^ 22 }
         ensures { IsBeginning self.now width front (found_in result) }
     {
-        match self.first_by_lengths(front << (57 - width), width) {
-            Some(found) if found.size <= width => entry_of(found.symbol, found.size),
-            _ => entry_of(self.passed(width, front), 0),
+        let entry = self.first_by_lengths(front << (57 - width), width);
+        if size_in(entry) > 0 && size_in(entry) <= width {
+            return entry;
         }
+        entry_of(self.passed(width, front), 0)
     }
 
     /// The code with the table of what its first bits begin with.
@@ -336,34 +336,24 @@ fn needs_bit(firsts: &ByLength, read: usize, value: u32) -> bool
     value < firsts[read]
 }
 
-/// How many bits were read, and the number that they are.
-#[derive(Drop)]
-struct Walked {
-    read: usize,
-    value: u32,
-}
-
-/// Where the way by lengths begins: behind so many bits, where all codewords that these begin are
-/// longer and they are no more than 32; else behind none.
-#[inline]
-fn start_of(firsts: &ByLength, next: u64, behind: u32) -> Walked
+/// With how many bits the way by lengths begins: with one more than these, where all codewords that
+/// these begin are longer and they are no more than 32; else with one.
+#[inline(always)]
+fn start_of(firsts: &ByLength, next: u64, behind: u32) -> usize
     requires next { next < 2 ^ 57 }
-    ensures short { result.read ≤ 48 }
-    ensures read { (result.read ≡ 0) ⊎ (1 ≤ result.read) }
-    ensures value { result.value ≡ next / 2 ^ (57 - result.read) }
-    ensures longer { 1 ≤ result.read → result.value < slice_index firsts.now result.read }
-    ensures ten { 1 ≤ result.read → 0 < slice_index firsts.now 10 }
+    ensures some { 1 ≤ result }
+    ensures short { result ≤ 48 }
+    ensures longer { 1 < result →
+        next / 2 ^ (57 - (result - 1)) < slice_index firsts.now (result - 1) }
+    ensures ten { 1 < result → 0 < slice_index firsts.now 10 }
 {
     if behind > 0 && behind <= 32 && firsts[10] > 0 {
-        let value = next >> (57 - behind);
-        if value < u64::from(firsts[behind as usize]) {
-            return Walked {
-                read: behind as usize,
-                value: value as u32,
-            };
+        let first = u64::from(firsts[behind as usize]);
+        if next >> (57 - behind) < first {
+            return behind as usize + 1;
         }
     }
-    Walked { read: 0, value: 0 }
+    1
 }
 
 /// By how many first bits a code of so many symbols is looked up. Ten are enough where no more than an

@@ -1,15 +1,12 @@
-//! A codeword that was found.
+//! A codeword that was found, in one number: its symbol times 64, and its bits.
+//!
+//! A table of codewords holds it so, and it is handed on so, since a number stays in a register. No
+//! bits stand for no codeword.
 ghost use Rattle.std.specs.Prelude.{◌≡◌, ◌^◌, ◌<◌};
 ghost use Rattle.mg_canon.specs.Tables.{found_in};
 
-/// A symbol and the number of bits of its codeword; no bits where no codeword was found.
-#[derive(Clone, Copy, Drop)]
-pub struct Found {
-    pub symbol: u32,
-    pub size: u32,
-}
-
-/// Both in one number, as a table of codewords holds them: the symbol times 64, and the bits.
+/// The entry of a symbol and of the bits of its codeword.
+#[inline(always)]
 pub fn entry_of(symbol: u32, size: u32) -> u32
     requires symbol { symbol < 2 ^ 26 }
     requires size { size < 64 }
@@ -19,13 +16,19 @@ pub fn entry_of(symbol: u32, size: u32) -> u32
     symbol * 64 + size
 }
 
-/// What an entry of such a table holds.
-#[inline]
-pub fn read_entry(entry: u32) -> Found
-    ensures { result ≡ found_in entry }
+/// The symbol of an entry.
+#[inline(always)]
+pub fn symbol_in(entry: u32) -> u32
+    ensures { result ≡ (found_in entry).symbol }
 {
-    Found {
-        symbol: entry / 64,
-        size: entry % 64,
-    }
+    entry / 64
+}
+
+/// How many bits the codeword of an entry has.
+#[inline(always)]
+pub fn size_in(entry: u32) -> u32
+    ensures is { result ≡ (found_in entry).size }
+    ensures few { result < 64 }
+{
+    entry % 64
 }

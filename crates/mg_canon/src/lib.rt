@@ -18,4 +18,4 @@ mod tables;
 
 pub use canon::Canon;
 pub use canon_err::CanonErr;
-pub use pair::get_pair_held;
+pub use pair::pair_at;

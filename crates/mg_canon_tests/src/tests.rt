@@ -251,13 +251,18 @@ fn reads_pairs(first: &Canon, second: &Canon, paired: &Paired) -> bool {
     if first.count() == 0 || second.count() == 0 {
         return false;
     }
-    let mut reader = BitReader::new(SliceFeed::new(paired.bytes), 0);
+    let reader = BitReader::new(SliceFeed::new(paired.bytes), 0);
+    let mut place = 0;
     for pair in &paired.pairs {
-        if reader.place() > 1 << 40 || get_pair_held(first, second, &mut reader) != Some(*pair) {
+        if place > 1 << 40 {
             return false;
         }
+        match pair_at(first, second, &reader, place) {
+            Some((one, two, behind)) if (one, two) == *pair => place = behind,
+            _ => return false,
+        }
     }
-    reader.place() == paired.bits
+    place == paired.bits
 }
 
 /// The same by the codes of these lengths.

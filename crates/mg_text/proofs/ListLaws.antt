@@ -1,7 +1,6 @@
 -- Steps of reading words, one behind another, by what each of them promises.
-use Rattle.std.proofs.Common.{arith, ◌≡◌, ◌≢◌, ◌+◌, ◌++◌, ◌^◌, ◌≤◌, ◌<◌, ℕ, zero, suc, Bool, true, false, not, List, [], ◌∷◌, length, map, filter, take, get_or, Result, Ok, Err, refl, sym, ◌∙◌, ap, subst, zero-add, length-append, append-nil, append_assoc}
+use Rattle.std.proofs.Common.{arith, ◌≡◌, ◌≢◌, ◌+◌, ◌++◌, ◌^◌, ◌≤◌, ◌<◌, ℕ, zero, suc, not, List, [], ◌∷◌, length, map, filter, take, get_or, Result, Ok, Err, refl, sym, ◌∙◌, ap, subst, zero-add, length-append, append-nil, append_assoc}
 use Rattle.std.specs.Prelude.{OnOk, IfErr}
-use Rattle.std.specs.Bool.{OnFalse, OnTrue}
 use Rattle.std.proofs.Math.Seq.{take-length}
 use Rattle.std.proofs.lemmas.Grind.{flat_map-append}
 use Rattle.std.proofs.lemmas.Option.{get_or_from_slice_get}
@@ -382,8 +381,7 @@ doc_listed code r {a} {b} {c} some list head pairs = steps_more r head pairs (λ
     (shows_next _ _ _ _ a.place b.place x y head.calm read.1 shows)))) (on_ok_map r _ _ (document_came code head.calm list head.stood) pairs.stood)
 
 -- only a symbol of a word is added where a pair is held
-pub words_held : (code : TextCode) (symbol word size : ℕ) (answer : Bool) (old new : Listing) → symbol < length code.words.pieces → OnTrue answer (Adds (symbol_if symbol word) size old new) →
-    OnFalse answer (new ≡ old) → AreOfWords code old.symbols → AreOfWords code new.symbols
-words_held code symbol word size true old new lt held kept before =
+pub words_held : (code : TextCode) (symbol word size : ℕ) (old new : Listing) → symbol < length code.words.pieces → Adds (symbol_if symbol word) size old new →
+    AreOfWords code old.symbols → AreOfWords code new.symbols
+words_held code symbol word size old new lt held before =
     subst (AreOfWords code) (sym held.symbols_are) (words_more code old.symbols (symbol_if symbol word) before (symbol_of_word code symbol word lt))
-words_held code symbol word size false old new lt held kept before = rw kept before

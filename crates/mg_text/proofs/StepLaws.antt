@@ -94,6 +94,12 @@ pub still_there : {agrees : Type 0} {tells comes : DecodingStep} {r : Result (Un
     Steps agrees tells comes r a (record { feed = f_now; place = p_now; device = d; held = b_now; sink = s })
 still_there step feed place held = rw (feed, place, held) step
 
+-- the reader of bits was sought where it is to stand
+pub sought : {agrees now : Type 0} {tells comes : DecodingStep} {r : Result (Unit {0}) ShowErr} {a : Moment} {f f_now : Feeding} {p p_now : ℕ} {d : Seen} {b : Gathering} {s : SinkAt} →
+    Steps agrees tells comes r a (record { feed = f; place = p; device = d; held = b; sink = s }) → now → f_now ≡ f → p_now ≡ p →
+    Steps now tells comes r a (record { feed = f_now; place = p_now; device = d; held = b; sink = s })
+sought step fits feed place = rw (feed, place) (record { fits = fits; calm = step.calm; told = step.told; stood = step.stood; added = step.added; cause = step.cause })
+
 one_more : (code : TextCode) (count i : ℕ) (a b c : Moment) → 0 < a.feed.page → i < count → Calm a.feed b.feed a.device b.device → ShowsFirst code count i a b → ShowsPair code (Ok tt) b c →
     ShowsFirst code count (i + 1) a c
 one_more code count i a b c some lt calm first pair = λ ps all is before sofar most small shows shown fits.

@@ -1,5 +1,5 @@
 -- The symbols of a pair of which the reader holds the bits: what stands there is shown, or listed.
-use Rattle.std.proofs.Common.{arith, ◌≡◌, ◌≤◌, ◌<◌, ◌+◌, ◌++◌, ℕ, List, length, length-append, Some, Ok, refl, sym, ◌∙◌, ap}
+use Rattle.std.proofs.Common.{arith, ◌≡◌, ◌<◌, ◌+◌, ◌++◌, ℕ, List, length, length-append, Some, Ok, refl, sym, ◌∙◌, ap}
 use Rattle.std.specs.Prelude.{slice_get}
 use Rattle.mg_dev.specs.Files.{Files}
 use Rattle.std.specs.declared.option.Option.{Option}

@@ -1,6 +1,5 @@
 -- Pairs of which the reader holds the bits.
-use Rattle.std.specs.Prelude.{◌≡◌, ◌≤◌, Bool, Ok}
-use Rattle.std.specs.Bool.{OnFalse, OnTrue}
+use Rattle.std.specs.Prelude.{◌≤◌, Ok}
 use Rattle.std.specs.declared.option.Option.{Option}
 use Rattle.mg_dev.specs.Files.{Files}
 use Rattle.mg_dev.specs.Moments.{SinkAt}
@@ -26,16 +25,12 @@ CameHeld feeding fits r r_now b b_now code = (d : Seen) (sink : SinkAt) → fits
     (record { feed = feeding r.feed; place = r.place; device = d; held = b; sink = sink })
     (record { feed = feeding r_now.feed; place = r_now.place; device = d; held = b_now; sink = sink })
 
--- a pair is held where the answer is true, and else the buffer is as before; no device is asked
+-- a pair is held, and no device is asked
 pub record HoldsPair {Fed : Type 0} (feeding : Fed → Feeding) (fits : Fed → Option Files → Type 0) (r r_now : Reading Fed)
-    (b b_now : Gathering) (code : TextCode) (answer : Bool) : Type 0 where
-  -- the feed is as before
-  pub feed : r_now.feed ≡ r.feed
+    (b b_now : Gathering) (code : TextCode) : Type 0 where
   -- the pair is held
-  pub told : OnTrue answer (ShowsHeld feeding (fits r.feed) r r_now b b_now code)
+  pub told : ShowsHeld feeding (fits r.feed) r r_now b b_now code
   -- it stood there
-  pub stood : OnTrue answer (CameHeld feeding (fits r.feed) r r_now b b_now code)
-  -- nothing is held
-  pub kept : OnFalse answer (b_now ≡ b)
+  pub stood : CameHeld feeding (fits r.feed) r r_now b b_now code
   -- no more bytes may come than might
   pub most : bytes_to_come b_now ≤ bytes_to_come b

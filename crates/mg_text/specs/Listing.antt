@@ -1,6 +1,5 @@
 -- What reading the words of a document does: their symbols are listed, and the bytes of its pieces are counted.
-use Rattle.std.specs.Prelude.{◌≡◌, ℕ, ◌+◌, ◌^◌, ◌≤◌, ◌<◌, ◌++◌, zero, suc, Bool, not, List, [], ◌∷◌, length, map, filter, take, get_or, Ok, Err, IfErr, OnOk, OnErr}
-use Rattle.std.specs.Bool.{OnFalse, OnTrue}
+use Rattle.std.specs.Prelude.{◌≡◌, ℕ, ◌+◌, ◌^◌, ◌≤◌, ◌<◌, ◌++◌, zero, suc, not, List, [], ◌∷◌, length, map, filter, take, get_or, Ok, Err, IfErr, OnOk, OnErr}
 use Rattle.std.specs.List.{AllByRecursion, flat_map}
 use Rattle.std.specs.Option.{IsSome}
 use Rattle.std.specs.declared.option.Option.{Option}
@@ -215,17 +214,13 @@ ListedHeld feeding fits r r_now list list_now code = (d : Seen) → fits d.files
     PairListed code (list_moment feeding (λ (seen : Seen). seen) r d list)
     (list_moment feeding (λ (seen : Seen). seen) r_now d list_now)
 
--- a pair is listed where the answer is true, and else the list is as before; no device is asked
+-- a pair is listed, and no device is asked
 pub record ListsNext {Fed : Type 0} (feeding : Fed → Feeding) (fits : Fed → Option Files → Type 0) (r r_now : Reading Fed)
-    (list list_now : Listing) (code : TextCode) (answer : Bool) : Type 0 where
-  -- the feed is as before
-  pub feed : r_now.feed ≡ r.feed
+    (list list_now : Listing) (code : TextCode) : Type 0 where
   -- the pair is listed
-  pub told : OnTrue answer (ListsHeld feeding (fits r.feed) r r_now list list_now code)
+  pub told : ListsHeld feeding (fits r.feed) r r_now list list_now code
   -- it stood there
-  pub stood : OnTrue answer (ListedHeld feeding (fits r.feed) r r_now list list_now code)
-  -- nothing is listed
-  pub kept : OnFalse answer (list_now ≡ list)
+  pub stood : ListedHeld feeding (fits r.feed) r r_now list list_now code
   -- only a symbol of a word is added
   pub of_words : AreOfWords code list.symbols → AreOfWords code list_now.symbols
 

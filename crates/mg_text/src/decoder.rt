@@ -1,12 +1,12 @@
 //! The bytes of a document, decoded piece by piece.
-ghost use Rattle.std.specs.Prelude.{◌≡◌, []};
-ghost use Rattle.std.specs.Bool.{OnFalse};
+ghost use Rattle.std.specs.Prelude.{◌≡◌, [], IfNone, IfSome};
+ghost use Rattle.mg_canon.specs.Pairs.{standing};
 ghost use Rattle.mg_defs.specs.Marks.{code_of};
 ghost use Rattle.mg_text.specs.Decoding.{Decodes, DocumentCame, DocumentSent, PairCame, PairsCame, PieceCame, ShowsPiece, ShowsPairs, ShowsWhole, ShowsPair, ShowsDoc};
 ghost use Rattle.mg_text.specs.HeldPairs.{HoldsPair};
 
 use crate::show_buffer::ShowBuffer;
-use crate::symbols::{get_count, get_symbol, held_symbols};
+use crate::symbols::{get_count, get_symbol, symbols_at};
 use mg_bits::{BitReader, Feed};
 use mg_dev::{ShowErr, Sink, refused_put};
 use mg_model::{Stream, TextModel};
@@ -36,7 +36,7 @@ fn show_piece<F: Feed, O: Sink>(
 }
 
 /// Shows the word and the other of a pair. It stands apart so that `show_pairs` is short where
-/// `show_held` shows them.
+/// `hold_at` holds them.
 #[inline(never)]
 fn show_pair<F: Feed, O: Sink>(
     model: &TextModel,
@@ -57,47 +57,43 @@ fn show_pair<F: Feed, O: Sink>(
     show_piece(model, Stream::Others, r, dev, buffer, out)
 }
 
-/// Holds the word and the other of a pair, where the reader holds the bits of both codewords, the
-/// model has entries of both pieces and the buffer has room for them. Where it answers false, the
-/// place may be another one, and the buffer is as before.
-#[inline]
-fn hold_next<F: Feed>(model: &TextModel, r: &mut BitReader<F>, buffer: &mut ShowBuffer) -> bool
-    ensures { HoldsPair F.feeding F.fits r.old r.new buffer.old buffer.new model.now result }
+/// Holds the word and the other of the pair at this place, where the reader holds the bits of both
+/// codewords, the model has entries of both pieces and the buffer has room for them, which is so of most
+/// pairs. The place behind it stands for what `show_pair` does at `Ok`; neither the device nor the sink
+/// is asked. At `None` nothing changed.
+#[inline(always)]
+fn hold_at<F: Feed>(
+    model: &TextModel,
+    r: &BitReader<F>,
+    place: u64,
+    buffer: &mut ShowBuffer,
+) -> Option<u64>
+    ensures held { IfSome result (λ behind. HoldsPair F.feeding F.fits
+        (standing r.now.feed place) (standing r.now.feed behind) buffer.old buffer.new model.now) }
+    ensures kept { IfNone result (buffer.new ≡ buffer.old) }
 {
     let words = model.canon(Stream::Words);
     let others = model.canon(Stream::Others);
-    let (first, second) = match held_symbols(words, others, r) {
-        Some(symbols) => symbols,
-        None => return false,
+    let (first, second, behind) = match symbols_at(words, others, r, place) {
+        Some(found) => found,
+        None => return None,
     };
     let word = match model.short_piece(Stream::Words, first) {
         Some(entry) => entry,
-        None => return false,
+        None => return None,
     };
     let other = match model.short_piece(Stream::Others, second) {
         Some(entry) => entry,
-        None => return false,
+        None => return None,
     };
-    buffer.hold_pair(word, other)
-}
-
-/// Shows a pair where neither the device nor the sink has to be asked, which is so of most: `true`
-/// stands for what `show_pair` does at `Ok`. It has no refusal, so that its answer fits a register.
-/// At `false` nothing changed.
-#[inline]
-fn show_held<F: Feed>(model: &TextModel, r: &mut BitReader<F>, buffer: &mut ShowBuffer) -> bool
-    ensures held { HoldsPair F.feeding F.fits r.old r.new buffer.old buffer.new model.now result }
-    ensures place { OnFalse result (r.new.place ≡ r.old.place) }
-{
-    let start = r.place();
-    if hold_next(model, r, buffer) {
-        return true;
+    if buffer.hold_pair(word, other) {
+        Some(behind)
+    } else {
+        None
     }
-    r.seek(start);
-    false
 }
 
-/// Shows so many pairs.
+/// Shows so many pairs. The place of each is kept here, and the reader is sought where it is asked.
 fn show_pairs<F: Feed, O: Sink>(
     model: &TextModel,
     r: &mut BitReader<F>,
@@ -111,15 +107,19 @@ fn show_pairs<F: Feed, O: Sink>(
         F.feeding F.fits F.device O.written O.faults O.lacks r.old r.new dev.old dev.new
         buffer.old buffer.new out.old out.new }
 {
+    let mut place = r.place();
     for _i in 0..count {
-        if show_held(model, r, buffer) {
+        if let Some(behind) = hold_at(model, r, place, buffer) {
+            place = behind;
             continue;
         }
+        r.seek(place);
         match show_pair(model, r, dev, buffer, out) {
-            Ok(()) => {}
+            Ok(()) => place = r.place(),
             Err(refusal) => return Err(refusal),
         }
     }
+    r.seek(place);
     Ok(())
 }
 

@@ -2,12 +2,12 @@
 ghost use Rattle.std.specs.Prelude.{◌≡◌, ◌+◌, ◌<◌, ◌^◌, ℕ, IfNone, IfOk, IfSome, length};
 ghost use Rattle.mg_defs.specs.Canon.{codeword};
 ghost use Rattle.mg_defs.specs.Codes.{gamma};
-ghost use Rattle.mg_canon.specs.Pairs.{HeldSymbols};
+ghost use Rattle.mg_canon.specs.Pairs.{HeldSymbols, standing};
 ghost use Rattle.mg_text.specs.Decoding.{ReadsCode, ReadsNumber, StoodNext};
 ghost use Rattle.mg_text.specs.Refusals.{IsRefused, IsDamaged};
 
 use mg_bits::{BitReader, CodeErr, Feed};
-use mg_canon::{Canon, get_pair_held};
+use mg_canon::{Canon, pair_at};
 use mg_codes::get_gamma;
 use mg_dev::{Bad, Part, PartErr};
 
@@ -67,9 +67,27 @@ pub fn get_symbol<F: Feed>(
     }
 }
 
-/// The symbols of a word and of its other, whose codewords stand at the place, where the reader holds
-/// the bits of both: what `get_symbol` of the one code and then of the other answer at `Ok`, with no
-/// device asked. At `None` the place is the one before.
+/// The symbols of a word and of its other, whose codewords stand at this place, and the place behind
+/// both, where the reader holds the bits of both: what `get_symbol` of the one code and then of the
+/// other answer at `Ok`, with no device asked. The reader stays where it is.
+#[inline(always)]
+pub fn symbols_at<F: Feed>(
+    words: &Canon,
+    others: &Canon,
+    r: &BitReader<F>,
+    place: u64,
+) -> Option<(u32, u32, u64)>
+    ensures { IfSome result
+        (λ found. HeldSymbols F.fits F.feeding words.now others.now (standing r.now.feed place)
+        (standing r.now.feed found.2) (found.0, found.1)) }
+{
+    if place > LAST || words.count() == 0 || others.count() == 0 {
+        return None;
+    }
+    pair_at(words, others, r, place)
+}
+
+/// The same at the reader's place, which goes behind both. At `None` it is the one before.
 #[inline(always)]
 pub fn held_symbols<F: Feed>(
     words: &Canon,
@@ -81,10 +99,13 @@ pub fn held_symbols<F: Feed>(
         (HeldSymbols F.fits F.feeding words.now others.now r.old r.new) }
     ensures place { IfNone result (r.new.place ≡ r.old.place) }
 {
-    if r.place() > LAST || words.count() == 0 || others.count() == 0 {
-        return None;
+    match symbols_at(words, others, r, r.place()) {
+        Some((word, other, behind)) => {
+            r.seek(behind);
+            Some((word, other))
+        }
+        None => None,
     }
-    get_pair_held(words, others, r)
 }
 
 /// How many pairs the document has whose bits stand at the place.

@@ -1,9 +1,9 @@
 //! The words of a document, listed by their symbols, pair by pair. No byte of a piece is read but its length.
-ghost use Rattle.std.specs.Prelude.{◌≡◌};
-ghost use Rattle.std.specs.Bool.{OnFalse};
+ghost use Rattle.std.specs.Prelude.{◌≡◌, IfNone, IfSome};
+ghost use Rattle.mg_canon.specs.Pairs.{standing};
 ghost use Rattle.mg_text.specs.Listing.{DocumentListed, ListsBy, ListsDoc, ListsNext, ListsPair, ListsPairs, ListsWord, OtherPassed, PairListed, PairsListed, PassesOther, WordCame};
 
-use crate::symbols::{get_count, get_symbol, held_symbols};
+use crate::symbols::{get_count, get_symbol, symbols_at};
 use crate::word_list::WordList;
 use mg_bits::{BitReader, Feed};
 use mg_dev::PartErr;
@@ -43,7 +43,7 @@ fn pass_other<F: Feed>(
     }
 }
 
-/// Lists the word of a pair. It stands apart so that `list_pairs` is short where `list_held` lists them.
+/// Lists the word of a pair. It stands apart so that `list_pairs` is short where `hold_at` lists them.
 #[inline(never)]
 fn list_pair<F: Feed>(
     model: &TextModel,
@@ -62,46 +62,42 @@ fn list_pair<F: Feed>(
     pass_other(model, r, dev, list)
 }
 
-/// Lists the word of a pair, where the reader holds the bits of both codewords, the model has entries of
-/// both pieces and no memory has to be taken. Where it answers false, the place may be another one, and
-/// the list is as before.
-#[inline]
-fn list_next<F: Feed>(model: &TextModel, r: &mut BitReader<F>, list: &mut WordList) -> bool
-    ensures { ListsNext F.feeding F.fits r.old r.new list.old list.new model.now result }
+/// Lists the word of the pair at this place, where the reader holds the bits of both codewords, the model
+/// has entries of both pieces and no memory has to be taken, which is so of most pairs. The place behind
+/// it stands for what `list_pair` does at `Ok`; no device is asked. At `None` nothing changed.
+#[inline(always)]
+fn hold_at<F: Feed>(
+    model: &TextModel,
+    r: &BitReader<F>,
+    place: u64,
+    list: &mut WordList,
+) -> Option<u64>
+    ensures held { IfSome result (λ behind. ListsNext F.feeding F.fits (standing r.now.feed place)
+        (standing r.now.feed behind) list.old list.new model.now) }
+    ensures kept { IfNone result (list.new ≡ list.old) }
 {
     let words = model.canon(Stream::Words);
     let others = model.canon(Stream::Others);
-    let (first, second) = match held_symbols(words, others, r) {
-        Some(symbols) => symbols,
-        None => return false,
+    let (first, second, behind) = match symbols_at(words, others, r, place) {
+        Some(found) => found,
+        None => return None,
     };
     let word = match model.short_piece(Stream::Words, first) {
         Some(entry) => entry[0],
-        None => return false,
+        None => return None,
     };
     let other = match model.short_piece(Stream::Others, second) {
         Some(entry) => entry[0],
-        None => return false,
+        None => return None,
     };
-    list.hold(first, usize::from(word), usize::from(other))
-}
-
-/// Lists the word of a pair where no device has to be asked, which is so of most: `true` stands for what
-/// `list_pair` does at `Ok`. At `false` nothing changed.
-#[inline]
-fn list_held<F: Feed>(model: &TextModel, r: &mut BitReader<F>, list: &mut WordList) -> bool
-    ensures held { ListsNext F.feeding F.fits r.old r.new list.old list.new model.now result }
-    ensures place { OnFalse result (r.new.place ≡ r.old.place) }
-{
-    let start = r.place();
-    if list_next(model, r, list) {
-        return true;
+    if list.hold(first, usize::from(word), usize::from(other)) {
+        Some(behind)
+    } else {
+        None
     }
-    r.seek(start);
-    false
 }
 
-/// Lists the words of so many pairs.
+/// Lists the words of so many pairs. The place of each is kept here, and the reader is sought where it is asked.
 fn list_pairs<F: Feed>(
     model: &TextModel,
     r: &mut BitReader<F>,
@@ -113,15 +109,19 @@ fn list_pairs<F: Feed>(
     ensures { ListsBy model.now (ListsPairs model.now count) (PairsListed model.now count) result
         F.feeding F.fits F.device r.old r.new dev.old dev.new list.old list.new }
 {
+    let mut place = r.place();
     for _i in 0..count {
-        if list_held(model, r, list) {
+        if let Some(behind) = hold_at(model, r, place, list) {
+            place = behind;
             continue;
         }
+        r.seek(place);
         match list_pair(model, r, dev, list) {
-            Ok(()) => {}
+            Ok(()) => place = r.place(),
             Err(refusal) => return Err(refusal),
         }
     }
+    r.seek(place);
     Ok(())
 }
 

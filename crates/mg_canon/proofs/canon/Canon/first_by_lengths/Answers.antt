@@ -1,54 +1,45 @@
-use Rattle.std.proofs.Common.{◌≡◌, ℕ, ◌+◌, ◌-◌, ◌*◌, ◌/◌, ◌^◌, ◌<◌, ◌≤◌, List, sym, ap, ◌∙◌, subst, arith}
-use Rattle.mg_defs.specs.Canon.{AreGood, first_codeword}
-use Rattle.mg_canon.proofs.Decoding.{Walk, by_tables, ends_nowhere, ends_with, next_value, start_value, tables_good, walk_from}
-use Rattle.mg_canon.proofs.SymbolReads.{first_is, first_is_none}
+use Rattle.std.proofs.Common.{arith, inr, refl}
+use Rattle.mg_canon.proofs.Decoding.{ends_nowhere, ends_with, walk_begins, walk_on}
+use Rattle.mg_canon.proofs.SymbolReads.{entry_found, first_is, first_is_none}
 use Rattle.mg_canon.proofs.canon.Canon.first_by_lengths.Goals as goal
 
-pub loop-bit-init : goal.loop-bit-init
-loop-bit-init c =
-    let s = c.self.inside in
+pub loop-read-init : goal.loop-read-init
+loop-read-init c =
+    let from = c.start_of-read.ensures in
+    record {
+      walk = walk_begins c.args.next c.self.invariant.tables (rw (← c.self.view_is) at c.requires.some) c.requires.next from.some from.short from.longer from.ten;
+      some = from.some;
+    }
+
+pub loop-read-smaller : goal.loop-read-smaller
+loop-read-smaller c =
+    let on = (walk_on c.args.next c.self.invariant.tables (rw (← c.self.view_is) at c.requires.some) c.loop-read.invariant.walk (inr (omega arith))).0 in
+    omega (arith, on)
+
+pub loop-read-preserved : goal.loop-read-preserved
+loop-read-preserved c = record {
+  walk = (walk_on c.args.next c.self.invariant.tables (rw (← c.self.view_is) at c.requires.some) c.loop-read.invariant.walk (inr (omega arith))).1;
+  some = omega arith;
+}
+
+pub returns-then-index-len-clause-none : goal.returns-then-index-len-clause-none
+returns-then-index-len-clause-none c = λ none.
+    let i = c.loop-read.invariant in
+    rw (← c.self.view_is)
+    (first_is_none (ends_nowhere c.self.invariant.tables (rw (← c.self.view_is) at c.requires.some) i.walk i.some (omega arith) (omega arith)).alone)
+
+pub entry_of-requires-clause-symbol : goal.entry_of-requires-clause-symbol
+entry_of-requires-clause-symbol c =
+    let i = c.loop-read.invariant in
     let t = c.self.invariant.tables in
-    let items : List ℕ = s.lengths.items in
-    let good : AreGood items = tables_good items s.values.items s.firsts s.offsets s.symbols.items t in
-    let from = c.start_of-from.ensures in
-    let read : ℕ = c.start_of-from.result.read in
-    let value : ℕ = c.start_of-from.result.value in
-    let first_at = t.first_numbers.at 10 (omega arith) in
-    let none : read ≡ 0 → value ≡ 0 = λ e. from.value ∙ ap (λ r. c.args.next / 2 ^ (57 - r)) e ∙ sym (start_value c.args.next c.requires.next) in
-    let read_at = t.first_numbers.at read from.short in
-    let below : 1 ≤ read → value < first_codeword read items = λ e. omega (arith, read_at, from.longer e) in
-    let ten : 1 ≤ read → 0 < first_codeword 10 items = λ e. omega (arith, first_at, from.ten e) in
-    record {
-      walk = walk_from items read value good from.short from.read none below ten;
-      value = from.value;
-    }
+    let found = ends_with t (rw (← c.self.view_is) at c.requires.some) i.walk i.some (omega arith) _ (omega arith) (rw (c.from-3.ensures, c.from-2.ensures) at c.index.ensures) in
+    omega (arith, found.taken, t.few)
 
-pub loop-bit-smaller : goal.loop-bit-smaller
-loop-bit-smaller c =
-    let goes = by_tables c.self.invariant.tables (rw (← c.self.view_is) at c.requires.some) c.loop-bit.invariant.walk c.loop-bit-test.ensures.more in
-    omega (arith, goes.on)
-
-pub loop-bit-preserved : goal.loop-bit-preserved
-loop-bit-preserved c =
-    let i = c.loop-bit.invariant in
-    let goes = by_tables c.self.invariant.tables (rw (← c.self.view_is) at c.requires.some) i.walk c.loop-bit-test.ensures.more in
-    record {
-      walk = subst (λ r. Walk c.self.inside.lengths.items (c.loop-bit.read + 1) (2 * c.loop-bit.value + r)) (sym c.number_of.ensures) (goes.more _);
-      value = ap (λ r. 2 * c.loop-bit.value + r) c.number_of.ensures
-          ∙ next_value c.args.next c.loop-bit.read c.loop-bit.value (omega (arith, goes.on)) i.value;
-    }
-
-pub returns : goal.returns
-returns c =
-    let i = c.loop-bit.invariant in
+pub returns-clause-found : goal.returns-clause-found
+returns-clause-found c = λ some.
+    let i = c.loop-read.invariant in
     rw (← c.self.view_is)
+    (entry_found c.entry_of.result c.index.result.now c.loop-read.read c.entry_of.ensures.symbol c.entry_of.ensures.size
     (first_is
-    (ends_with c.self.invariant.tables (rw (← c.self.view_is) at c.requires.some) i.walk c.loop-bit-test.ensures.some c.loop-bit-test.ensures.stop _ (omega arith) c.index.ensures)
-    c.loop-bit-test.ensures.some i.walk.short i.value)
-
-pub returns-then-index-len : goal.returns-then-index-len
-returns-then-index-len c =
-    rw (← c.self.view_is)
-    (first_is_none
-    (ends_nowhere c.self.invariant.tables (rw (← c.self.view_is) at c.requires.some) c.loop-bit.invariant.walk c.loop-bit-test.ensures.some c.loop-bit-test.ensures.stop
-    (omega arith)).alone)
+    (ends_with c.self.invariant.tables (rw (← c.self.view_is) at c.requires.some) i.walk i.some (omega arith) _ (omega arith) (rw (c.from-3.ensures, c.from-2.ensures) at c.index.ensures))
+    i.some i.walk.short refl))
