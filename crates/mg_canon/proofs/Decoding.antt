@@ -3,7 +3,9 @@ use Rattle.std.proofs.Common.{◌≡◌, ℕ, zero, suc, ◌+◌, ◌-◌, ◌*�
 use Rattle.std.proofs.Common.{arith, take, get_or, ◌⊎◌, inl, inr, ⊎_elim, add-one}
 use Rattle.std.proofs.lemmas.Grind.{common_steps}
 use Rattle.std.proofs.lemmas.List.{get_or_default, get_or_append_left, get_or_push, length_push}
-use Rattle.std.proofs.lemmas.Nat.{shl-shr, shl_below, shr-shr}
+use Rattle.std.proofs.lemmas.Nat.{pow_pos, shl-shr, shl_below, shr-shr}
+use Rattle.std.proofs.Math.Nat.{div-mul-le_self, mod-eq-sub-div-mul, mod-lt}
+use Rattle.std.proofs.Math.Pow.{shr_mono}
 use Rattle.std.proofs.lemmas.Bool.{cases_lt, cases_eq}
 use Rattle.std.specs.Prelude.{◌==◌}
 use Rattle.mg_defs.specs.Bits.{Bits, Begins, digits, is_odd}
@@ -12,7 +14,7 @@ use Rattle.mg_defs.specs.Answers.{Below, CutShort, IsNone, IsPrefixFree}
 use Rattle.mg_defs.proofs.BitLaws.{length_digits}
 use Rattle.mg_defs.proofs.CanonSteps.{first-step, first-zero, first-last, nth}
 use Rattle.mg_defs.proofs.CanonLaws.{digits-low, good_within, good_full, codeword-many, codewords_free, goes_on_to}
-use Rattle.mg_canon.specs.Tables.{count_below, place_of, AreNumbered, AreTables, AreBeginnings, IsBeginning, found_in}
+use Rattle.mg_canon.specs.Tables.{count_below, place_of, AreNumbered, AreTables, AreBeginnings, IsBeginning, IsStart, found_in}
 use Rattle.mg_canon.proofs.Refused.{good_from}
 use Rattle.mg_canon.proofs.Placing.{room_for}
 
@@ -339,26 +341,53 @@ front_below front width few below =
 pub start_value : (next : ℕ) → next < 2 ^ 57 → 0 ≡ next / 2 ^ (57 - 0)
 start_value next small = omega arith
 
--- the way begins with one bit, or with one more than some below all codewords of so many
+-- the way begins where it may
 pub walk_begins : {lengths values firsts offsets symbols : List ℕ} {read : ℕ} (next : ℕ) → AreTables lengths values firsts offsets symbols → 0 < length lengths → next < 2 ^ 57 →
-    1 ≤ read → read ≤ 48 → (1 < read → next / 2 ^ (57 - (read - 1)) < get_or firsts (read - 1) 0) → (1 < read → 0 < get_or firsts 10 0) → Walk lengths read (next / 2 ^ (57 - read))
-walk_begins {lengths} {values} {firsts} {offsets} {symbols} {read} next t some small one short longer ten =
+    IsStart lengths next read → Walk lengths read (next / 2 ^ (57 - read))
+walk_begins {lengths} {values} {firsts} {offsets} {symbols} {read} next t some small start =
     let good : AreGood lengths = tables_good lengths values firsts offsets symbols t in
-    let ten_at = t.first_numbers.at 10 (omega arith) in
-    let last_at = t.first_numbers.at (read - 1) (omega arith) in
+    let last_at = t.first_numbers.at (read - 1) (omega (arith, start.short)) in
     ⊎_elim
     (λ more.
-    let below = longer more in
-    let above = ten more in
+    let below = start.longer more in
+    let short : read - 1 ≤ 48 = omega (arith, start.short) in
     let again : read - 1 + 1 ≡ read = omega arith in
     let before : Walk lengths (read - 1) (next / 2 ^ (57 - (read - 1))) =
-    walk_from lengths (read - 1) (next / 2 ^ (57 - (read - 1))) good (omega arith) (inr (omega arith)) (λ e. absurd (omega arith)) (λ e. omega (arith, last_at, below)) (λ e. omega (arith, ten_at, above)) in
-    subst (λ r. Walk lengths r (next / 2 ^ (57 - r))) again (walk_on next t some before (inr below)).1)
+    walk_from lengths (read - 1) (next / 2 ^ (57 - (read - 1))) good short (inr (omega arith)) (λ e. absurd (omega arith)) (λ e. below) (λ e. start.ten more) in
+    subst (λ r. Walk lengths r (next / 2 ^ (57 - r))) again (walk_on next t some before (inr (omega (arith, last_at, below)))).1)
     (λ few.
-    let first : 0 + 1 ≡ read = omega arith in
+    let first : 0 + 1 ≡ read = omega (arith, start.some) in
     let none : Walk lengths 0 (next / 2 ^ (57 - 0)) = subst (λ v. Walk lengths 0 v) (start_value next small) (walk_start lengths good) in
     subst (λ r. Walk lengths r (next / 2 ^ (57 - r))) first (walk_on next t some none (inl refl)).1)
     (cases_lt 1 read)
+
+-- with one bit it may always begin
+pub start_one : (lengths : List ℕ) (most : ℕ) → IsStart lengths most 1
+start_one lengths most = record { some = omega arith; short = omega arith; longer = λ e. absurd (omega arith); ten = λ e. absurd (omega arith) }
+
+-- and with one more than so many, below their first codeword
+pub start_more : (lengths : List ℕ) (most read : ℕ) → read < 48 → most / 2 ^ (57 - read) < first_codeword read lengths → 0 < first_codeword 10 lengths → IsStart lengths most (read + 1)
+start_more lengths most read short below ten =
+    let same : read ≡ read + 1 - 1 = omega arith in
+    record {
+      some = omega arith;
+      short = omega arith;
+      longer = λ e. subst (λ r. most / 2 ^ (57 - r) < first_codeword r lengths) same below;
+      ten = λ e. ten;
+    }
+
+-- what holds of a number holds of the smaller ones
+pub start_within : {lengths : List ℕ} {most read : ℕ} (next : ℕ) → IsStart lengths most read → next ≤ most → IsStart lengths next read
+start_within {read = read} next start le = record {
+  some = start.some;
+  short = start.short;
+  longer = λ e. omega (arith, start.longer e, shr_mono (57 - (read - 1)) le);
+  ten = start.ten;
+}
+
+-- numbers of the same first bits are no more than the last of them
+pub last_of_front : (next k : ℕ) → next ≤ next / 2 ^ k * 2 ^ k + (2 ^ k - 1)
+last_of_front next k = omega (arith, mod-eq-sub-div-mul next (2 ^ k), div-mul-le_self next (2 ^ k), mod-lt next {m = 2 ^ k} (pow_pos k))
 
 -- an entry that was read tells what the bits of its place begin with
 pub entry_is : (lengths : List ℕ) (width : ℕ) (entries : List ℕ) (i entry : ℕ) → AreBeginnings lengths width entries → i < length entries → entry ≡ get_or entries i entry →

@@ -11,7 +11,7 @@ ghost use Rattle.mg_bits.specs.Feed.{Device, HasBits, ToldBits};
 ghost use Rattle.mg_bits.specs.NextBits.{ReadNext};
 ghost use Rattle.mg_bits.specs.Writer.{WroteTo};
 ghost use Rattle.mg_canon.specs.Symbols.{FirstFound, ReadsSymbol};
-ghost use Rattle.mg_canon.specs.Tables.{IsBeginning, found_in};
+ghost use Rattle.mg_canon.specs.Tables.{IsBeginning, IsStart, found_in};
 ghost use Rattle.mg_canon.specs.Refusals.{IsFirstBad, IsUnfilled, HaveLengths};
 
 use crate::CanonErr;
@@ -191,33 +191,35 @@ impl Canon {
         self.first_by_lengths(next, symbol_in(entry))
     }
 
-    /// The same by the table. Where it answers no bits, the symbol tells behind how many bits a codeword
-    /// is to be sought.
+    /// The same by the table. Where it answers no bits, the symbol tells with how many bits the way by
+    /// lengths begins.
     #[inline(always)]
     fn first_by_table(&self, next: u64) -> u32
         requires next { next < 2 ^ 57 }
-        ensures { 0 < (found_in result).size →
+        ensures found { 0 < (found_in result).size →
             FirstFound self.now next (Some (found_in result)) }
+        ensures start { (found_in result).size ≡ 0 →
+            IsStart self.now next (found_in result).symbol }
     {
         let front = (next >> (57 - self.width)) as usize;
         if front >= self.beginnings.len() {
-            return 0;
+            return entry_of(1, 0);
         }
         self.beginnings[front]
     }
 
-    /// The same by the lengths of codewords, from the shortest one on; or behind so many bits, where
-    /// all codewords that these begin are longer.
+    /// The same by the lengths of codewords, from so many bits on.
     #[inline(always)]
-    fn first_by_lengths(&self, next: u64, behind: u32) -> u32
+    fn first_by_lengths(&self, next: u64, start: u32) -> u32
         requires next { next < 2 ^ 57 }
         requires some { 0 < length self.now }
+        requires start { IsStart self.now next start }
         ensures found { 0 < (found_in result).size →
             FirstFound self.now next (Some (found_in result)) }
         ensures none { (found_in result).size ≡ 0 → FirstFound self.now next None }
     {
         let firsts = &self.firsts;
-        let mut read = start_of(firsts, next, behind);
+        let mut read = start as usize;
         while next >> (57 - read) < u64::from(firsts[read]) {
             read += 1;
         }
@@ -229,24 +231,27 @@ impl Canon {
         entry_of(self.symbols[index], read as u32)
     }
 
-    /// The most bits, up to 32, than which all codewords that these bits begin are longer, and at least
-    /// as many as they are.
-    fn passed(&self, width: u32, front: u64) -> u32
-        requires width { width ≤ 12 }
-        requires front { front < 2 ^ width }
-        ensures { result ≤ 32 }
+    /// With how many bits the way by lengths may begin for 57 bits up to this number: with one more
+    /// than so many, and than each more up to 32, which are the front of longer codewords alone.
+    fn start_at(&self, width: u32, most: u64) -> u32
+        requires { width ≤ 12 }
+        ensures { IsStart self.now most result }
     {
-        for read in width + 1..33 {
-            let last = ((front + 1) << (read - width)) - 1;
-            if last >= u64::from(self.firsts[read as usize]) {
-                return read - 1;
-            }
+        let mut start = 1;
+        if self.firsts[10] == 0 {
+            return start;
         }
-        32
+        for read in width..33 {
+            if most >> (57 - read) >= u64::from(self.firsts[read as usize]) {
+                return start;
+            }
+            start = read + 1;
+        }
+        start
     }
 
     /// The entry of what so many bits begin with. Where no codeword is among them, its symbol tells
-    /// behind how many bits one is to be sought.
+    /// with how many bits the way by lengths begins.
     fn beginning(&self, width: u32, front: u64) -> u32
         requires width { width ≤ 12 }
         requires front { front < 2 ^ width }
@@ -254,11 +259,13 @@ impl Canon {
         requires few { length self.now ≤ 2 ^ 22 }
         ensures { IsBeginning self.now width front (found_in result) }
     {
-        let entry = self.first_by_lengths(front << (57 - width), width);
+        let least = front << (57 - width);
+        let entry = self.first_by_lengths(least, 1);
         if size_in(entry) > 0 && size_in(entry) <= width {
             return entry;
         }
-        entry_of(self.passed(width, front), 0)
+        let more = (1u64 << (57 - width)) - 1;
+        entry_of(self.start_at(width, least + more), 0)
     }
 
     /// The code with the table of what its first bits begin with.
@@ -334,26 +341,6 @@ fn needs_bit(firsts: &ByLength, read: usize, value: u32) -> bool
         return true;
     }
     value < firsts[read]
-}
-
-/// With how many bits the way by lengths begins: with one more than these, where all codewords that
-/// these begin are longer and they are no more than 32; else with one.
-#[inline(always)]
-fn start_of(firsts: &ByLength, next: u64, behind: u32) -> usize
-    requires next { next < 2 ^ 57 }
-    ensures some { 1 ≤ result }
-    ensures short { result ≤ 48 }
-    ensures longer { 1 < result →
-        next / 2 ^ (57 - (result - 1)) < slice_index firsts.now (result - 1) }
-    ensures ten { 1 < result → 0 < slice_index firsts.now 10 }
-{
-    if behind > 0 && behind <= 32 && firsts[10] > 0 {
-        let first = u64::from(firsts[behind as usize]);
-        if next >> (57 - behind) < first {
-            return behind as usize + 1;
-        }
-    }
-    1
 }
 
 /// By how many first bits a code of so many symbols is looked up. Ten are enough where no more than an

@@ -5,10 +5,10 @@ use Rattle.mg_canon.proofs.canon.Canon.first_by_lengths.Goals as goal
 
 pub loop-read-init : goal.loop-read-init
 loop-read-init c =
-    let from = c.start_of-read.ensures in
+    let start = rw (← c.self.view_is) at c.requires.start in
     record {
-      walk = walk_begins c.args.next c.self.invariant.tables (rw (← c.self.view_is) at c.requires.some) c.requires.next from.some from.short from.longer from.ten;
-      some = from.some;
+      walk = walk_begins c.args.next c.self.invariant.tables (rw (← c.self.view_is) at c.requires.some) c.requires.next start;
+      some = start.some;
     }
 
 pub loop-read-smaller : goal.loop-read-smaller
