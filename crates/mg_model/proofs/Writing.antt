@@ -1,12 +1,11 @@
 -- The entries of a stream's pieces, as they are written and as they rise.
-use Rattle.std.proofs.Common.{◌≡◌, ◌≢◌, ℕ, ◌+◌, ◌*◌, ◌<◌, ◌≤◌, true, List, [], ◌∷◌, length, take, get_or, slice_get, Some, None, Option, refl, sym, ap, subst, ◌∙◌, arith, Err, zero-add, inr}
+use Rattle.std.proofs.Common.{◌≡◌, ◌≢◌, ℕ, ◌+◌, ◌*◌, ◌<◌, ◌≤◌, true, List, [], ◌∷◌, length, take, get_or, slice_get, slice_index, Some, None, Option, refl, sym, ap, subst, ◌∙◌, arith, Err, zero-add, inr}
 use Rattle.std.specs.Option.{option_map}
 use Rattle.std.specs.List.Sorted.{IsStrictlySortedBy}
 use Rattle.std.specs.Ordering.{nat_cmp, is_lt}
 use Rattle.std.specs.declared.cmp.Ordering.{Ordering}
 use Rattle.std.specs.declared.cmp.Ordering.TheVariants.{Less, Equal, Greater}
 use Rattle.std.specs.Cmp.Lexicographic.{slice_cmp}
-use Rattle.std.proofs.lemmas.List.{get_or_default}
 use Rattle.mg_dev.specs.declared.part.Part.{Part}
 use Rattle.mg_dev.specs.declared.part_err.PartErr.{PartErr}
 use Rattle.mg_dev.specs.declared.part_err.PartErr.TheVariants.{Device, Memory, Bad}
@@ -39,10 +38,10 @@ entries-rise pieces lengths e are = rise-from pieces (λ k within.
 -- ---- the next entry of a writer
 
 pub piece-entry : (pieces : List (List ℕ)) (lengths : List ℕ) (n : ℕ) (piece : List ℕ) (bits : ℕ) → length lengths ≡ length pieces → n < length lengths →
-    slice_get pieces n ≡ Some piece → bits ≡ get_or lengths n bits → slice_get (piece_entries (code pieces lengths)) n ≡ Some (entry piece bits)
+    slice_get pieces n ≡ Some piece → bits ≡ slice_index lengths n → slice_get (piece_entries (code pieces lengths)) n ≡ Some (entry piece bits)
 piece-entry pieces lengths n piece bits e within there at =
     entry-there pieces lengths n e (omega (arith, e)) ∙ ap (λ p. Some (entry p (get_or lengths n 0))) (there-or pieces n piece [] there)
-    ∙ ap (λ b. Some (entry piece b)) (get_or_default lengths n 0 bits within ∙ sym at)
+    ∙ ap (λ b. Some (entry piece b)) (sym at)
 
 pub entry-next : (es : List Entry) (n : ℕ) (e : Entry) → AreEntries 1 0 [] es → n < length es → slice_get es n ≡ Some e → IsEntry 1 (length (take n es)) (last_string [] (take n es)) e
 entry-next es n e are within there =

@@ -32,7 +32,6 @@ use std::marker::Model;
 #[derive(Drop)]
 pub struct StreamModel {
     pieces: Pieces,
-    lengths: Vec<u8>,
     canon: Canon,
 }
 
@@ -41,13 +40,12 @@ impl Model for StreamModel {
 
     ghost Value = { StreamCode };
 
-    ghost use Rattle.std.specs.Prelude.{◌≡◌};
     ghost use Rattle.mg_defs.specs.Means.{IsStreamCode};
     ghost use Rattle.mg_model.specs.Pieces.{pieces_in};
 
-    ghost view = { λ m. record { pieces = pieces_in m.pieces; lengths = m.lengths.items } };
+    ghost view = { λ m. record { pieces = pieces_in m.pieces; lengths = m.canon } };
 
-    ghost invariant = { λ m. IsStreamCode (record { pieces = pieces_in m.pieces; lengths = m.lengths.items }) × (m.canon ≡ m.lengths.items) };
+    ghost invariant = { λ m. IsStreamCode (record { pieces = pieces_in m.pieces; lengths = m.canon }) };
 }
 
 /// The code of good lengths.
@@ -62,20 +60,19 @@ fn canon_of(alloc: Global, lengths: &[u8]) -> Result<Canon, AllocError>
     }
 }
 
-// Sorts the counted pieces, and answers the lengths of their codewords and the code of these.
-fn sorted_code(alloc: Global, vocab: &mut Vocab) -> Result<(Vec<u8>, Canon), AllocError>
+// Sorts the counted pieces, and answers the code of their counts.
+fn sorted_code(alloc: Global, vocab: &mut Vocab) -> Result<Canon, AllocError>
     ensures pieces { OnOk result (pieces_of vocab.new ≡ sorted_of vocab.old) }
-    ensures lengths { IfOk result (λ code. IsHuffman (counts_of vocab.old) code.0.items) }
+    ensures lengths { IfOk result (λ code. IsHuffman (counts_of vocab.old) code) }
     ensures code { IfOk result (λ code.
-        IsStreamCode (record { pieces = pieces_of vocab.new; lengths = code.0.items })) }
-    ensures canon { IfOk result (λ code. code.1 ≡ code.0.items) }
+        IsStreamCode (record { pieces = pieces_of vocab.new; lengths = code })) }
 {
     vocab.sort()?;
     let counts = vocab.counts()?;
     let mut lengths = Vec::new(alloc);
     mg_huff::lengths(alloc, &counts, &mut lengths)?;
     let canon = canon_of(alloc, &lengths)?;
-    Ok((lengths, canon))
+    Ok(canon)
 }
 
 impl StreamModel {
@@ -86,9 +83,8 @@ impl StreamModel {
     {
         let mut vocab = vocab;
         match sorted_code(alloc, &mut vocab) {
-            Ok((lengths, canon)) => Ok(StreamModel {
+            Ok(canon) => Ok(StreamModel {
                 pieces: Pieces::Counted(vocab),
-                lengths,
                 canon,
             }),
             Err(refusal) => Err(without(vocab, refusal)),
@@ -131,9 +127,9 @@ impl StreamModel {
             (S.reads store.old) (S.reads store.new) }
         ensures cause { HasPutCause (S.faults store.old) (S.faults store.new) result }
     {
-        for symbol in 0..self.lengths.len() {
-            let piece = self.pieces.piece(symbol as u32);
-            writer.push(store, piece, &[self.lengths[symbol]])?;
+        for symbol in 0..self.canon.count() {
+            let piece = self.pieces.piece(symbol);
+            writer.push(store, piece, &[self.canon.length(symbol)])?;
         }
         writer.finish(store)
     }
@@ -191,14 +187,10 @@ impl StreamModel {
         requires canon { canon ≡ read.lengths.items }
         ensures { result ≡ code_read read }
     {
-        let ReadPieces {
-            mut pieces,
-            lengths,
-        } = read;
+        let ReadPieces { mut pieces, .. } = read;
         pieces.shrink();
         StreamModel {
             pieces: Pieces::Loaded(pieces),
-            lengths,
             canon,
         }
     }
@@ -207,7 +199,8 @@ impl StreamModel {
     pub fn symbol(&self, piece: &[u8]) -> Option<u32>
         ensures { result ≡ position (bytes_eq piece.now) self.now.pieces }
     {
-        let _ = &self.lengths;
+        // For the proof: the pieces of a model rise.
+        let _ = &self.canon;
         self.pieces.symbol(piece)
     }
 
@@ -216,7 +209,8 @@ impl StreamModel {
     pub fn symbol_near(&self, piece: &[u8], recent: &mut Recent) -> Option<u32>
         ensures { result ≡ position (bytes_eq piece.now) self.now.pieces }
     {
-        let _ = &self.lengths;
+        // For the proof: the pieces of a model rise.
+        let _ = &self.canon;
         self.pieces.symbol_near(piece, recent)
     }
 

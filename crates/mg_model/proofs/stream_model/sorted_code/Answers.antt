@@ -1,4 +1,5 @@
-use Rattle.std.proofs.Common.{arith, ◌∙◌, ap, length}
+use Rattle.std.proofs.Common.{arith, ◌∙◌, ap, length, subst, sym}
+use Rattle.mg_defs.specs.Canon.{AreGood}
 use Rattle.mg_model.proofs.Codes.{counts-some, pieces-short, columns-long}
 use Rattle.mg_model.proofs.stream_model.sorted_code.Goals as goal
 
@@ -12,6 +13,6 @@ returns-clause-code c =
       rising = c.in_ok-sort.ensures.rising;
       short = pieces-short c.sort.new.self c.counts.ensures.keeps.short;
       few = omega (arith, long.0, c.counts.ensures.keeps.few);
-      each = omega (arith, long.0, long.1, c.in_ok-lengths.ensures.same_length, ap length c.deref.ensures.value, ap length c.in_ok-counts.ensures.counts);
-      good = c.in_ok-lengths.ensures.good;
+      each = omega (arith, long.0, long.1, ap length c.in_ok-canon.ensures, ap length c.deref-2.ensures.value, c.in_ok-lengths.ensures.same_length, ap length c.deref.ensures.value, ap length c.in_ok-counts.ensures.counts);
+      good = subst AreGood (sym (c.in_ok-canon.ensures ∙ c.deref-2.ensures.value)) c.in_ok-lengths.ensures.good;
     }

@@ -13,10 +13,10 @@ use Rattle.mg_model.proofs.stream_model.StreamModel.write_entries.Goals as goal
 
 pub push-requires-clause-entry : goal.push-requires-clause-entry
 push-requires-clause-entry g c =
-    let is : IsStreamCode c.args.self.now = subst IsStreamCode c.self.view_is c.self.invariant.0 in
-    let within : c.loop-symbol.symbol < length c.self.inside.lengths.items = omega (arith, c.len-symbol-end.ensures) in
-    let there = piece-entry _ c.self.inside.lengths.items c.loop-symbol.symbol c.piece-piece.result.now c.index.result.now c.self.invariant.0.each within c.piece-piece.ensures c.index.ensures in
-    let at : slice_get (piece_entries c.args.self.now) c.loop-symbol.symbol ≡ Some (entry c.piece-piece.result.now c.index.result.now) =
+    let is : IsStreamCode c.args.self.now = subst IsStreamCode c.self.view_is c.self.invariant in
+    let within : c.loop-symbol.symbol < length c.self.inside.canon = omega (arith, c.count-symbol-end.ensures.count) in
+    let there = piece-entry _ c.self.inside.canon c.loop-symbol.symbol c.piece-piece.result.now c.length.result c.self.invariant.each within c.piece-piece.ensures c.length.ensures.is in
+    let at : slice_get (piece_entries c.args.self.now) c.loop-symbol.symbol ≡ Some (entry c.piece-piece.result.now c.length.result) =
     ap (λ it. slice_get (piece_entries it) c.loop-symbol.symbol) (sym c.self.view_is) ∙ there in
     let some : c.loop-symbol.symbol < length (piece_entries c.args.self.now) = omega (
       arith,
@@ -25,20 +25,20 @@ push-requires-clause-entry g c =
       is.each,
     ) in
     entry-of-writer (piece_entries c.args.self.now) c.loop-symbol.symbol c.loop-symbol.writer.width c.loop-symbol.writer.count c.loop-symbol.writer.last
-    (entry c.piece-piece.result.now c.index.result.now) (entries-are c.args.self.now is) some at c.loop-symbol.invariant.width
+    (entry c.piece-piece.result.now c.length.result) (entries-are c.args.self.now is) some at c.loop-symbol.invariant.width
     c.loop-symbol.invariant.took.count c.loop-symbol.invariant.took.last
 
 pub loop-symbol-preserved : goal.loop-symbol-preserved
 loop-symbol-preserved g c =
     let inv = c.loop-symbol.invariant in
     let push = c.in_ok-push.ensures in
-    let within : c.loop-symbol.symbol < length c.self.inside.lengths.items = omega (arith, c.len-symbol-end.ensures) in
-    let there = piece-entry _ c.self.inside.lengths.items c.loop-symbol.symbol c.piece-piece.result.now c.index.result.now c.self.invariant.0.each within c.piece-piece.ensures c.index.ensures in
-    let at : slice_get (piece_entries c.args.self.now) c.loop-symbol.symbol ≡ Some (entry c.piece-piece.result.now c.index.result.now) =
+    let within : c.loop-symbol.symbol < length c.self.inside.canon = omega (arith, c.count-symbol-end.ensures.count) in
+    let there = piece-entry _ c.self.inside.canon c.loop-symbol.symbol c.piece-piece.result.now c.length.result c.self.invariant.each within c.piece-piece.ensures c.length.ensures.is in
+    let at : slice_get (piece_entries c.args.self.now) c.loop-symbol.symbol ≡ Some (entry c.piece-piece.result.now c.length.result) =
     ap (λ it. slice_get (piece_entries it) c.loop-symbol.symbol) (sym c.self.view_is) ∙ there in
     record {
       took = subst (Took c.push.new.self (g.S.Store.files c.push.new.store))
-          (sym (take-there (piece_entries c.args.self.now) c.loop-symbol.symbol (entry c.piece-piece.result.now c.index.result.now) at))
+          (sym (take-there (piece_entries c.args.self.now) c.loop-symbol.symbol (entry c.piece-piece.result.now c.length.result) at))
           (push.took (take c.loop-symbol.symbol (piece_entries c.args.self.now)) inv.took);
       name = push.name ∙ inv.name;
       alone = push.places ∙ inv.alone;
@@ -54,7 +54,7 @@ loop-symbol-preserved g c =
 pub returns-clause-bytes : goal.returns-clause-bytes
 returns-clause-bytes g c =
     let inv = c.loop-symbol.invariant in
-    let is : IsStreamCode c.args.self.now = subst IsStreamCode c.self.view_is c.self.invariant.0 in
+    let is : IsStreamCode c.args.self.now = subst IsStreamCode c.self.view_is c.self.invariant in
     let all : take c.loop-symbol.symbol (piece_entries c.args.self.now) ≡ piece_entries c.args.self.now =
     take-all (piece_entries c.args.self.now) c.loop-symbol.symbol
     (omega (
@@ -62,7 +62,7 @@ returns-clause-bytes g c =
       entries-long c.args.self.now.pieces c.args.self.now.lengths is.each,
       ap (λ it. length it.lengths) c.self.view_is,
       is.each,
-      c.len-symbol-end.ensures,
+      c.count-symbol-end.ensures.count,
     )) in
     on_ok_weaker c.finish.result
     (λ finished. λ told.
