@@ -1,6 +1,6 @@
 -- Bytes that are read one after the other into a buffer.
 use Rattle.std.proofs.Common.{◌≡◌, ◌+◌, ◌-◌, ◌*◌, ◌/◌, ◌%◌, ◌≤◌, ◌<◌, [], ◌∷◌, ◌++◌, ◌∙◌}
-use Rattle.std.proofs.Common.{arith, zero, suc, ℕ, List, length, take, drop, set, Some, None, inl, inr, slice_get, sym, ap, subst, length-take, length-drop}
+use Rattle.std.proofs.Common.{arith, zero, suc, ℕ, List, length, take, drop, set, Some, None, inl, inr, slice_get, refl, sym, ap, subst, length-take, length-drop}
 use Rattle.std.specs.declared.option.Option.{Option}
 use Rattle.std.specs.List.{slice_range}
 use Rattle.std.proofs.Math.Nat.{div-add-mod}
@@ -44,6 +44,25 @@ page_copied size held items buf piece file kept at index from count some is offs
     ∙ take-take count (size - index) (drop at file) (omega arith) in
     let size_is : length piece ≡ count = ap length copied ∙ length-take (index + count - index) (drop index items) ∙ omega (arith, length-drop index items) in
     take-put_mid from (from + count - from) buf piece (from + count) (omega arith) (omega arith) ∙ ap (λ l. take from buf ++ l) piece_is
+
+-- what is taken of a list, by its length
+take_its : (m : ℕ) (xs : List ℕ) → take m xs ≡ take (length (take m xs)) xs
+take_its zero xs = refl
+take_its (suc m) [] = refl
+take_its (suc m) (x ∷ xs) = ap (λ t. x ∷ t) (take_its m xs)
+
+-- the bytes of a page from an index on
+pub page_lent : (size : ℕ) (held : Option ℕ) (items file : List ℕ) (kept at index : ℕ) → 0 < size → held ≡ Some (at / size) → index ≡ at % size →
+    IsPageIn size held (take kept items) file → kept ≤ size → index < kept →
+    take (kept - index) (drop index items) ≡ take (length (take (kept - index) (drop index items))) (drop at file)
+page_lent size held items file kept at index some is offset agrees short within =
+    let here : take kept items ≡ take size (drop (size * (at / size)) file) = subst (λ h. IsPageIn size h (take kept items) file) is agrees in
+    let place : size * (at / size) + index ≡ at = rw offset (div-add-mod at size) in
+    let left : index + (kept - index) ≡ kept = omega arith in
+    let of_page : drop index (take kept items) ≡ take (kept - index) (drop index items) = ap (λ n. drop index (take n items)) (sym left) ∙ drop-take index (kept - index) items in
+    let of_file : take (kept - index) (drop index items) ≡ take (size - index) (drop at file) =
+    sym of_page ∙ ap (drop index) here ∙ page_from size (at / size) index at file (omega arith) place in
+    of_file ∙ take_its (size - index) (drop at file) ∙ ap (λ l. take (length l) (drop at file)) (sym of_file)
 
 -- what was copied behind the first bytes
 pub filled_on : (old buf bytes : List ℕ) (at i n p q : ℕ) → p ≡ at + i → q ≡ i + n → take q buf ≡ take i old ++ take n (drop p bytes) →

@@ -41,7 +41,7 @@ has_bytes count bytes held page file at one some is last agrees long =
     omega (arith, place, end, same, small, size, long)
 
 -- where the page that is held has so many bytes from a place on, the window keeps them
-must_have : (count bytes : ℕ) (held : Option ℕ) (first at reads : ℕ) (page name : List ℕ) (part : Part) (files : Option Files) → 0 < count → 0 < bytes →
+pub must_have : (count bytes : ℕ) (held : Option ℕ) (first at reads : ℕ) (page name : List ℕ) (part : Part) (files : Option Files) → 0 < count → 0 < bytes →
     ((number : ℕ) → held ≡ Some number → first ≡ bytes * number) →
     (IsSome files → IsPageIn bytes held page (bytes_at files name)) → HasBits (over_file name part bytes held reads) files (8 * at) (8 * count) → (first ≤ at) × (at - first + count ≤ length page)
 must_have count bytes None first at reads page name part files one some is agrees has =

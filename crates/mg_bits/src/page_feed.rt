@@ -1,5 +1,5 @@
 //! A feed over a file, through one page of 4,096 bytes.
-ghost use Rattle.std.specs.Prelude.{◌≡◌, ◌≤◌, ◌<◌, ◌+◌, ◌*◌, ◌^◌, Option, Some, None, IfOk, IfSome, OnSome, slice_get, take, drop, length, IsSome, true};
+ghost use Rattle.std.specs.Prelude.{◌≡◌, ◌≤◌, ◌<◌, ◌+◌, ◌*◌, ◌^◌, ℕ, Option, Some, None, IfOk, IfSome, OnSome, slice_get, take, drop, length, IsSome, true};
 ghost use Rattle.std.proofs.Common.{rules};
 ghost use Rattle.mg_dev.specs.Files.{Files, SameReads, bytes_at};
 ghost use Rattle.mg_dev.specs.Names.{full_name};
@@ -128,6 +128,25 @@ impl<'a, S: Store> PageFeed<'a, S> {
         }
         let index = (at - self.window.first) as usize;
         word_in(&self.page[..self.window.count], index)
+    }
+
+    /// The bytes that the page that is held has from a place on: none where it has not the place. No
+    /// device is asked.
+    #[inline(always)]
+    pub fn held_from(&self, at: u64) -> &[u8]
+        ensures told { (files : Option Files) → Fits self.now files → IsSome files →
+            result.now ≡ take (length result.now) (drop at (bytes_at files self.now.name)) }
+        ensures held { 0 < length result.now →
+            HoldsBits (feeding_of 4096 self.now) (8 * at) (8 * length result.now) }
+        ensures all { (files : Option Files) (count : ℕ) → Fits self.now files → 0 < count →
+            HasBits (feeding_of 4096 self.now) files (8 * at) (8 * count) →
+            count ≤ length result.now }
+    {
+        if !self.window.has(at) {
+            return &[];
+        }
+        let index = (at - self.window.first) as usize;
+        &self.page[index..self.window.count]
     }
 
     /// The number of bytes of the file; a missing one has none.

@@ -1,5 +1,6 @@
 pub mod CallerLemmas
 mod HeadFacts
+mod HeldFacts
 mod ReadFacts
 mod WalkLaws
 mod WriterLaws

@@ -1,6 +1,6 @@
 -- What contracts see of an entry that was read.
 use Rattle.std.specs.Prelude.{◌≡◌, ◌≤◌, ◌<◌, ◌+◌, ◌-◌, ◌++◌, ◌∷◌, ◌⊎◌, ℕ, Bool, true, false, List, length, take, drop, slice_get, None, Some, IfOk}
-use Rattle.std.specs.Prelude.{◌^◌, IfSome}
+use Rattle.std.specs.Prelude.{◌^◌, IfSome, zero, suc}
 use Rattle.std.specs.Option.{IsSome}
 use Rattle.std.specs.declared.option.Option.{Option}
 use Rattle.std.specs.declared.result.Result.{Result}
@@ -105,3 +105,21 @@ pub record PutBehind (head : Head) (width : ℕ) (old string field : List ℕ) (
 abbrev pub IsBehind : Bool → Head → ℕ → List ℕ → List ℕ → List ℕ → ℕ → List ℕ → Type 0
 IsBehind true head width old string field at bytes = PutBehind head width old string field at bytes
 IsBehind false head width old string field at bytes = length (drop at bytes) < head.more + width
+
+-- what stands behind a head was taken: the string shares its first bytes with the last one, which it becomes
+pub record TookBehind (head : Head) (width : ℕ) (behind : List ℕ) (last_before last_now out : FrontEntry) : Type 0 where
+  pub string_is : string_of out ≡ take head.shared (string_of last_before) ++ take head.more behind
+  pub field_is : take width out.field ≡ take width (drop head.more behind)
+  pub last_is : string_of last_now ≡ string_of out
+
+-- an entry of so many bytes was taken of bytes of this length, whose meaning it is, and the last string is its own
+pub record TookEntry (width : ℕ) (meaning : Option Found) (long : ℕ) (last_now out : FrontEntry) (size : ℕ) : Type 0 where
+  pub told : meaning ≡ found_of width out (Some size)
+  pub last_is : string_of last_now ≡ string_of out
+  pub within : size ≤ long
+  pub most : size ≤ 281
+
+-- an entry of so many bytes was taken of bytes of this length, or none stands first and the last string stayed
+abbrev pub TookHeld : ℕ → Option Found → ℕ → FrontEntry → FrontEntry → FrontEntry → ℕ → Type 0
+TookHeld width meaning long last_before last_now out zero = (meaning ≡ None) × (last_now ≡ last_before)
+TookHeld width meaning long last_before last_now out (suc n) = TookEntry width meaning long last_now out (suc n)

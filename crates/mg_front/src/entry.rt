@@ -37,7 +37,8 @@ pub fn is_below(before: &[u8], string: &[u8]) -> bool
 }
 
 /// Whether a suffix rises above what followed the shared prefix before.
-fn rises(before: &[u8], suffix: &[u8]) -> bool
+#[inline]
+pub(crate) fn rises(before: &[u8], suffix: &[u8]) -> bool
     ensures { result ≡ rises_after_prefix before.now suffix.now }
 {
     match (before, suffix) {
@@ -102,8 +103,8 @@ fn may_follow(number: u32, before: &FrontEntry, entry: &FrontEntry) -> bool
 /// follow. A whole entry shares none.
 #[derive(Clone, Copy)]
 pub(crate) struct Head {
-    shared: u8,
-    more: u8,
+    pub shared: u8,
+    pub more: u8,
 }
 
 /// A head of these two bytes; None where the string before is shorter than what is shared, or the

@@ -10,6 +10,7 @@
 #![tactic(auto)]
 
 mod entry;
+mod held;
 mod laws;
 mod put;
 mod reader;

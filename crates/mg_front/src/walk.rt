@@ -13,6 +13,7 @@ ghost use Rattle.mg_dev.specs.Names.{file_name};
 
 use crate::FrontEntry;
 use crate::entry::{EntryAt, read_entry};
+use crate::held::take_entry;
 use mg_bits::PageFeed;
 use mg_dev::{Bad, FileRef, PartErr, Store};
 use std::alloc::Global;
@@ -112,6 +113,26 @@ impl<'a, S: Store> FrontWalk<'a, S> {
 
     // The next entry, over any bytes.
     fn step(&mut self, store: &mut S, out: &mut FrontEntry) -> Result<bool, PartErr>
+        requires { (es : List Entry) × Gave self.old (S.files store.old) es }
+        ensures { Between S.files S.reads S.faults store.old store.new
+            (Stepped self.old self.new out.new result) }
+    {
+        if self.done < self.count {
+            let bytes = self.feed.held_from(self.place);
+            let size = take_entry(self.done, bytes, self.width, &mut self.last, out);
+            if size > 0 {
+                self.place += size;
+                self.done += 1;
+                return Ok(true);
+            }
+        }
+        self.step_by_pages(store, out)
+    }
+
+    // The next entry, which need not lie whole on the page that is held. It stands apart so that what
+    // is asked for each entry is short.
+    #[inline(never)]
+    fn step_by_pages(&mut self, store: &mut S, out: &mut FrontEntry) -> Result<bool, PartErr>
         requires { (es : List Entry) × Gave self.old (S.files store.old) es }
         ensures { Between S.files S.reads S.faults store.old store.new
             (Stepped self.old self.new out.new result) }

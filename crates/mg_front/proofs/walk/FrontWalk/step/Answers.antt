@@ -1,21 +1,17 @@
-use Rattle.std.proofs.Common.{arith, ◌<◌, refl, sym}
-use Rattle.mg_front.proofs.WalkLaws.{stepped_failed, stepped_more, stepped_none}
+use Rattle.mg_front.specs.declared.entry.EntryAt.{EntryAt}
+use Rattle.mg_front.specs.Entries.{string_of}
+use Rattle.mg_front.proofs.HeldFacts.{entry_held, was_taken}
+use Rattle.mg_front.proofs.WalkLaws.{stepped_more}
+use Rattle.std.proofs.Common.{refl}
 use Rattle.mg_front.proofs.walk.FrontWalk.step.Goals as goal
 
-pub returns-then-self : goal.returns-then-self
-returns-then-self g c = c.end.ensures c.args.out.now
-
-pub returns-in-Ok-Some : goal.returns-in-Ok-Some
-returns-in-Ok-Some g c =
-    let below : c.self.inside.done < c.self.inside.count = omega arith in
-    rw (← c.self.view_is) (stepped_more c.in-Ok-Some.size below (rw c.in-Ok-Some.field-0-is at c.in-Ok-Some.ensures) refl refl refl refl c.keep_string.ensures)
-
-pub returns-in-Ok-None : goal.returns-in-Ok-None
-returns-in-Ok-None g c =
-    let below : c.self.inside.done < c.self.inside.count = omega arith in
+pub returns-then-size-gt0 : goal.returns-then-size-gt0
+returns-then-size-gt0 g c =
+    let w = c.self.inside in
+    let at : EntryAt = record { place = w.place; width = w.width; number = w.done } in
+    let bytes = c.held_from-bytes.ensures in
+    let took = was_taken _ _ _ _ _ _ _ c.if-size-gt0.true c.take_entry-size.ensures in
+    let fits = rw (← c.self.view_is) at c.requires.1.fits in
     rw (← c.self.view_is)
-    (stepped_none _ below (rw c.in-Ok-None.field-0-is at c.in-Ok-None.ensures)
-    (record { part_is = sym c.self.invariant.4; at_is = refl; low_is = refl; high_is = refl; found_is = refl }) refl refl)
-
-pub returns-in-Err : goal.returns-in-Err
-returns-in-Err g c = rw (← c.self.view_is) (stepped_failed c.in-Err.ensures refl refl)
+    (stepped_more c.take_entry-size.result c.if-self.true
+    (entry_held at c.take_entry-size.result (string_of w.last) c.held_from-bytes.result.now fits bytes.told bytes.held c.if-size-gt0.true took) refl refl refl refl took.last_is)
