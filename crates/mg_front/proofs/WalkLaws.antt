@@ -1,5 +1,5 @@
 -- What a walk over entries gives.
-use Rattle.std.proofs.Common.{arith, ◌≡◌, ◌+◌, ◌<◌, ◌++◌, ◌⊎◌, inl, inr, ℕ, Bool, false, true, List, [], ◌∷◌}
+use Rattle.std.proofs.Common.{arith, ◌≡◌, ◌+◌, ◌<◌, ◌==◌, ◌||◌, ◌++◌, ◌⊎◌, inl, inr, ℕ, Bool, false, true, List, [], ◌∷◌}
 use Rattle.std.proofs.Common.{length, take, drop, Some, None, refl, sym, ◌∙◌, ap, subst, length-append, append_assoc, IsSome, append-nil, Ok, Err, Result, slice_get}
 use Rattle.mg_dev.specs.declared.part_err.PartErr.{PartErr}
 use Rattle.mg_dev.specs.declared.part_err.PartErr.TheVariants.{Device, Memory, Bad}
@@ -10,7 +10,7 @@ use Rattle.mg_dev.specs.declared.device.Failed.{Failed}
 use Rattle.mg_dev.specs.Bads.{IsBad}
 use Rattle.mg_dev.specs.Files.{Files, Reads, bytes_at}
 use Rattle.mg_bits.specs.Pages.{Fits}
-use Rattle.mg_defs.specs.Front.{Entry, IsEntry, AreEntries, entry_bytes, front, front_from, last_string, read_entry, IsFront}
+use Rattle.mg_defs.specs.Front.{Entry, IsEntry, AreEntries, entry_bytes, front, front_from, is_below, last_string, read_entry, IsFront}
 use Rattle.mg_front.specs.Entries.{ReadsEntry, string_of, entry_of, found_of}
 use Rattle.mg_front.specs.Looks.{ReadOn}
 use Rattle.mg_defs.proofs.FrontParts.{prefix_of, same_entry, slice_get-behind}
@@ -131,17 +131,42 @@ among (Err (Bad bad)) w out bytes es all given is count answer = by_case (next_o
 pub stepped_more : {w next : Walking} {out : FrontEntry} {f g : Option Files} {r s : Reads} {x y : ℕ} (size : ℕ) → w.done < w.count →
     ReadsEntry w.feed next.feed (record { place = w.place; width = w.width; number = w.done }) (read_entry w.width w.done w.last) out (Ok (Some size)) f g r s x y →
     next.width ≡ w.width → next.count ≡ w.count → next.done ≡ w.done + 1 → next.place ≡ w.place + size → next.last ≡ string_of out →
-    Stepped w next out (Ok true) f g r s x y
-stepped_more {w} {next} {out} {f} {g} {r} {s} size below one width count done place last = record {
+    (w.done == 0 || is_below w.last (string_of out)) ≡ true → Stepped w next out (Ok true) f g r s x y
+stepped_more {w} {next} {out} {f} {g} {r} {s} size below one width count done place last above = record {
   gave = λ es gave. gave_more w next f g es out (Some size) size gave one.read.fits one.read.looked.files one.read.file.name refl one.told width done place last;
   answer = λ told. (below, begins w.width w.done w.last (drop w.place (bytes_at f w.feed.name)) out (Some size) size refl (one.told told));
   step = (below, done);
+  rises = record { above = above; last = last };
   same = record { name = one.read.file.name; part = one.read.file.part; width = width; count = count };
   looked = one.read.looked;
   reads = subst (ReadOn w.feed next.feed r s w.place) (sym place) one.passed.read_on;
   cause = record { later = one.read.cause.later; device = tt };
   memory = λ is. absurd cc;
 }
+
+-- what is read is above the last string
+pub read_above : (width i : ℕ) (before bytes : List ℕ) (out : FrontEntry) (o : Option ℕ) (size : ℕ) → o ≡ Some size → read_entry width i before bytes ≡ found_of width out o →
+    (i == 0 || is_below before (string_of out)) ≡ true
+read_above width i before bytes out o size e read = (begins width i before bytes out o size e read).entry.above
+
+-- what was read is not above the last string: so the files are not told
+pub stepped_low : {w next : Walking} {out : FrontEntry} {f g : Option Files} {r s : Reads} {x y : ℕ} (size : ℕ) (bad : declared.Bad) →
+    ReadsEntry w.feed next.feed (record { place = w.place; width = w.width; number = w.done }) (read_entry w.width w.done w.last) out (Ok (Some size)) f g r s x y →
+    (w.done == 0 || is_below w.last (string_of out)) ≡ false → next.width ≡ w.width → next.count ≡ w.count → Stepped w next out (Err (Bad bad)) f g r s x y
+stepped_low {w} {out = out} {f} size bad one low width count = record {
+  gave = λ es gave. tt;
+  answer = λ told. absurd (apart (sym (read_above w.width w.done w.last (drop w.place (bytes_at f w.feed.name)) out (Some size) size refl (one.told told)) ∙ low));
+  step = tt;
+  rises = tt;
+  same = record { name = one.read.file.name; part = one.read.file.part; width = width; count = count };
+  looked = one.read.looked;
+  reads = one.read.read_to;
+  cause = record { later = one.read.cause.later; device = tt };
+  memory = λ is. absurd cc;
+}
+  where
+    apart : true ≡ false → ⊥
+    apart is = cc
 
 -- no entry stands there
 pub stepped_none : {w next : Walking} {out : FrontEntry} {f g : Option Files} {r s : Reads} {x y : ℕ} (bad : declared.Bad) → w.done < w.count →
@@ -151,6 +176,7 @@ stepped_none {w} {out = out} {f} bad below one is width count = record {
   gave = λ es gave. tt;
   answer = λ told. inl (below, is, no_entry w.width w.done w.last (drop w.place (bytes_at f w.feed.name)) out None refl (one.told told));
   step = tt;
+  rises = tt;
   same = record { name = one.read.file.name; part = one.read.file.part; width = width; count = count };
   looked = one.read.looked;
   reads = one.read.read_to;
@@ -166,6 +192,7 @@ stepped_failed one width count = record {
   gave = λ es gave. tt;
   answer = λ told. tt;
   step = tt;
+  rises = tt;
   same = record { name = one.read.file.name; part = one.read.file.part; width = width; count = count };
   looked = one.read.looked;
   reads = one.read.read_to;

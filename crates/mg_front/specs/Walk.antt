@@ -1,12 +1,12 @@
 -- A walk over front-coded entries: what contracts see of it, which entries it gave, and what its next call answers.
-use Rattle.std.specs.Prelude.{◌≢◌, ◌≡◌, ◌<◌, ◌+◌, ◌++◌, ◌⊎◌, ℕ, Bool, true, false, List, [], ◌∷◌, length, drop, Some, Result, Ok, Err, IfOk, slice_get}
+use Rattle.std.specs.Prelude.{◌≢◌, ◌≡◌, ◌<◌, ◌+◌, ◌==◌, ◌||◌, ◌++◌, ◌⊎◌, ℕ, Bool, true, false, List, [], ◌∷◌, length, drop, Some, Result, Ok, Err, IfOk, slice_get}
 use Rattle.std.specs.Option.{IsSome}
 use Rattle.std.specs.declared.option.Option.{Option}
 use Rattle.mg_dev.specs.Files.{Files, Reads, bytes_at}
 use Rattle.mg_dev.specs.PartCauses.{HasPartCause}
 use Rattle.mg_bits.specs.Pages.{Paging, Fits, Looked}
-use Rattle.mg_defs.specs.Front.{NoEntry, Entry, IsEntry, IsFront, AreEntries, entry_bytes, front, last_string}
-use Rattle.mg_front.specs.Entries.{entry_of}
+use Rattle.mg_defs.specs.Front.{NoEntry, Entry, IsEntry, IsFront, AreEntries, entry_bytes, front, is_below, last_string}
+use Rattle.mg_front.specs.Entries.{entry_of, string_of}
 use Rattle.mg_front.specs.Looks.{ReadOn, ReadTo}
 use Rattle.mg_front.specs.declared.entry.FrontEntry.{FrontEntry}
 pub use Rattle.mg_dev.specs.Bads.{IsBad}
@@ -76,6 +76,16 @@ abbrev pub AfterNext : Bool → Walking → Walking → Type 0
 AfterNext true old new = (old.done < old.count) × (new.done ≡ old.done + 1)
 AfterNext false old new = (old.done ≡ old.count) × (new ≡ old)
 
+-- an entry is given only as the first of all or above the last string, which its own is then
+pub record GaveAbove (old new : Walking) (out : FrontEntry) : Type 0 where
+  pub above : (old.done == 0 || is_below old.last (string_of out)) ≡ true
+  pub last : new.last ≡ string_of out
+
+-- entries rise, over any store
+abbrev pub RisesNext : Bool → Walking → Walking → FrontEntry → Type 0
+RisesNext true old new out = GaveAbove old new out
+RisesNext false old new out = Unit {0}
+
 -- how far a call read: an entry is read on from the walk's place to the place behind it, so that the calls together read each page
 -- once; the end takes no read; a refused call reads no byte behind the longest entry from its place on
 abbrev pub ReadsNext : Result Bool PartErr → Walking → Walking → Reads → Reads → Type 0
@@ -100,6 +110,8 @@ pub record Stepped (old new : Walking) (out : FrontEntry) (result : Result Bool 
     pub answer : IsSome files_before → AnswersNext result old out (bytes_at files_before old.feed.name)
     -- it went on by one entry, or not at all
     pub step : IfOk result (λ more. AfterNext more old new)
+    -- over any store, an entry that it gave is above the one before
+    pub rises : IfOk result (λ more. RisesNext more old new out)
     -- it is a walk over the same part
     pub same : SameWalk old new
     -- no file changed, and no other part was read

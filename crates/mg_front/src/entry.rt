@@ -93,7 +93,7 @@ impl FrontEntry {
 }
 
 /// Whether a string may have this number after the string before.
-fn may_follow(number: u32, before: &FrontEntry, entry: &FrontEntry) -> bool
+pub(crate) fn may_follow(number: u32, before: &FrontEntry, entry: &FrontEntry) -> bool
     ensures { result ≡ (number == 0 || is_below (string_of before.now) (string_of entry.now)) }
 {
     number == 0 || is_below(before.bytes(), entry.bytes())

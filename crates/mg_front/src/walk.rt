@@ -1,21 +1,22 @@
 //! All entries of a part, in order.
 ghost use Rattle.std.specs.Prelude.{Err, None, ◌≢◌, ◌≡◌, ◌≤◌, ◌<◌, ◌+◌, List, [], IfOk, IfErr, IsSome};
+ghost use Rattle.mg_dev.specs.Bads.{IsBad};
 ghost use Rattle.mg_dev.specs.Files.{bytes_at};
 ghost use Rattle.mg_dev.specs.PartCauses.{HasPartCause};
 ghost use Rattle.mg_bits.specs.Pages.{Looked};
 ghost use Rattle.mg_defs.specs.Front.{Entry};
 ghost use Rattle.mg_front.specs.Entries.{string_of};
-ghost use Rattle.mg_front.specs.Walk.{Gave, SameWalk, AnswersNext, AfterNext, AnswersAmong, ReadsNext, WhereFront, GaveNext, Stepped};
+ghost use Rattle.mg_front.specs.Walk.{Gave, SameWalk, AnswersNext, AfterNext, AnswersAmong, ReadsNext, RisesNext, WhereFront, GaveNext, Stepped};
 ghost use Rattle.mg_dev.specs.declared.part_err.PartErr.TheVariants.{Memory};
 ghost use Rattle.mg_front.specs.declared.entry.FrontEntry.{FrontEntry as Read};
 ghost use Rattle.mg_dev.specs.Moments.{Between};
 ghost use Rattle.mg_dev.specs.Names.{file_name};
 
 use crate::FrontEntry;
-use crate::entry::{EntryAt, read_entry};
+use crate::entry::{EntryAt, may_follow, read_entry};
 use crate::held::take_entry;
 use mg_bits::PageFeed;
-use mg_dev::{Bad, FileRef, PartErr, Store};
+use mg_dev::{Bad, FileRef, Part, PartErr, Store};
 use std::alloc::Global;
 use std::marker::Model;
 
@@ -56,6 +57,19 @@ fn keep_string(last: &mut FrontEntry, entry: &FrontEntry)
     let string = entry.bytes();
     last.string[..string.len()].copy_from_slice(string);
     last.length = entry.length;
+}
+
+/// No entry stands at this place of a part.
+fn bad_at(part: Part, at: u64) -> Bad
+    ensures { IsBad result part at 1 1 0 }
+{
+    Bad {
+        part,
+        at,
+        low: 1,
+        high: 1,
+        found: 0,
+    }
 }
 
 impl<'a, S: Store> FrontWalk<'a, S> {
@@ -99,6 +113,8 @@ impl<'a, S: Store> FrontWalk<'a, S> {
         ensures answer { IsSome (S.files store.old) →
             AnswersNext result self.old out.new (bytes_at (S.files store.old) self.old.feed.name) }
         ensures step { IfOk result (λ more. AfterNext more self.old self.new) }
+        // Over any store, an entry that is given is above the one before.
+        ensures rises { IfOk result (λ more. RisesNext more self.old self.new out.new) }
         ensures same { SameWalk self.old self.new }
         ensures looked { Between S.files S.reads S.faults store.old store.new
             (Looked self.old.feed.part) }
@@ -147,18 +163,16 @@ impl<'a, S: Store> FrontWalk<'a, S> {
         };
         match read_entry(&mut self.feed, store, at, &self.last, out) {
             Ok(Some(size)) => {
+                // Reading promises it only where the files are told, so it is asked again.
+                if !may_follow(self.done, &self.last, out) {
+                    return Err(PartErr::Bad(bad_at(self.strings.part, self.place)));
+                }
                 keep_string(&mut self.last, out);
                 self.place += size;
                 self.done += 1;
                 Ok(true)
             }
-            Ok(None) => Err(PartErr::Bad(Bad {
-                part: self.strings.part,
-                at: self.place,
-                low: 1,
-                high: 1,
-                found: 0,
-            })),
+            Ok(None) => Err(PartErr::Bad(bad_at(self.strings.part, self.place))),
             Err(_) => Err(PartErr::Device),
         }
     }
