@@ -11,7 +11,7 @@ use Rattle.mg_defs.specs.Front.{Found, entry_bytes, read_entry}
 use Rattle.mg_defs.proofs.EntryLaws.{read_stands, read_written}
 use Rattle.mg_front.specs.declared.entry.EntryAt.{EntryAt}
 use Rattle.mg_front.specs.declared.entry.FrontEntry.{FrontEntry}
-use Rattle.mg_front.specs.Entries.{ReadsEntry, TookEntry, TookHeld, string_of}
+use Rattle.mg_front.specs.Entries.{ReadsEntry, TookEntry, TookHeld}
 use Rattle.mg_front.specs.Looks.{ReadOn}
 use Rattle.mg_front.proofs.ReadPages.{bytes_on_as, on_to}
 

@@ -2,7 +2,7 @@
 //!
 //! Nearly all do, and they are taken from the page with no device asked. What else stands there, as
 //! an entry that lies on two pages or none at all, is left to who asks.
-ghost use Rattle.std.specs.Prelude.{◌≡◌, ◌≤◌, ◌<◌, ◌+◌, ◌++◌, ◌&&◌, ◌||◌, ◌==◌, nat_le, length, take, drop, Some};
+ghost use Rattle.std.specs.Prelude.{◌≡◌, ◌≤◌, ◌<◌, ◌+◌, ◌++◌, ◌&&◌, ◌||◌, ◌==◌, nat_le, length, take, drop};
 ghost use Rattle.mg_defs.specs.Front.{is_below, read_cut, read_entry, read_whole, rises_after_prefix};
 ghost use Rattle.mg_front.specs.Entries.{HasRoom, TookBehind, TookHeld, string_of};
 

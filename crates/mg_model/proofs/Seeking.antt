@@ -1,5 +1,5 @@
 -- A string among strings that rise.
-use Rattle.std.proofs.Common.{◌≡◌, ℕ, zero, suc, ◌+◌, ◌-◌, ◌<◌, ◌≤◌, ◌⊎◌, true, false, cond, List, [], ◌∷◌, length, get_or, slice_get, position, Some, None, refl, sym, ap, subst, ◌∙◌, arith, inl, inr, ltb}
+use Rattle.std.proofs.Common.{◌≡◌, ℕ, zero, suc, ◌+◌, ◌-◌, ◌<◌, ◌≤◌, ◌⊎◌, true, false, cond, List, [], ◌∷◌, ◌++◌, length, length-append, get_or, slice_get, position, Some, None, refl, sym, ap, subst, ◌∙◌, arith, inl, inr, ltb}
 use Rattle.std.specs.List.{AllByRecursion, position_or_len}
 use Rattle.std.specs.List.Sorted.{IsStrictlySortedBy}
 use Rattle.std.specs.Ordering.{nat_cmp, is_eq, ordering_reverse, is_lt}
@@ -7,6 +7,7 @@ use Rattle.std.specs.declared.cmp.Ordering.{Ordering}
 use Rattle.std.specs.declared.cmp.Ordering.TheVariants.{Less, Equal, Greater}
 use Rattle.std.specs.Cmp.Lexicographic.{slice_cmp}
 use Rattle.std.specs.Str.{bytes_eq}
+use Rattle.std.proofs.lemmas.Bool.{cases_lt}
 use Rattle.std.proofs.lemmas.Bool.Decides.{nat_tests}
 use Rattle.std.proofs.lemmas.Cmp.{nat_list_cmp_total}
 use Rattle.std.proofs.lemmas.List.Sums.{position_or_len_is}
@@ -121,9 +122,6 @@ less-of Less h = refl
 less-of Equal h = absurd cc
 less-of Greater h = absurd cc
 
-pub rise-start : (xs : List (List ℕ)) → RiseTo xs 1
-rise-start xs = record { next = λ k h. absurd (omega arith) }
-
 pub rise-more : (xs : List (List ℕ)) (i : ℕ) (x y : List ℕ) → RiseTo xs i → 1 ≤ i → slice_get xs (i - 1) ≡ Some x → slice_get xs i ≡ Some y → is_lt (order x y) ≡ true → RiseTo xs (i + 1)
 rise-more xs i x y before one h g below = record { next = λ k within. by k (split k (i - 1) (omega arith)) }
   where
@@ -147,13 +145,47 @@ rise-from (y ∷ z ∷ ys) up =
 pub rise-all : (xs : List (List ℕ)) (n : ℕ) → RiseTo xs n → length xs ≤ n → IsStrictlySortedBy (slice_cmp nat_cmp) xs
 rise-all xs n h l = rise-from xs (λ k within. h.next k (omega arith))
 
--- where a string is not below the next one, the strings do not rise
-pub rise-not : (xs : List (List ℕ)) (i : ℕ) (x y : List ℕ) → 1 ≤ i → i < length xs → slice_get xs (i - 1) ≡ Some x → slice_get xs i ≡ Some y →
-    is_lt (order x y) ≡ false → IsStrictlySortedBy (slice_cmp nat_cmp) xs → ⊥
-rise-not xs i x y one within h g not rising =
-    let less : order x y ≡ Less = ap (λ z. order z y) (sym (there-or xs (i - 1) x [] h)) ∙ ap (order (get_or xs (i - 1) [])) (sym (there-or xs i y [] g))
-    ∙ rising-at xs (i - 1) i [] rising (omega arith) within in
-    false_is_not_true (sym not ∙ ap is_lt less)
+get-left : (xs ys : List (List ℕ)) (k : ℕ) → k < length xs → slice_get (xs ++ ys) k ≡ slice_get xs k
+get-left [] ys k within = absurd (omega arith)
+get-left (x ∷ xs) ys zero within = refl
+get-left (x ∷ xs) ys (suc k) within = get-left xs ys k (omega arith)
+
+get-last : (xs : List (List ℕ)) (y : List ℕ) → slice_get (xs ++ y ∷ []) (length xs) ≡ Some y
+get-last [] y = refl
+get-last (x ∷ xs) y = get-last xs y
+
+or-left : (xs ys : List (List ℕ)) (k : ℕ) → k < length xs → get_or (xs ++ ys) k [] ≡ get_or xs k []
+or-left [] ys k within = absurd (omega arith)
+or-left (x ∷ xs) ys zero within = refl
+or-left (x ∷ xs) ys (suc k) within = or-left xs ys k (omega arith)
+
+-- the last of some strings is this one, where there are any
+abbrev pub EndsIn : List (List ℕ) → List ℕ → Type 0
+EndsIn xs last = 0 < length xs → slice_get xs (length xs - 1) ≡ Some last
+
+pub ends-in : (xs ys : List (List ℕ)) (y last : List ℕ) → ys ≡ xs ++ y ∷ [] → last ≡ y → EndsIn ys last
+ends-in xs ys y last is same some =
+    let long : length ys - 1 ≡ length xs = omega (arith, ap length is, length-append xs (y ∷ [])) in
+    ap (slice_get ys) long ∙ ap (λ l. slice_get l (length xs)) is ∙ get-last xs y ∙ ap Some (sym same)
+
+-- a string more, above the last one
+pub rise-push : (xs ys : List (List ℕ)) (y last : List ℕ) → ys ≡ xs ++ y ∷ [] → RiseTo xs (length xs) → EndsIn xs last → (0 < length xs → is_lt (order last y) ≡ true) →
+    RiseTo ys (length ys)
+rise-push xs ys y last is before ends above = subst (λ l. RiseTo l (length l)) (sym is) (subst (RiseTo (xs ++ y ∷ [])) (sym long) by_length)
   where
-    false_is_not_true : false ≡ true → ⊥
-    false_is_not_true e = cc
+    long : length (xs ++ y ∷ []) ≡ length xs + 1
+    long = length-append xs (y ∷ [])
+
+    first : RiseTo (xs ++ y ∷ []) (length xs)
+    first = record {
+      next = λ k within.
+          ap (λ u. order u (get_or (xs ++ y ∷ []) (k + 1) [])) (or-left xs (y ∷ []) k (omega arith)) ∙ ap (order (get_or xs k [])) (or-left xs (y ∷ []) (k + 1) within)
+          ∙ before.next k within;
+    }
+
+    by_length : RiseTo (xs ++ y ∷ []) (length xs + 1)
+    by_length = by (cases_lt 0 (length xs))
+      where
+        by : (0 < length xs) ⊎ (length xs ≤ 0) → RiseTo (xs ++ y ∷ []) (length xs + 1)
+        by (inr none) = record { next = λ k within. absurd (omega arith) }
+        by (inl some) = rise-more (xs ++ y ∷ []) (length xs) last y first some (get-left xs (y ∷ []) (length xs - 1) (omega arith) ∙ ends some) (get-last xs y) (above some)

@@ -1,12 +1,12 @@
 -- What a walk over the entries of a part tells of it.
-use Rattle.std.proofs.Common.{◌≡◌, ℕ, ◌+◌, ◌-◌, ◌<◌, ◌≤◌, refl, None, length-append, Bool, true, false, List, [], ◌∷◌, ◌++◌, length, drop, sym, ap, subst, ◌∙◌, arith, inl, inr, Ok, Err, append-nil}
+use Rattle.std.proofs.Common.{◌≡◌, ℕ, ◌+◌, ◌-◌, ◌<◌, ◌≤◌, ◌==◌, ◌||◌, refl, None, length-append, Bool, true, false, List, [], ◌∷◌, ◌++◌, length, drop, sym, ap, subst, ◌∙◌, arith, inl, inr, Ok, Err, append-nil}
 use Rattle.mg_dev.specs.declared.bad.Bad as declared
 use Rattle.mg_dev.specs.declared.part.Part.{Part}
 use Rattle.mg_dev.specs.declared.part_err.PartErr.{PartErr}
 use Rattle.mg_dev.specs.declared.part_err.PartErr.TheVariants.{Device, Memory, Bad}
 use Rattle.mg_defs.specs.CodedText.{piece_entries}
 use Rattle.mg_defs.specs.Front.{Entry, AreEntries, NoEntry, front, last_string}
-use Rattle.mg_front.specs.Entries.{entry_of}
+use Rattle.mg_front.specs.Entries.{entry_of, string_of}
 use Rattle.mg_front.specs.Walk.{Walking, Given, Gave, AnswersNext, Stepped}
 use Rattle.mg_front.specs.declared.entry.FrontEntry.{FrontEntry}
 use Rattle.std.specs.Int.{div_ceil}
@@ -22,6 +22,8 @@ use Rattle.mg_model.specs.declared.reading.ReadPieces.{ReadPieces}
 use Rattle.mg_model.specs.Damage.{IsPart, IsWalkDamage, StandFirst}
 use Rattle.mg_model.specs.Read.{AnswersEntries, HasNone, IsAtFirst, ReadOnce, ReadWithin, ReadsPieces, code_read}
 use Rattle.mg_model.proofs.Entries.{code, entries-long}
+use Rattle.mg_model.proofs.Seeking.{EndsIn, RiseTo, ends-in, rise-all, rise-push}
+use Rattle.std.proofs.lemmas.Bool.Decides.{nat_tests}
 
 -- a walk that has given all entries has read a part
 all-read : (w : Walking) (out : FrontEntry) (pieces : List (List ℕ)) (lengths : List ℕ) (count : ℕ) (bytes same : List ℕ) (more : Bool) →
@@ -151,6 +153,13 @@ looked-then {p} same one two = record {
   others = λ x apart. two.others x (ap (same_part x) same ∙ apart) ∙ one.others x apart;
 }
 
+second-true : (b c : Bool) → b ≡ false → (b || c) ≡ true → c ≡ true
+second-true false c none either = either
+second-true true c none either = absurd cc
+
+not-first : (n : ℕ) → 0 < n → (n == 0) ≡ false
+not-first n some = grind (arith, nat_tests)
+
 -- what a walk has read since its first entry
 pub record ReadSoFar (start now : Walking) (read : ReadPieces) (f g : Option Files) (r s : Reads) (a b : ℕ) : Type 0 where
   pub looked : Looked start.feed.part f g r s a b
@@ -162,6 +171,9 @@ pub record ReadSoFar (start now : Walking) (read : ReadPieces) (f g : Option Fil
   pub count : now.count ≡ start.count
   pub each : length read.lengths.items ≡ length read.pieces
   pub room : length read.pieces + (now.count - now.done) ≤ start.count
+  pub rising : RiseTo read.pieces (length read.pieces)
+  pub last : EndsIn read.pieces now.last
+  pub begun : 0 < length read.pieces → 0 < now.done
 
 pub read-begun : {w : Walking} {read : ReadPieces} {f : Option Files} {r : Reads} {a : ℕ} → IsAtFirst w f → HasNone read → ReadSoFar w w read f f r r a a
 read-begun {w} {read} {f} {r} {a} at none =
@@ -176,6 +188,9 @@ read-begun {w} {read} {f} {r} {a} at none =
       count = refl;
       each = omega (arith, ap length none.pieces, ap length none.lengths);
       room = omega (arith, ap length none.pieces);
+      rising = record { next = λ k within. absurd (omega (arith, within, ap length none.pieces)) };
+      last = λ some. absurd (omega (arith, some, ap length none.pieces));
+      begun = λ some. absurd (omega (arith, some, ap length none.pieces));
     }
 
 here : {start now : Walking} {read : ReadPieces} {f g : Option Files} {r s : Reads} {a b : ℕ} → ReadSoFar start now read f g r s a b → IsSome f → IsSome g
@@ -196,9 +211,9 @@ module _ {start now next : Walking} {read : ReadPieces} {out : FrontEntry} {f g 
       omega (arith, within)
 
   -- one entry more
-  pub read-more : {behind : ReadPieces} → Stepped now next out (Ok true) g h s t b c → piece_entries (code_read behind) ≡ piece_entries (code_read read) ++ entry_of 1 out ∷ [] →
+  pub read-more : {behind : ReadPieces} → Stepped now next out (Ok true) g h s t b c → behind.pieces ≡ read.pieces ++ string_of out ∷ [] → piece_entries (code_read behind) ≡ piece_entries (code_read read) ++ entry_of 1 out ∷ [] →
       length behind.lengths.items ≡ length behind.pieces → length behind.pieces ≡ length read.pieces + 1 → ReadSoFar start next behind f h r t a c
-  read-more {behind} step entries each one = record {
+  read-more {behind} step pieces entries each one = record {
     looked = looked-then so.part so.looked step.looked;
     gave = subst (Gave next h) (ap (λ n. piece_entries (code_read read) ++ entry_of n out ∷ []) so.width ∙ sym entries) (step.gave _ so.gave);
     first = read-on true step;
@@ -208,6 +223,9 @@ module _ {start now next : Walking} {read : ReadPieces} {out : FrontEntry} {f g 
     count = step.same.count ∙ so.count;
     each = each;
     room = omega (arith, so.room, step.step.0, step.step.1, step.same.count, one);
+    rising = rise-push read.pieces behind.pieces (string_of out) now.last pieces so.rising so.last (λ some. second-true _ _ (not-first now.done (so.begun some)) step.rises.above);
+    last = ends-in read.pieces behind.pieces (string_of out) next.last pieces step.rises.last;
+    begun = λ some. omega (arith, step.step.1);
   }
 
   -- the end
@@ -216,6 +234,7 @@ module _ {start now next : Walking} {read : ReadPieces} {out : FrontEntry} {f g 
     answer = λ told. all-read now out read.pieces read.lengths.items start.count (bytes_at g now.feed.name) (bytes_at f start.feed.name) false
         (so.gave.given (here so told)) (step.answer (here so told)) refl so.width so.count so.each (same-bytes so);
     each = so.each;
+    rises = rise-all read.pieces (length read.pieces) so.rising (omega arith);
     looked = looked-then so.part so.looked step.looked;
     once = λ told. read-within false step told;
     cause = cause_ok (omega (arith, so.looked.faults, step.looked.faults));
@@ -226,6 +245,7 @@ module _ {start now next : Walking} {read : ReadPieces} {out : FrontEntry} {f g 
   read-lacks step = record {
     answer = λ told. tt;
     each = tt;
+    rises = tt;
     looked = looked-then so.part so.looked step.looked;
     once = λ told. read-within true step told;
     cause = record { later = omega (arith, so.looked.faults, step.looked.faults); device = tt };
@@ -238,6 +258,7 @@ module _ {start now next : Walking} {read : ReadPieces} {out : FrontEntry} {f g 
     answer = λ told. entries-refused now out (piece_entries (code_read read)) refusal start.feed.part start.count (bytes_at g now.feed.name)
         (bytes_at f start.feed.name) (so.gave.given (here so told)) (step.answer (here so told)) so.width so.count so.part (same-bytes so);
     each = tt;
+    rises = tt;
     looked = looked-then so.part so.looked step.looked;
     once = λ told.
         let within = refused-within now f g r s t (piece_entries (code_read read)) start.feed.part start.feed.name told so.looked.files so.name so.part so.gave so.first step.reads in
@@ -251,6 +272,7 @@ pub read-not : {name : List ℕ} {part : Part} {count : ℕ} {f : Option Files} 
 read-not = record {
   answer = λ told. tt;
   each = tt;
+  rises = tt;
   looked = record { files = refl; faults = omega arith; later = λ p. omega arith; others = λ p _. refl };
   once = λ told. omega arith;
   cause = record { later = omega arith; device = tt };

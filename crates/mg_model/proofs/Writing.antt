@@ -1,39 +1,19 @@
--- The entries of a stream's pieces, as they are written and as they rise.
-use Rattle.std.proofs.Common.{◌≡◌, ◌≢◌, ℕ, ◌+◌, ◌*◌, ◌<◌, ◌≤◌, true, List, [], ◌∷◌, length, take, get_or, slice_get, slice_index, Some, None, Option, refl, sym, ap, subst, ◌∙◌, arith, Err, zero-add, inr}
+-- The entries of a stream's pieces, as they are written.
+use Rattle.std.proofs.Common.{◌≡◌, ◌≢◌, ℕ, ◌+◌, ◌*◌, ◌<◌, ◌≤◌, List, [], ◌∷◌, length, take, get_or, slice_get, slice_index, Some, None, Option, sym, ap, subst, ◌∙◌, arith, Err, zero-add, inr}
 use Rattle.std.specs.Option.{option_map}
-use Rattle.std.specs.List.Sorted.{IsStrictlySortedBy}
-use Rattle.std.specs.Ordering.{nat_cmp, is_lt}
-use Rattle.std.specs.declared.cmp.Ordering.{Ordering}
-use Rattle.std.specs.declared.cmp.Ordering.TheVariants.{Less, Equal, Greater}
-use Rattle.std.specs.Cmp.Lexicographic.{slice_cmp}
 use Rattle.mg_dev.specs.declared.part.Part.{Part}
 use Rattle.mg_dev.specs.declared.part_err.PartErr.{PartErr}
 use Rattle.mg_dev.specs.declared.part_err.PartErr.TheVariants.{Device, Memory, Bad}
 use Rattle.mg_bits.specs.Writer.{Writing}
-use Rattle.mg_defs.specs.CodedText.{StreamCode, piece_entries}
+use Rattle.mg_defs.specs.CodedText.{piece_entries}
 use Rattle.mg_defs.specs.Front.{Entry, IsEntry, AreEntries, last_string}
 use Rattle.mg_defs.proofs.EntryLaws.{entries_rest}
-use Rattle.mg_defs.proofs.FrontOrder.{rising}
 use Rattle.mg_defs.proofs.FrontParts.{some_cons}
 use Rattle.mg_front.specs.Fronting.{IsOther}
-use Rattle.mg_model.specs.Damage.{IsPart, AnswersStream}
+use Rattle.mg_model.specs.Damage.{AnswersStream}
 use Rattle.mg_model.specs.Read.{AnswersCode}
 use Rattle.mg_model.proofs.Entries.{code, entry, entry-there}
-use Rattle.mg_model.proofs.Seeking.{order, there-or, rise-from}
-
--- ---- entries that rise
-
-less-of : (o : Ordering) → is_lt o ≡ true → o ≡ Less
-less-of Less h = refl
-less-of Equal h = absurd cc
-less-of Greater h = absurd cc
-
-pub entries-rise : (pieces : List (List ℕ)) (lengths : List ℕ) → length lengths ≡ length pieces → AreEntries 1 0 [] (piece_entries (code pieces lengths)) →
-    IsStrictlySortedBy (slice_cmp nat_cmp) pieces
-entries-rise pieces lengths e are = rise-from pieces (λ k within.
-    less-of (order (get_or pieces k []) (get_or pieces (k + 1) []))
-    (rising 1 0 [] (piece_entries (code pieces lengths)) k (k + 1) (entry (get_or pieces k []) (get_or lengths k 0)) (entry (get_or pieces (k + 1) []) (get_or lengths (k + 1) 0)) are (omega arith)
-    (entry-there pieces lengths k e (omega arith)) (entry-there pieces lengths (k + 1) e within)))
+use Rattle.mg_model.proofs.Seeking.{there-or}
 
 -- ---- the next entry of a writer
 
@@ -60,9 +40,6 @@ is-other n strings None h apart = apart
 is-other n strings (Some places) h apart = absurd cc
 
 -- ---- a part that was read
-
-pub part-rises : (count : ℕ) (bytes : List ℕ) (it : StreamCode) → IsPart count bytes it → IsStrictlySortedBy (slice_cmp nat_cmp) it.pieces
-part-rises count bytes it is = entries-rise it.pieces it.lengths is.each is.front.entries
 
 pub code-damage : (part : Part) (count : ℕ) (bytes : List ℕ) (refusal : PartErr) → 2 * count ≤ length bytes →
     AnswersCode {T = List ℕ} part count bytes (Err refusal) → AnswersStream part count bytes (Err refusal)

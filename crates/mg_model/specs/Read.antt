@@ -2,6 +2,9 @@
 use Rattle.std.specs.Prelude.{◌≡◌, ◌≤◌, ◌<◌, ◌+◌, ◌*◌, ◌⊎◌, ℕ, List, [], length, None, Result, Ok, Err, IfOk}
 use Rattle.std.specs.Int.{div_ceil}
 use Rattle.std.specs.Option.{IsSome}
+use Rattle.std.specs.List.Sorted.{IsStrictlySortedBy}
+use Rattle.std.specs.Ordering.{nat_cmp}
+use Rattle.std.specs.Cmp.Lexicographic.{slice_cmp}
 use Rattle.std.specs.declared.option.Option.{Option}
 use Rattle.mg_dev.specs.Files.{Files, Reads, bytes_at}
 use Rattle.mg_dev.specs.PartCauses.{HasPartCause}
@@ -84,6 +87,8 @@ pub record ReadsPieces (name : List ℕ) (part : Part) (count : ℕ) (result : R
     pub answer : IsSome files_before → AnswersEntries part count (bytes_at files_before name) result
     -- each piece has a length
     pub each : IfOk result (λ read. length read.lengths.items ≡ length read.pieces)
+    -- over any store, the pieces rise
+    pub rises : IfOk result (λ read. IsStrictlySortedBy (slice_cmp nat_cmp) read.pieces)
     -- no file changed, and no other part was read
     pub looked : Looked part files_before files_now reads_before reads_now faults_before faults_now
     -- the part was read once

@@ -1,5 +1,5 @@
 //! Pieces in entries of sixteen bytes, and the bytes of the longer ones in one block.
-ghost use Rattle.std.specs.Prelude.{◌≡◌, ℕ, List, ◌+◌, ◌<◌, ◌≤◌, ◌^◌, ◌++◌, ◌∷◌, [], length, map, position, slice_get, slice_index, slice_index_or, Some, IfOk, IfSome, OnOk, OnErr};
+ghost use Rattle.std.specs.Prelude.{◌≡◌, ℕ, List, ◌+◌, ◌<◌, ◌≤◌, ◌^◌, ◌++◌, ◌∷◌, [], length, map, position, slice_get, slice_index, slice_index_or, take, Some, IfOk, IfSome, OnOk, OnErr};
 ghost use Rattle.std.specs.List.{AllByRecursion, dedup};
 ghost use Rattle.std.specs.List.Sorted.{IsPermutation, IsSorted, IsStrictlySortedBy};
 ghost use Rattle.std.specs.Ordering.{nat_cmp};
@@ -40,7 +40,8 @@ impl Model for PieceBlock {
     ghost invariant = { λ b. IsBlock b.entries.items b.long.items };
 }
 
-/// The entry of a piece that it holds.
+/// The entry of a piece that it holds. Zero-bytes stand behind the piece, as in its key, so that a
+/// vocabulary finds it by the entry.
 fn short_entry(piece: &[u8]) -> [u8; 16]
     requires { length piece.now ≤ 15 }
     ensures length { slice_index result 0 ≡ length piece.now }
@@ -194,6 +195,15 @@ impl PieceBlock {
         self.long.extend_from_slice(piece)?;
         self.entries.push_reserved(entry);
         Ok(())
+    }
+
+    /// Adds the piece that the first bytes of a string are. After a refusal nothing changed.
+    pub fn push_of(&mut self, string: &[u8; 255], count: u8) -> Result<(), AllocError>
+        requires { length self.old < 2 ^ 22 }
+        ensures ok { OnOk result (self.new ≡ self.old ++ take count string.now ∷ []) }
+        ensures err { OnErr result (self.new ≡ self.old) }
+    {
+        self.push(&string[..usize::from(count)])
     }
 
     /// Sorts the pieces by their bytes, and leaves each once. It takes no memory.

@@ -1,17 +1,12 @@
 //! The pieces of a part, and the damages that they may have.
-ghost use Rattle.std.specs.Bool.{OnTrue, OnFalse};
 ghost use Rattle.std.specs.Prelude.{◌≡◌, ◌≢◌, ◌+◌, ◌-◌, ◌*◌, ◌^◌, ◌≤◌, ◌<◌, ◌++◌, ◌∷◌, [], ℕ, List, IsSome, length, min, take, Err, IfOk, OnOk};
 ghost use Rattle.mg_dev.specs.Files.{SameReads, file_bytes};
 ghost use Rattle.mg_dev.specs.Moments.{Between};
 ghost use Rattle.mg_dev.specs.PartCauses.{HasPartCause};
 ghost use Rattle.mg_dev.specs.Names.{file_name};
 ghost use Rattle.mg_canon.specs.Refusals.{most_bits};
-ghost use Rattle.mg_defs.specs.Front.{is_below, shared};
+ghost use Rattle.mg_defs.specs.Front.{shared};
 ghost use Rattle.mg_defs.specs.CodedText.{piece_entries};
-ghost use Rattle.std.specs.List.{AllByRecursion};
-ghost use Rattle.std.specs.List.Sorted.{IsStrictlySortedBy};
-ghost use Rattle.std.specs.Ordering.{nat_cmp};
-ghost use Rattle.std.specs.Cmp.Lexicographic.{slice_cmp};
 ghost use Rattle.mg_front.specs.Entries.{entry_of, string_of};
 ghost use Rattle.mg_defs.specs.Canon.{AreGood};
 ghost use Rattle.mg_model.specs.Damage.{AnswersRoom, IsPart};
@@ -59,21 +54,6 @@ pub fn expect_room<S: Store>(store: &mut S, file: &FileRef<'_>, count: u32) -> R
     Ok(())
 }
 
-/// Whether a piece comes before another by its bytes.
-fn is_below(before: &[u8], piece: &[u8]) -> bool
-    ensures { result ≡ is_below before.now piece.now }
-{
-    before.cmp(piece).is_lt()
-}
-
-/// The piece of an entry.
-fn piece_in(entry: &FrontEntry) -> &[u8]
-    ensures piece { result.now ≡ string_of entry.now }
-    ensures short { length result.now ≤ 255 }
-{
-    &entry.string[..usize::from(entry.length)]
-}
-
 /// The length in an entry's field, its first byte.
 fn length_in(entry: &FrontEntry) -> u8
     ensures { take 1 entry.now.field ≡ result ∷ [] }
@@ -88,29 +68,14 @@ impl ReadPieces {
         requires few { length self.old.pieces < 2 ^ 22 }
         ensures entries { OnOk result (piece_entries (code_read self.new)
             ≡ piece_entries (code_read self.old) ++ entry_of 1 entry.now ∷ []) }
+        ensures pieces { OnOk result (self.new.pieces
+            ≡ self.old.pieces ++ string_of entry.now ∷ []) }
         ensures each { OnOk result (length self.new.lengths.items ≡ length self.new.pieces) }
         ensures count { OnOk result (length self.new.pieces ≡ length self.old.pieces + 1) }
     {
-        self.pieces.push(piece_in(entry))?;
+        self.pieces.push_of(&entry.string, entry.length)?;
         self.lengths.push(length_in(entry))?;
         Ok(())
-    }
-
-    /// Whether each piece is below the next one.
-    pub fn rises(&self) -> bool
-        ensures rising { OnTrue result (IsStrictlySortedBy (slice_cmp nat_cmp) self.now.pieces) }
-        ensures falls { OnFalse result (¬ IsStrictlySortedBy (slice_cmp nat_cmp) self.now.pieces) }
-        ensures few { length self.now.pieces ≤ 2 ^ 22 }
-        ensures short { AllByRecursion (λ (p : List ℕ). length p ≤ 255) self.now.pieces }
-    {
-        for place in 1..self.pieces.len() {
-            let before = self.pieces.piece(place - 1);
-            let piece = self.pieces.piece(place);
-            if !is_below(before, piece) {
-                return false;
-            }
-        }
-        true
     }
 }
 

@@ -1,6 +1,9 @@
 //! The pieces of one stream and their code.
 ghost use Rattle.std.specs.Prelude.{◌≡◌, ◌≢◌, ◌<◌, ◌≤◌, ◌^◌, ℕ, List, [], IsSome, length, position, slice_get, slice_index, None, Some, Err, IfOk, IfSome, OnOk};
 ghost use Rattle.std.specs.Option.{option_map};
+ghost use Rattle.std.specs.Cmp.Lexicographic.{slice_cmp};
+ghost use Rattle.std.specs.List.Sorted.{IsStrictlySortedBy};
+ghost use Rattle.std.specs.Ordering.{nat_cmp};
 ghost use Rattle.std.specs.Str.{bytes_eq};
 ghost use Rattle.mg_dev.specs.Causes.{HasPutCause};
 ghost use Rattle.mg_dev.specs.Files.{bytes_at, file_bytes};
@@ -23,7 +26,7 @@ use crate::pieces::Pieces;
 use crate::reading::{ReadPieces, checked_code, expect_room, read_pieces};
 use crate::{Recent, Vocab};
 use mg_canon::Canon;
-use mg_dev::{Bad, FileRef, Part, PartErr, PutErr, Store};
+use mg_dev::{FileRef, Part, PartErr, PutErr, Store};
 use mg_front::FrontWriter;
 use std::alloc::{AllocError, Global};
 use std::marker::Model;
@@ -157,24 +160,16 @@ impl StreamModel {
         }
     }
 
-    // The model of pieces that were read. That they rise is tested again, for the walk promises it only
-    // over a store that tells its files.
+    // The model of pieces that were read, and that rise.
     fn of_read(alloc: Global, part: Part, read: ReadPieces) -> Result<Self, PartErr>
         requires each { length read.lengths.items ≡ length read.pieces }
+        requires rises { IsStrictlySortedBy (slice_cmp nat_cmp) read.pieces }
         ensures answer { (count : ℕ) (bytes : List ℕ) → IsPart count bytes (code_read read) →
             AnswersStream part count bytes result }
         ensures device { result ≢ Err PartErr.Device }
     {
-        if !read.rises() {
-            let bad = Bad {
-                part,
-                at: 0,
-                low: 1,
-                high: 1,
-                found: 0,
-            };
-            return Err(without(read, PartErr::Bad(bad)));
-        }
+        // That there are no more than 2^22 pieces, each of at most 255 bytes, is told with their number.
+        let _ = read.pieces.len();
         match checked_code(alloc, part, &read) {
             Ok(canon) => Ok(Self::of_code(read, canon)),
             Err(refusal) => Err(without(read, refusal)),

@@ -5,7 +5,7 @@ pub entries-init : goal.entries-init
 entries-init g c = read-begun c.requires.first c.requires.none
 
 pub entries-preserved : goal.entries-preserved
-entries-preserved g c = read-more c.entries.invariant (rw c.in-Ok-true.field-0-test at c.in-Ok-true.ensures) c.in-Ok.ensures.entries c.in-Ok.ensures.each c.in-Ok.ensures.count
+entries-preserved g c = read-more c.entries.invariant (rw c.in-Ok-true.field-0-test at c.in-Ok-true.ensures) c.in-Ok.ensures.pieces c.in-Ok.ensures.entries c.in-Ok.ensures.each c.in-Ok.ensures.count
 
 pub returns-in-Ok-false : goal.returns-in-Ok-false
 returns-in-Ok-false g c = read-end c.entries.invariant (rw c.in-Ok-false.field-0-test at c.in-Ok-false.ensures)

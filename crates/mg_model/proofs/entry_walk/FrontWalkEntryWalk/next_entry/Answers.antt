@@ -5,6 +5,7 @@ returns g c = record {
   gave = c.next.ensures.gave;
   answer = c.next.ensures.answer;
   step = c.next.ensures.step;
+  rises = c.next.ensures.rises;
   same = c.next.ensures.same;
   looked = c.next.ensures.looked;
   reads = c.next.ensures.reads;

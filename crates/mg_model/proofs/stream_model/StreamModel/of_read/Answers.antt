@@ -1,20 +1,17 @@
 use Rattle.mg_model.specs.Read.{code_read}
 use Rattle.mg_model.proofs.Standing.{room-of}
-use Rattle.mg_model.proofs.Writing.{code-damage, part-rises}
+use Rattle.mg_model.proofs.Writing.{code-damage}
 use Rattle.mg_model.proofs.stream_model.StreamModel.of_read.Goals as goal
-
-pub returns-then-not-rises-clause-answer : goal.returns-then-not-rises-clause-answer
-returns-then-not-rises-clause-answer c = λ count bytes is. absurd (c.if-not-rises.ensures.falls (part-rises count bytes (code_read c.args.read) is))
 
 pub returns-in-Err-clause-answer : goal.returns-in-Err-clause-answer
 returns-in-Err-clause-answer c = λ count bytes is.
-    rw c.without-in-Err.ensures (code-damage c.args.part count bytes c.in-Err.refusal (room-of count bytes (code_read c.args.read) is) (c.in-Err.ensures.answer count bytes is))
+    rw c.without.ensures (code-damage c.args.part count bytes c.in-Err.refusal (room-of count bytes (code_read c.args.read) is) (c.in-Err.ensures.answer count bytes is))
 
 pub of_code-requires-clause-code : goal.of_code-requires-clause-code
 of_code-requires-clause-code c = record {
-  rising = c.if-not-rises.ensures.rising;
-  short = c.rises.ensures.short;
-  few = c.rises.ensures.few;
+  rising = c.requires.rises;
+  short = c.len.ensures.short;
+  few = c.len.ensures.few;
   each = c.requires.each;
   good = c.in-Ok.ensures.good;
 }
