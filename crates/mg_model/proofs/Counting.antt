@@ -1,7 +1,8 @@
 -- The entries of a map from keys to counts, and what counting a piece does to them.
-use Rattle.std.proofs.Common.{◌≡◌, ℕ, zero, suc, ◌+◌, ◌-◌, ◌^◌, ◌<◌, ◌≤◌, Bool, true, false, cond, not, List, [], ◌∷◌, length, refl, sym, ap, subst, ◌∙◌, arith, if◌then◌else◌, ◌||◌, None, Some, position, slice_get, ltb}
+use Rattle.std.proofs.Common.{◌≡◌, ℕ, zero, suc, ◌+◌, ◌-◌, ◌^◌, ◌<◌, ◌≤◌, Bool, true, false, cond, not, List, [], ◌∷◌, length, refl, sym, ap, subst, ◌∙◌, arith, if◌then◌else◌, ◌||◌, None, Some, position, slice_get, slice_index, ltb}
 use Rattle.std.specs.List.{AllByRecursion, IsDistinct, position_or_len}
 use Rattle.std.specs.Map.{keys_of, values_of}
+use Rattle.std.specs.Cmp.Lexicographic.{bytes_decides}
 use Rattle.std.specs.Str.{bytes_eq}
 use Rattle.std.proofs.lemmas.Bool.{le-ltb}
 use Rattle.std.proofs.lemmas.Cmp.{nat_list_eq_equiv}
@@ -10,9 +11,10 @@ use Rattle.std.proofs.lemmas.List.Sums.{sum_by-cons}
 use Rattle.indexmap.specs.IndexMap.{insert_entry, set_value_at}
 use Rattle.mg_defs.specs.Vocabulary.{has_piece, counted, total}
 use Rattle.mg_model.specs.declared.piece_key.PieceKey.{PieceKey}
+use Rattle.mg_model.specs.Blocks.{short_piece}
 use Rattle.mg_model.specs.Keys.{Longer, IsKeyOf, HasNoNumber, Extends, piece_in}
 use Rattle.mg_model.specs.Vocabularies.{IsKey, IsKept, IsVocabulary, entries_of, pieces_of, entry_counts}
-use Rattle.mg_model.proofs.Keys.{keys-apart, no-number, position-none, position-some, stays}
+use Rattle.mg_model.proofs.Keys.{keys-apart, no-number, piece-short, position-none, position-some, stays}
 
 pub total-counted : (piece : List ℕ) (es : List (List ℕ × ℕ)) → total (counted piece es) ≡ total es + 1
 total-counted piece [] = refl
@@ -139,6 +141,26 @@ module _ (longer : Longer) where
       let long : length (keys_of es) ≡ length (pieces_of (entries_of longer es)) = length-map es (λ (e : PieceKey × ℕ). e.0) ∙ sym (length-entries es)
       ∙ sym (length-map (entries_of longer es) (λ (e : List ℕ × ℕ). e.0)) in
       λ i. cond (ltb (first i) (long i)) (Some (first i)) None
+
+  -- a key that is among those of pieces is that of one
+  key-found : (key : PieceKey) (es : List (PieceKey × ℕ)) → position_or_len (same_key key) (keys_of es) < length (keys_of es) → AllByRecursion (IsKey longer) (keys_of es) → IsKey longer key
+  key-found key [] low all = absurd (omega arith)
+  key-found key (e ∷ es) low all = by (bytes_eq key.entry e.0.entry) refl low (λ h. key-found key es h all.1)
+    where
+      rest : ℕ
+      rest = position_or_len (same_key key) (keys_of es)
+
+      by : (b : Bool) → bytes_eq key.entry e.0.entry ≡ b → cond (not b) (1 + rest) 0 < suc (length (keys_of es)) → (rest < length (keys_of es) → IsKey longer key) → IsKey longer key
+      by true is h later = subst (λ k. IsKeyOf longer k (piece_in longer k)) (sym ((bytes_decides key.entry e.0.entry).0 is)) all.0
+      by false isnt h later = later (omega (arith, h))
+
+  -- where the entry of a short piece is the key at a place, the piece's place is that
+  pub place-entry : (entry : List ℕ) (key : PieceKey) (es : List (PieceKey × ℕ)) (place : ℕ) → key.entry ≡ entry → slice_index entry 0 ≤ 15 → AllByRecursion (IsKey longer) (keys_of es) →
+      position (same_key key) (keys_of es) ≡ Some place → position (bytes_eq (short_piece entry)) (pieces_of (entries_of longer es)) ≡ Some place
+  place-entry entry key es place same short all first =
+      let is : IsKey longer key = key-found key es (position-some (same_key key) (keys_of es) place first).1 all in
+      let piece : piece_in longer key.entry ≡ short_piece entry = ap (piece_in longer) same ∙ piece-short longer entry short in
+      sym (place-keys key (short_piece entry) es (subst (IsKeyOf longer key.entry) piece is) all) ∙ first
 
   past : (piece : List ℕ) (es : List (PieceKey × ℕ)) → HasNoNumber longer piece → AllByRecursion (IsKey longer) (keys_of es) →
       length (pieces_of (entries_of longer es)) ≤ position_or_len (bytes_eq piece) (pieces_of (entries_of longer es))

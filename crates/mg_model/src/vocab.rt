@@ -1,15 +1,17 @@
 //! A vocabulary: distinct pieces, each with its count.
-ghost use Rattle.std.specs.Prelude.{◌≡◌, ◌+◌, ◌-◌, ◌<◌, ◌≤◌, ◌^◌, ◌↔◌, [], length, position, slice_get, Some, false, true, IfOk, IsOk, OnOk, OnErr, IsErrOf};
+ghost use Rattle.std.specs.Prelude.{◌≡◌, ◌+◌, ◌-◌, ◌<◌, ◌≤◌, ◌^◌, ◌↔◌, [], length, position, slice_get, slice_index, Some, false, true, IfOk, IsOk, OnOk, OnErr, IsErrOf};
 ghost use Rattle.std.specs.List.Sorted.{IsStrictlySortedBy};
+ghost use Rattle.std.specs.Bool.{OnFalse, OnTrue};
 ghost use Rattle.std.specs.Ordering.{nat_cmp};
 ghost use Rattle.std.specs.Cmp.Lexicographic.{slice_cmp};
 ghost use Rattle.std.specs.Str.{bytes_eq};
 ghost use Rattle.indexmap.specs.IndexMap.{keys};
 ghost use Rattle.mg_defs.specs.Vocabulary.{has_piece, counted, total, sorted_of, counts_of};
+ghost use Rattle.mg_model.specs.Blocks.{short_piece};
 ghost use Rattle.mg_model.specs.Vocabularies.{IsVocabulary, pieces_of, entry_counts};
 
 use crate::VocabErr;
-use crate::block::SHORT;
+use crate::block::{SHORT, short_piece};
 use crate::piece_key::{PieceKey, key_of, new_key, order, piece_of};
 use crate::recent::Recent;
 use indexmap::{IndexMap, IndexSet};
@@ -120,12 +122,78 @@ impl Vocab {
         ensures known { has_piece self.old piece.now ≡ true → IsOk result }
         ensures err { OnErr result (self.new ≡ self.old) }
     {
+        match self.count_placed(piece) {
+            Ok(_) => Ok(()),
+            Err(refusal) => Err(refusal),
+        }
+    }
+
+    /// The same, and it answers where the piece stands. Nothing is promised of that place: it is for
+    /// `count_entry`, which looks whether the piece is there.
+    #[inline]
+    pub fn count_placed(&mut self, piece: &[u8]) -> Result<u32, VocabErr>
+        requires total { total self.old < 2 ^ 32 - 1 }
+        requires short { length piece.now ≤ 255 }
+        ensures counted { OnOk result (self.new ≡ counted piece.now self.old) }
+        ensures total { OnOk result (total self.new ≡ total self.old + 1) }
+        ensures full { IsErrOf result VocabErr.TooMany ↔
+            ((has_piece self.old piece.now ≡ false) × (length self.old ≡ 2 ^ 22)) }
+        ensures known { has_piece self.old piece.now ≡ true → IsOk result }
+        ensures err { OnErr result (self.new ≡ self.old) }
+    {
         match self.place_again(piece) {
             Some(place) => {
                 self.count_again(place as usize, piece);
-                Ok(())
+                Ok(place)
             }
             None => self.add(piece),
+        }
+    }
+
+    /// Adds one to the count of a piece of at most fifteen bytes where it stands at the place. The entry
+    /// is its length and the piece behind it, as a loaded model keeps it: so it is the piece's key.
+    /// False, and nothing changed, where another piece or none stands there.
+    #[inline(always)]
+    pub fn count_entry(&mut self, entry: &[u8; 16], place: u32) -> bool
+        requires total { total self.old < 2 ^ 32 - 1 }
+        requires short { slice_index entry.now 0 ≤ 15 }
+        ensures counted { OnTrue result (self.new ≡ counted (short_piece entry.now) self.old) }
+        ensures total { OnTrue result (total self.new ≡ total self.old + 1) }
+        ensures same { OnFalse result (self.new ≡ self.old) }
+    {
+        if !has_at(&self.counts, &PieceKey::of_entry(entry), place) {
+            return false;
+        }
+        self.count_again(place as usize, short_piece(entry));
+        true
+    }
+
+    /// The same of any piece, whose bytes are compared. `count_entry` is faster.
+    #[inline]
+    pub fn count_piece_at(&mut self, piece: &[u8], place: u32) -> bool
+        requires total { total self.old < 2 ^ 32 - 1 }
+        requires short { length piece.now ≤ 255 }
+        ensures counted { OnTrue result (self.new ≡ counted piece.now self.old) }
+        ensures total { OnTrue result (total self.new ≡ total self.old + 1) }
+        ensures same { OnFalse result (self.new ≡ self.old) }
+    {
+        if !self.has_piece_at(piece, place) {
+            return false;
+        }
+        self.count_again(place as usize, piece);
+        true
+    }
+
+    // Whether a piece stands at a place.
+    #[inline]
+    fn has_piece_at(&self, piece: &[u8], place: u32) -> bool
+        ensures { result ≡ true → position (bytes_eq piece.now) (pieces_of self.now) ≡ Some place }
+    {
+        // For the proof: no two entries have the same key.
+        let _ = self.counts.len();
+        match self.counts.get_index(place as usize) {
+            Some((key, _)) => piece_of(&self.longer, key) == piece,
+            None => false,
         }
     }
 
@@ -142,6 +210,7 @@ impl Vocab {
     }
 
     // Adds one to the count of a piece that is there, at its place.
+    #[inline]
     fn count_again(&mut self, place: usize, _piece: &[u8])
         requires place { position (bytes_eq _piece.now) (pieces_of self.old) ≡ Some place }
         requires total { total self.old < 2 ^ 32 - 1 }
@@ -154,8 +223,8 @@ impl Vocab {
         *count += 1;
     }
 
-    // Adds a piece that is not there, last.
-    fn add(&mut self, piece: &[u8]) -> Result<(), VocabErr>
+    // Adds a piece that is not there, last, and answers its place.
+    fn add(&mut self, piece: &[u8]) -> Result<u32, VocabErr>
         requires absent { has_piece self.old piece.now ≡ false }
         requires total { total self.old < 2 ^ 32 - 1 }
         requires short { length piece.now ≤ 255 }
@@ -163,12 +232,13 @@ impl Vocab {
         ensures full { IsErrOf result VocabErr.TooMany ↔ (length self.old ≡ 2 ^ 22) }
         ensures err { OnErr result (self.new ≡ self.old) }
     {
-        if self.counts.len() >= MOST_PIECES {
+        let place = self.counts.len();
+        if place >= MOST_PIECES {
             return Err(VocabErr::TooMany);
         }
         let key = new_key(*self.counts.allocator(), &mut self.longer, piece)?;
         self.counts.insert(key, 1)?;
-        Ok(())
+        Ok(place as u32)
     }
 
     /// Sorts the entries by the bytes of their pieces.

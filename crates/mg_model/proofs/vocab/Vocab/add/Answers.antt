@@ -4,14 +4,14 @@ use Rattle.mg_model.specs.Vocabularies.{IsKept, entries_of}
 use Rattle.mg_model.proofs.Counting.{counted-new, length-entries, more-longer, still-kept}
 use Rattle.mg_model.proofs.vocab.Vocab.add.Goals as goal
 
-pub returns-then-len-ge-MOST_PIECES-clause-full : goal.returns-then-len-ge-MOST_PIECES-clause-full
-returns-then-len-ge-MOST_PIECES-clause-full c =
+pub returns-then-place-ge-MOST_PIECES-clause-full : goal.returns-then-place-ge-MOST_PIECES-clause-full
+returns-then-place-ge-MOST_PIECES-clause-full c =
     let full : length c.args.self.now ≡ 2 ^ 22 = omega (
       arith,
       length-entries c.self.inside.longer.keys c.self.inside.counts.entries,
       ap length c.self.view_is,
-      c.len.ensures.len,
-      c.if-len-ge-MOST_PIECES.true,
+      c.len-place.ensures.len,
+      c.if-place-ge-MOST_PIECES.true,
       c.self.invariant.vocabulary.few,
     ) in
     (λ _. full, λ _. search rules)
@@ -48,7 +48,7 @@ invariant_of-self-2 c =
     let es = c.self.inside.counts.entries in
     let none : has_piece (entries_of c.self.inside.longer.keys es) c.args.piece.now ≡ false = ap (λ x. has_piece x c.args.piece.now) c.self.view_is ∙ c.requires.absent in
     (counted-new c.self.inside.longer.keys c.new_key.new.longer.keys c.args.piece.now es c.insert.new.self.entries c.in_ok-key.key c.new_key.ensures.extends c.in_ok-key.ensures.key
-    c.self.invariant none (omega (arith, ap total c.self.view_is, c.requires.total)) c.requires.short (omega (arith, c.len.ensures.len, c.if-len-ge-MOST_PIECES.false))
+    c.self.invariant none (omega (arith, ap total c.self.view_is, c.requires.total)) c.requires.short (omega (arith, c.len-place.ensures.len, c.if-place-ge-MOST_PIECES.false))
     c.in_ok-insert.ensures.entries).kept
 
 pub returns-clause-counted : goal.returns-clause-counted
@@ -56,5 +56,5 @@ returns-clause-counted c =
     let es = c.self.inside.counts.entries in
     let none : has_piece (entries_of c.self.inside.longer.keys es) c.args.piece.now ≡ false = ap (λ x. has_piece x c.args.piece.now) c.self.view_is ∙ c.requires.absent in
     (counted-new c.self.inside.longer.keys c.new_key.new.longer.keys c.args.piece.now es c.insert.new.self.entries c.in_ok-key.key c.new_key.ensures.extends c.in_ok-key.ensures.key
-    c.self.invariant none (omega (arith, ap total c.self.view_is, c.requires.total)) c.requires.short (omega (arith, c.len.ensures.len, c.if-len-ge-MOST_PIECES.false))
+    c.self.invariant none (omega (arith, ap total c.self.view_is, c.requires.total)) c.requires.short (omega (arith, c.len-place.ensures.len, c.if-place-ge-MOST_PIECES.false))
     c.in_ok-insert.ensures.entries).entries ∙ ap (counted c.args.piece.now) c.self.view_is

@@ -5,7 +5,7 @@ use Rattle.std.proofs.lemmas.Result.{on_ok_weaker}
 use Rattle.mg_defs.specs.Vocabulary.{counted, has_piece, total}
 use Rattle.mg_model.specs.Vocabularies.{pieces_of}
 use Rattle.mg_model.proofs.Counting.{has-no-place, has-place, total-counted}
-use Rattle.mg_model.proofs.vocab.Vocab.count.Goals as goal
+use Rattle.mg_model.proofs.vocab.Vocab.count_placed.Goals as goal
 
 -- ---- a piece that is there
 
