@@ -1,6 +1,6 @@
 -- Steps of counting pieces, one behind another, by what each of them promises.
 use Rattle.std.proofs.Common.{arith, ◌≡◌, ◌+◌, ◌-◌, ◌*◌, ◌++◌, ◌^◌, ◌≤◌, ◌<◌, ℕ, Bool, true, false, List, [], ◌∷◌, length, take, Option, None, Some, Result, Ok, Err, refl, sym, ◌∙◌, ap, subst, length-append}
-use Rattle.std.specs.Prelude.{IfOk, IfSome, OnErr, slice_get}
+use Rattle.std.specs.Prelude.{IfOk, IfSome, OnErr}
 use Rattle.std.specs.Bool.{OnTrue}
 use Rattle.std.proofs.Math.Seq.{take-length}
 use Rattle.mg_dev.specs.Causes.{Rose}
@@ -13,22 +13,19 @@ use Rattle.mg_dev.specs.declared.part_err.PartErr.TheVariants.{Bad, Device, Memo
 use Rattle.mg_bits.specs.Feed.{Calm, Read, of_store}
 use Rattle.mg_bits.specs.Pages.{Fits, Paging, feeding_of}
 use Rattle.mg_bits.proofs.CallerLemmas.{calm_more, calm_none}
-use Rattle.mg_defs.specs.declared.Stream.{Stream}
 use Rattle.mg_defs.specs.declared.Stream.TheVariants.{Words, Others}
 use Rattle.mg_defs.specs.Bits.{Bits, Shows}
 use Rattle.mg_defs.specs.Codes.{gamma}
 use Rattle.mg_defs.specs.CodedText.{TextCode, codeword_of, coded_doc, coded_pair, place_after}
-use Rattle.mg_defs.specs.Marks.{code_of}
 use Rattle.mg_defs.specs.Parse.{Pair, parse}
-use Rattle.mg_defs.specs.Sorted.{number_of}
 use Rattle.mg_defs.specs.Terms.{document}
 use Rattle.mg_defs.proofs.FrontLaws.{shows_left}
-use Rattle.mg_text.specs.Decoding.{IsIn, IsReadCaused, PairsIn, coded_pairs}
-use Rattle.mg_text.specs.PieceCounts.{CountMoment, CountSteps, Counts, CountsDoc, CountsDocument, CountsFirst, CountsIfFound, CountsPair, CountsPairs, CountsPiece, CountsPieces, PieceTally, with_pair, with_pairs, with_piece}
+use Rattle.mg_text.specs.Decoding.{IsReadCaused, coded_pairs}
+use Rattle.mg_text.specs.PieceCounts.{CountMoment, CountSteps, Counts, CountsDoc, CountsFirst, CountsIfFound, CountsPair, CountsPairs, CountsPiece, CountsPieces, PieceTally, with_pair, with_pairs, with_piece}
 use Rattle.mg_text.specs.Places.{ReadsPlace}
 use Rattle.mg_text.specs.Reading.{TextFits, TextReading, TextStands}
 use Rattle.mg_text.proofs.DocumentLaws.{not_text, with_feeds}
-use Rattle.mg_text.proofs.PairLaws.{NextPair, bits_more, next_pair, pair_shows, pair_small, shows_next}
+use Rattle.mg_text.proofs.PairLaws.{bits_more, next_pair, pair_shows, pair_small, shows_next}
 use Rattle.mg_text.proofs.ReaderLaws.{doc_at}
 use Rattle.mg_text.proofs.SameFiles.{same_file}
 

@@ -1,5 +1,5 @@
 -- The pieces of documents, counted in two vocabularies: what counts have, and what counting the pieces of a document promises.
-use Rattle.std.specs.Prelude.{◌≡◌, ℕ, ◌+◌, ◌^◌, ◌≤◌, ◌<◌, Bool, List, [], ◌∷◌, length, take, IfOk, IfSome, OnErr}
+use Rattle.std.specs.Prelude.{◌≡◌, ℕ, ◌+◌, ◌^◌, ◌≤◌, ◌<◌, Bool, List, [], ◌∷◌, Some, length, slice_get, take, IfOk, IfSome, OnErr}
 use Rattle.std.specs.Bool.{OnTrue}
 use Rattle.std.specs.declared.option.Option.{Option}
 use Rattle.std.specs.declared.result.Result.{Result}
@@ -13,7 +13,7 @@ use Rattle.mg_bits.specs.Reading.{Reading}
 use Rattle.mg_defs.specs.declared.Stream.{Stream}
 use Rattle.mg_defs.specs.declared.Stream.TheVariants.{Words, Others}
 use Rattle.mg_defs.specs.Bits.{Bits, Shows}
-use Rattle.mg_defs.specs.CodedText.{TextCode, codeword_of, coded_doc, coded_pair}
+use Rattle.mg_defs.specs.CodedText.{StreamCode, TextCode, codeword_of, coded_doc, coded_pair}
 use Rattle.mg_defs.specs.Marks.{code_of}
 use Rattle.mg_defs.specs.Parse.{Pair, parse}
 use Rattle.mg_defs.specs.Terms.{document}
@@ -32,6 +32,10 @@ pub record PieceTally : Type 0 where
 abbrev pub with_piece : Stream → List ℕ → PieceTally → PieceTally
 with_piece Words piece t = record { words = counted piece t.words; others = t.others }
 with_piece Others piece t = record { words = t.words; others = counted piece t.others }
+
+-- the piece of a symbol of a code is counted
+abbrev pub CountsSymbol : StreamCode → Stream → ℕ → PieceTally → PieceTally → Type 0
+CountsSymbol code kind symbol old new = (piece : List ℕ) → slice_get code.pieces symbol ≡ Some piece → new ≡ with_piece kind piece old
 
 -- the word and the other of a pair
 abbrev pub with_pair : Pair → PieceTally → PieceTally

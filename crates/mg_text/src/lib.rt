@@ -18,6 +18,7 @@ mod places;
 mod reader_laws;
 mod reader_parts;
 mod show_buffer;
+mod stream_counts;
 mod symbols;
 mod text_reader;
 mod word_list;

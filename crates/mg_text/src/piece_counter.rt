@@ -8,7 +8,7 @@ ghost use Rattle.mg_dev.specs.declared.part_err.PartErr.TheVariants.{Device};
 ghost use Rattle.mg_text.specs.PieceCounts.{CountsDoc, CountsIf, CountsPair, CountsPairs, CountsPiece, CountsSome};
 
 use crate::piece_counts::PieceCounts;
-use crate::symbols::{get_count, get_symbol};
+use crate::symbols::{get_count, get_symbol, held_symbols};
 use mg_bits::{BitReader, Feed};
 use mg_dev::{Failed, PartErr};
 use mg_model::{Stream, TextModel};
@@ -50,7 +50,9 @@ fn count_piece<F: Feed>(
     Ok(counts.count(stream, model.piece(stream, symbol)))
 }
 
-/// Counts the word and the other of a pair.
+/// Counts the word and the other of a pair. It stands apart so that `count_pairs` is short where
+/// `count_next` counts them.
+#[inline(never)]
 fn count_pair<F: Feed>(
     model: &TextModel,
     r: &mut BitReader<F>,
@@ -71,6 +73,31 @@ fn count_pair<F: Feed>(
     count_piece(model, Stream::Others, r, dev, counts)
 }
 
+/// Counts the word and the other of a pair, as symbols where the reader holds the bits of both
+/// codewords, which is so of most.
+#[inline(always)]
+fn count_next<F: Feed>(
+    model: &TextModel,
+    r: &mut BitReader<F>,
+    dev: &mut F::Dev,
+    counts: &mut PieceCounts,
+) -> Result<bool, Failed>
+    requires fits { F.fits r.old.feed (F.device dev.old).files }
+    ensures { CountsIf result (CountsPair model.now) F.feeding F.fits F.device
+        r.old r.new dev.old dev.new counts.old counts.new }
+{
+    let words = model.canon(Stream::Words);
+    let others = model.canon(Stream::Others);
+    let (first, second) = match held_symbols(words, others, r) {
+        Some(symbols) => symbols,
+        None => return count_pair(model, r, dev, counts),
+    };
+    if !counts.count_symbol(model, Stream::Words, first) {
+        return Ok(false);
+    }
+    Ok(counts.count_symbol(model, Stream::Others, second))
+}
+
 /// Counts so many pairs.
 fn count_pairs<F: Feed>(
     model: &TextModel,
@@ -84,7 +111,7 @@ fn count_pairs<F: Feed>(
         r.old r.new dev.old dev.new counts.old counts.new }
 {
     for _i in 0..count {
-        let done = match count_pair(model, r, dev, counts) {
+        let done = match count_next(model, r, dev, counts) {
             Ok(done) => done,
             Err(failed) => return Err(failed),
         };
@@ -106,7 +133,7 @@ pub fn count_doc<F: Feed>(
     ensures { CountsSome result (CountsDoc model.now) F.feeding F.fits F.device
         r.old r.new dev.old dev.new counts.old counts.new }
 {
-    counts.begin();
+    counts.begin(model);
     let count = match get_count(r, dev) {
         Ok(count) => count,
         Err(refusal) => {

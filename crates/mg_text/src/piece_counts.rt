@@ -1,15 +1,14 @@
 //! Counts of the pieces of documents.
-ghost use Rattle.std.specs.Prelude.{◌≡◌, ◌<◌, ◌≤◌, ◌+◌, ◌^◌, [], length};
+ghost use Rattle.std.specs.Prelude.{◌≡◌, ◌<◌, ◌≤◌, [], length, slice_index};
 ghost use Rattle.std.specs.Bool.{OnTrue};
-ghost use Rattle.mg_defs.specs.Vocabulary.{counted, total};
-ghost use Rattle.mg_text.specs.PieceCounts.{with_piece};
+ghost use Rattle.mg_defs.specs.Marks.{code_of};
+ghost use Rattle.mg_model.specs.Blocks.{short_piece};
+ghost use Rattle.mg_text.specs.PieceCounts.{CountsSymbol, with_piece};
 
-use mg_model::{Stream, Vocab};
+use crate::stream_counts::StreamCounts;
+use mg_model::{Stream, TextModel, Vocab};
 use std::alloc::Global;
 use std::marker::Model;
-
-/// The most pieces of a stream that are counted: fewer than 2^32.
-const MOST: u32 = u32::MAX;
 
 /// The bytes of a full piece: a byte of its kind may follow it.
 const FULL: usize = 255;
@@ -57,43 +56,19 @@ impl NextPiece {
 /// After a piece that was not counted they are of no use.
 #[derive(Drop)]
 pub struct PieceCounts {
-    words: Vocab,
-    others: Vocab,
-    // How many more of each stream may come.
-    words_left: u32,
-    others_left: u32,
+    words: StreamCounts,
+    others: StreamCounts,
     // How many bytes all pieces have. Nothing is promised of it.
     bytes: u64,
     next: NextPiece,
 }
 
 impl Model for PieceCounts {
-    ghost use Rattle.std.specs.Prelude.{◌<◌, ◌+◌, ◌^◌};
-    ghost use Rattle.mg_defs.specs.Vocabulary.{total};
     ghost use Rattle.mg_text.specs.PieceCounts.{PieceTally};
 
     ghost Value = { PieceTally };
 
     ghost view = { λ c. record { words = c.words; others = c.others } };
-
-    ghost invariant = { λ c. (total c.words + c.words_left < 2 ^ 32) × (total c.others + c.others_left < 2 ^ 32) };
-}
-
-// Counts a piece of at most 255 bytes, where so many more may come. False where there are too many, or no memory.
-fn count_in(vocab: &mut Vocab, left: &mut u32, piece: &[u8]) -> bool
-    requires short { length piece.now ≤ 255 }
-    requires few { total vocab.old + left.old < 2 ^ 32 }
-    ensures counted { OnTrue result (vocab.new ≡ counted piece.now vocab.old) }
-    ensures few { total vocab.new + left.new < 2 ^ 32 }
-{
-    if *left == 0 {
-        return false;
-    }
-    *left -= 1;
-    match vocab.count(piece) {
-        Ok(()) => true,
-        Err(_) => false,
-    }
 }
 
 impl PieceCounts {
@@ -103,20 +78,32 @@ impl PieceCounts {
         ensures others { result.others ≡ [] }
     {
         PieceCounts {
-            words: Vocab::new(alloc),
-            others: Vocab::new(alloc),
-            words_left: MOST,
-            others_left: MOST,
+            words: StreamCounts::new(alloc),
+            others: StreamCounts::new(alloc),
             bytes: 0,
             next: NextPiece::new(),
         }
     }
 
-    // Begins a document.
-    pub(crate) fn begin(&mut self)
+    // Begins a document, whose symbols are those of a model.
+    pub(crate) fn begin(&mut self, model: &TextModel)
         ensures { self.new ≡ self.old }
     {
         self.next = NextPiece::new();
+        self.words.make_room(model.canon(Stream::Words).count());
+        self.others.make_room(model.canon(Stream::Others).count());
+    }
+
+    // Takes the length of the next piece. False where no document has such a piece behind those before.
+    #[inline(always)]
+    fn take_length(&mut self, length: usize) -> bool
+        ensures { self.new ≡ self.old }
+    {
+        if !self.next.may_have(length) {
+            return false;
+        }
+        self.bytes = self.bytes.saturating_add(length as u64);
+        true
     }
 
     // Counts a piece of at most 255 bytes. False too where no document has it behind those before.
@@ -124,13 +111,55 @@ impl PieceCounts {
         requires short { length piece.now ≤ 255 }
         ensures { OnTrue result (self.new ≡ with_piece stream piece.now self.old) }
     {
-        if !self.next.may_have(piece.len()) {
+        if !self.take_length(piece.len()) {
             return false;
         }
-        self.bytes = self.bytes.saturating_add(piece.len() as u64);
         match stream {
-            Stream::Words => count_in(&mut self.words, &mut self.words_left, piece),
-            Stream::Others => count_in(&mut self.others, &mut self.others_left, piece),
+            Stream::Words => self.words.count(piece),
+            Stream::Others => self.others.count(piece),
+        }
+    }
+
+    // The same, of the piece of a symbol.
+    #[inline(never)]
+    fn count_piece(&mut self, stream: Stream, symbol: u32, piece: &[u8]) -> bool
+        requires short { length piece.now ≤ 255 }
+        ensures { OnTrue result (self.new ≡ with_piece stream piece.now self.old) }
+    {
+        if !self.take_length(piece.len()) {
+            return false;
+        }
+        match stream {
+            Stream::Words => self.words.count_piece(symbol, piece),
+            Stream::Others => self.others.count_piece(symbol, piece),
+        }
+    }
+
+    // The same, of a piece of at most fifteen bytes that its entry holds.
+    #[inline(always)]
+    fn count_entry(&mut self, stream: Stream, symbol: u32, entry: &[u8; 16]) -> bool
+        requires short { slice_index entry.now 0 ≤ 15 }
+        ensures { OnTrue result (self.new ≡ with_piece stream (short_piece entry.now) self.old) }
+    {
+        if !self.take_length(usize::from(entry[0])) {
+            return false;
+        }
+        match stream {
+            Stream::Words => self.words.count_entry(symbol, entry),
+            Stream::Others => self.others.count_entry(symbol, entry),
+        }
+    }
+
+    // The same, of the piece of a symbol of a model. It is looked for first where it stood last.
+    #[inline(always)]
+    pub(crate) fn count_symbol(&mut self, model: &TextModel, stream: Stream, symbol: u32) -> bool
+        requires { symbol < length (code_of stream model.now).pieces }
+        ensures { OnTrue result (CountsSymbol (code_of stream model.now) stream symbol
+            self.old self.new) }
+    {
+        match model.short_piece(stream, symbol) {
+            Some(entry) => self.count_entry(stream, symbol, entry),
+            None => self.count_piece(stream, symbol, model.piece(stream, symbol)),
         }
     }
 
@@ -146,6 +175,6 @@ impl PieceCounts {
         ensures others { result.1 ≡ self.others }
     {
         let PieceCounts { words, others, .. } = self;
-        (words, others)
+        (words.into_vocab(), others.into_vocab())
     }
 }

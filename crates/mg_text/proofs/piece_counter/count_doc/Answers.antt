@@ -1,4 +1,4 @@
-use Rattle.std.proofs.Common.{refl, ℕ}
+use Rattle.std.proofs.Common.{ℕ}
 use Rattle.mg_text.proofs.CountLaws.{doc_counted, doc_failed, doc_stopped, number_failed}
 use Rattle.mg_text.proofs.piece_counter.count_doc.Goals as goal
 
