@@ -4,7 +4,7 @@ mod UseLaws
 mod CodeLaws
 mod WordLaws
 mod TermNumbers
-mod Counts
+mod TallyLaws
 mod WeightSums
 mod CountedTerms
 pub mod CallerLemmas

@@ -1,5 +1,5 @@
 -- The terms of a document that was read last, and how often each comes.
-use Rattle.std.specs.Prelude.{◌≡◌, ℕ, ◌+◌, ◌*◌, ◌<◌, ◌≤◌, ◌^◌, ◌==◌, nat_eq, nat_lt, if◌then◌else◌, List, [], ◌∷◌, All, length, map, filter, sum_by, count_by}
+use Rattle.std.specs.Prelude.{◌≡◌, ℕ, ◌+◌, ◌*◌, ◌<◌, ◌≤◌, ◌^◌, ◌==◌, ◌⊎◌, nat_eq, nat_lt, if◌then◌else◌, List, [], ◌∷◌, ◌++◌, All, length, get_or, map, filter, sum_by, count_by}
 use Rattle.std.specs.Cmp.Lexicographic.{slice_cmp}
 use Rattle.std.specs.List.{enumerate_from}
 use Rattle.std.specs.List.Sorted.{IsStrictlySortedBy}
@@ -19,11 +19,34 @@ counted_among dictionary numbers =
     filter (λ (e : ℕ × ℕ). nat_lt 0 e.1) (map (λ (e : ℕ × List ℕ). (e.0, count_by (nat_eq e.0) numbers))
     (enumerate_from 0 dictionary))
 
--- counts of rising numbers after one number more, which is not below them
-abbrev pub one_more : ℕ → List (ℕ × ℕ) → List (ℕ × ℕ)
-one_more number [] = (number, 1) ∷ []
-one_more number (e ∷ []) = if e.0 == number then (number, e.1 + 1) ∷ [] else e ∷ (number, 1) ∷ []
-one_more number (e ∷ f ∷ counted) = e ∷ one_more number (f ∷ counted)
+-- how many of these counts are those of a number
+abbrev pub entries_of : ℕ → List (ℕ × ℕ) → ℕ
+entries_of number counted = sum_by (λ (e : ℕ × ℕ). if number == e.0 then 1 else 0) counted
+
+-- how often a number was counted by all of them
+abbrev pub count_of : ℕ → List (ℕ × ℕ) → ℕ
+count_of number counted = sum_by (λ (e : ℕ × ℕ). if number == e.0 then e.1 else 0) counted
+
+-- the count of a number stands at a place
+abbrev pub IsCountOf : ℕ → List (ℕ × ℕ) → ℕ → Type 0
+IsCountOf number counted place = (place < length counted) × ((get_or counted place (0, 0)).0 ≡ number)
+
+-- counts of numbers in the order in which they first came, and where each of them stands
+pub record AreTallied (numbers places : List ℕ) (counted : List (ℕ × ℕ)) : Type 0 where
+  -- a number that has a count has it at its place
+  pub found : (n : ℕ) → (entries_of n counted ≡ 0) ⊎ IsCountOf n counted (get_or places n 0)
+  -- it has one at most
+  pub once : (n : ℕ) → entries_of n counted ≤ 1
+  -- and comes at least once
+  pub some : (n : ℕ) → entries_of n counted ≤ count_of n counted
+  -- so often as it is counted
+  pub often : (n : ℕ) → count_of n counted ≡ count_by (nat_eq n) numbers
+
+-- one number more is counted, whatever was counted before
+pub record CountsOne (number : ℕ) (places_before places_now : List ℕ) (before now : List (ℕ × ℕ)) : Type 0 where
+  pub tallied : (numbers : List ℕ) → AreTallied numbers places_before before → AreTallied (numbers ++ number ∷ []) places_now now
+  pub places : length places_now ≡ length places_before
+  pub more : length now ≤ length before + 1
 
 -- a term of so many, and a count
 pub record IsCounted (terms : ℕ) (e : ℕ × ℕ) : Type 0 where
