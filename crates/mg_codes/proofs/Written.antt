@@ -32,6 +32,15 @@ pub gamma_written : (n x : ℕ) → 2 ^ n ≤ x → x < 2 * 2 ^ n → x < 2 ^ 64
 gamma_written n x low high small =
     ap (λ l. l ++ digits n x) (unary_digits n ∙ sym (unary_after n)) ∙ sym (gamma_is n x (record { low = low; high = omega (arith, two-pow-succ n, high) }) small)
 
+-- both parts of a code in one number
+pub gamma_at_once : (n x : ℕ) → 2 ^ n ≤ x → x < 2 * 2 ^ n → x < 2 ^ 64 → digits (n + 1 + n) ((2 ^ n - 1) * 2 * 2 ^ n + (x - 2 ^ n)) ≡ gamma x
+gamma_at_once n x low high small =
+    let below : x - 2 ^ n < 2 ^ n = omega (arith, low, high) in
+    let is : x ≡ 1 * 2 ^ n + (x - 2 ^ n) = omega (arith, low) in
+    let rest : digits n (x - 2 ^ n) ≡ digits n x =
+    ap (digits n) (sym (ap (λ y. y % 2 ^ n) is ∙ mod_low 1 n (x - 2 ^ n) below)) ∙ digits_mod n n x (omega arith) in
+    digits_append (n + 1) n ((2 ^ n - 1) * 2) (x - 2 ^ n) below ∙ ap (λ l. digits (n + 1) ((2 ^ n - 1) * 2) ++ l) rest ∙ gamma_written n x low high small
+
 ones_both : (a b : ℕ) → ones a ++ ones b ≡ ones (a + b)
 unfolding ones
 ones_both zero b = ap ones (let e : b ≡ 0 + b = omega arith in e)

@@ -1,5 +1,6 @@
 //! The gamma code.
 ghost use Rattle.std.specs.Prelude.{◌≡◌, ◌+◌, ◌*◌, ◌≤◌, ◌<◌, ◌^◌};
+ghost use Rattle.mg_defs.specs.Bits.{digits};
 ghost use Rattle.mg_defs.specs.Codes.{gamma};
 ghost use Rattle.mg_defs.specs.Answers.{UpTo};
 ghost use Rattle.mg_bits.specs.BitWriting.{Holds};
@@ -42,8 +43,35 @@ fn with_highest(power: u64, low: u64) -> u64
     power + low
 }
 
+/// The code of a number whose logarithm has this whole part, as one number: nearly all are so short.
+fn code_of(x: u64, size: u32) -> u64
+    requires low { 2 ^ size ≤ x }
+    requires high { x < 2 * 2 ^ size }
+    requires short { size < 32 }
+    ensures { digits (2 * size + 1) result ≡ gamma x }
+{
+    let power = power_of(u64::from(size));
+    ones_and_zero(size) * power + (x - power)
+}
+
 /// Writes a number, of at least 1, in the gamma code.
 pub fn put_gamma<S: Store>(w: &mut BitWriter<'_>, store: &mut S, x: u64) -> Result<(), PutErr>
+    requires holds { Holds w.old (S.files store.old) }
+    requires place { w.old.place ≤ 2 ^ 63 + 2 ^ 49 }
+    requires some { 1 ≤ x }
+    ensures { PutsBits (gamma x) S.files S.reads S.faults w.old w.new store.old store.new result }
+{
+    let size = x.ilog2();
+    if size >= 32 {
+        return put_by_parts(w, store, x);
+    }
+    w.put(store, code_of(x, size), 2 * size + 1)?;
+    Ok(())
+}
+
+/// The same, one part of the code after the other.
+#[inline(never)]
+fn put_by_parts<S: Store>(w: &mut BitWriter<'_>, store: &mut S, x: u64) -> Result<(), PutErr>
     requires holds { Holds w.old (S.files store.old) }
     requires place { w.old.place ≤ 2 ^ 63 + 2 ^ 49 }
     requires some { 1 ≤ x }
