@@ -25,8 +25,8 @@ pub told_no_bit : (told : Option (List ℕ)) (place : ℕ) →
 told_no_bit None place is = tt
 told_no_bit (Some bytes) place is = (no_bits_from bytes place (sym is), refl)
 
-pub small_power : (k : ℕ) → k ≤ 8 → 1 * 2 ^ k % 18446744073709551616 ≡ 2 ^ k
-small_power k le = rw one-mul (mod-eq_of_lt (let lt : k < 9 = omega arith in let below : 2 ^ k < 2 ^ 9 = pow-lt lt in omega arith))
+pub small_power : (k : ℕ) → k ≤ 32 → 1 * 2 ^ k % 18446744073709551616 ≡ 2 ^ k
+small_power k le = rw one-mul (mod-eq_of_lt (let lt : k < 33 = omega arith in let below : 2 ^ k < 2 ^ 33 = pow-lt lt in omega arith))
 
 pub within_word : (d t v m : ℕ) → d + t ≤ 64 → v < 2 ^ d → m < 2 ^ t → Fits w64 (v * 2 ^ t + m)
 within_word d t v m le high low =

@@ -49,7 +49,7 @@ bits_of_high (suc k) n =
     ap (λ l. digits 8 (byte_at k n) ++ l) (bits_of_high k n) ∙ ap (λ d. d ++ digits (8 * k) n) (bits_of_byte k n) ∙ sym (digits_split 8 (8 * k) n) ∙ ap (λ m. digits m n) e
 
 -- the first bytes have the first bits
-begins_bytes : (k : ℕ) (bytes : List ℕ) → Begins (bits_of (take k bytes)) (bits_of bytes)
+pub begins_bytes : (k : ℕ) (bytes : List ℕ) → Begins (bits_of (take k bytes)) (bits_of bytes)
 begins_bytes k bytes =
     subst (Begins (bits_of (take k bytes))) (sym (ap bits_of (sym (take-append-drop k bytes)) ∙ bits_of_append (take k bytes) (drop k bytes)))
     (begins_append (bits_of (take k bytes)) (bits_of (drop k bytes)))

@@ -12,6 +12,7 @@ mod Walks
 mod CodeReads
 mod EightBytes
 mod ByteLaws
+mod Held
 mod HeldPages
 mod Growing
 mod PutLaws

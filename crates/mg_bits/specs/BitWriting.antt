@@ -34,6 +34,14 @@ pub record WroteBits (old new : BitWriting) (files_before files_now : Option Fil
   pub place : new.place ≡ old.place + length bits
   pub told : IsSome files_before → bits_put new files_now ≡ bits_put old files_before ++ bits
 
+-- these bits are held behind the others, and nothing was sent
+pub record HoldsMore (old new : BitWriting) (bits : Bits) : Type 0 where
+  pub name : new.name ≡ old.name
+  pub place : new.place ≡ old.place + length bits
+  pub buffered : new.buffered ≡ old.buffered ++ bits
+  -- fewer bits than a page has are held
+  pub held : length new.buffered < 32768
+
 -- bits with the first of these behind them
 pub record GrewBy (old new bits : Bits) : Type 0 where
   pub count : ℕ

@@ -1,12 +1,13 @@
 //! Bits into a file.
-ghost use Rattle.std.specs.Prelude.{◌≡◌, ◌+◌, ◌*◌, ◌/◌, ◌%◌, ◌≤◌, ◌<◌, ◌^◌, [], IfOk, OnOk, IsSome, length};
+ghost use Rattle.std.specs.Prelude.{◌≡◌, ◌+◌, ◌-◌, ◌*◌, ◌/◌, ◌%◌, ◌≤◌, ◌<◌, ◌^◌, [], IfOk, OnOk, IsSome, length};
+ghost use Rattle.std.specs.Bool.{OnFalse, OnTrue};
 ghost use Rattle.mg_dev.specs.Names.{full_name};
 ghost use Rattle.mg_dev.specs.Files.{AfterReset};
 ghost use Rattle.mg_dev.specs.Causes.{HasPutCause};
 ghost use Rattle.mg_dev.specs.Moments.{Between};
 ghost use Rattle.mg_defs.specs.Bits.{digits, to_byte};
 ghost use Rattle.mg_bits.specs.Writer.{WroteTo};
-ghost use Rattle.mg_bits.specs.BitWriting.{EndsFile, FillsByte, Holds, PutsBits, WritesBits, bits_put};
+ghost use Rattle.mg_bits.specs.BitWriting.{EndsFile, FillsByte, Holds, HoldsMore, PutsBits, WritesBits, bits_put};
 
 use crate::PageWriter;
 use mg_dev::{FileRef, PutErr, Store};
@@ -74,6 +75,53 @@ impl<'a> BitWriter<'a> {
 
     /// Writes the lowest bits of a number, at most 64, the highest of them first.
     pub fn put<S: Store>(&mut self, store: &mut S, value: u64, count: u32) -> Result<(), PutErr>
+        requires holds { Holds self.old (S.files store.old) }
+        requires place { self.old.place ≤ 2 ^ 63 + 2 ^ 62 }
+        requires count { count ≤ 64 }
+        ensures { Between S.files S.reads S.faults store.old store.new
+            (WritesBits self.old self.new (digits count value) result) }
+    {
+        if self.keep(value, count) {
+            return Ok(());
+        }
+        self.put_by_bytes(store, value, count)
+    }
+
+    /// Holds at most 32 bits, where the page has room for eight bytes. False where it has none or there
+    /// are more bits, and then nothing changed.
+    #[inline(always)]
+    fn keep(&mut self, value: u64, count: u32) -> bool
+        requires place { self.old.place ≤ 2 ^ 63 + 2 ^ 62 }
+        ensures kept { OnTrue result (HoldsMore self.old self.new (digits count value)) }
+        ensures same { OnFalse result (self.new ≡ self.old) }
+    {
+        let _ = &self.bytes; // opens the invariant
+        if count > 32 {
+            return false;
+        }
+        let total = self.count + count;
+        let word = join(self.rest, self.count, low(value, count), count);
+        let over = total % 8;
+        if !self
+            .bytes
+            .keep_first(shifted(word, total), (total / 8) as usize)
+        {
+            return false;
+        }
+        self.rest = low(word, over);
+        self.count = over;
+        self.place += u64::from(count);
+        true
+    }
+
+    /// The same as `put`, byte after byte.
+    #[inline(never)]
+    fn put_by_bytes<S: Store>(
+        &mut self,
+        store: &mut S,
+        value: u64,
+        count: u32,
+    ) -> Result<(), PutErr>
         requires holds { Holds self.old (S.files store.old) }
         requires place { self.old.place ≤ 2 ^ 63 + 2 ^ 62 }
         requires count { count ≤ 64 }
@@ -172,7 +220,7 @@ fn join(rest: u64, count: u32, bits: u64, size: u32) -> u64
     requires high { rest < 2 ^ count }
     requires low { bits < 2 ^ size }
     requires count { count < 8 }
-    requires size { size ≤ 8 }
+    requires size { size ≤ 32 }
     ensures value { result ≡ rest * 2 ^ size + bits }
     ensures below { result < 2 ^ (count + size) }
 {
@@ -189,10 +237,20 @@ fn high(word: u64, over: u32) -> u8
     (word >> over) as u8
 }
 
+/// So many bits, with zeros behind them up to 64.
+#[inline]
+fn shifted(word: u64, total: u32) -> u64
+    requires total { total ≤ 40 }
+    requires word { word < 2 ^ total }
+    ensures { result ≡ word * 2 ^ (64 - total) }
+{
+    (word << (40 - total)) << 24
+}
+
 /// The lowest bits.
 #[inline]
 fn low(word: u64, over: u32) -> u64
-    requires { over ≤ 8 }
+    requires { over ≤ 32 }
     ensures { result ≡ word % 2 ^ over }
 {
     word % (1u64 << over)

@@ -1,5 +1,7 @@
 //! Bytes into a file, through one page.
 ghost use Rattle.std.specs.Prelude.{◌≡◌, ◌<◌, ◌+◌, ◌++◌, ◌∷◌, [], IfOk, length, take, IsSome};
+ghost use Rattle.std.specs.Bool.{OnFalse, OnTrue};
+ghost use Rattle.std.specs.Int.{bytes_high_first};
 ghost use Rattle.mg_dev.specs.Names.{full_name};
 ghost use Rattle.mg_dev.specs.Causes.{HasPutCause};
 ghost use Rattle.mg_dev.specs.Files.{AfterReset};
@@ -86,6 +88,26 @@ impl<'a> PageWriter<'a> {
             }
             Err(refusal) => Err(refusal),
         }
+    }
+
+    /// Holds the first bytes of a number, fewer than eight, the highest of them first, where all eight
+    /// have room on the page. False where they have none, and then nothing changed.
+    #[inline(always)]
+    pub(crate) fn keep_first(&mut self, number: u64, count: usize) -> bool
+        requires few { count < 8 }
+        ensures kept { OnTrue result (self.new.buffered ≡ self.old.buffered
+            ++ take count (bytes_high_first 8 number)) }
+        ensures name { self.new.name ≡ self.old.name }
+        ensures page { length self.new.buffered < 4096 }
+        ensures same { OnFalse result (self.new ≡ self.old) }
+    {
+        let used = self.used;
+        if used + 8 >= PAGE {
+            return false;
+        }
+        self.page[used..used + 8].copy_from_slice(&number.to_be_bytes());
+        self.used = used + count;
+        true
     }
 
     /// Writes the bytes of a piece.

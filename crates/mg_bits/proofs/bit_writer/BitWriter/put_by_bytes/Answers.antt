@@ -4,7 +4,7 @@ use Rattle.mg_defs.proofs.BitLaws.{length_digits}
 use Rattle.mg_bits.proofs.BitsWritten.{digits_next}
 use Rattle.mg_bits.proofs.Growing.{held_few}
 use Rattle.mg_bits.proofs.PutLaws.{puts_all, puts_front, puts_more, puts_none, writes}
-use Rattle.mg_bits.proofs.bit_writer.BitWriter.put.Goals as goal
+use Rattle.mg_bits.proofs.bit_writer.BitWriter.put_by_bytes.Goals as goal
 
 no_digits : (count value : ℕ) → digits (count - count) value ≡ []
 unfolding digits

@@ -2,7 +2,7 @@ use Rattle.std.proofs.Common.{◌-◌, ◌/◌, ◌≤◌, ◌^◌, Ok}
 use Rattle.mg_dev.specs.Moments.{Between}
 use Rattle.mg_defs.specs.Bits.{digits}
 use Rattle.mg_bits.specs.BitWriting.{PutsBits}
-use Rattle.mg_bits.proofs.bit_writer.BitWriter.put.Given as goal
+use Rattle.mg_bits.proofs.bit_writer.BitWriter.put_by_bytes.Given as goal
 
 abbrev pub invariant-loop-left : goal.invariant-loop-left
 invariant-loop-left g l = record {
