@@ -14,7 +14,7 @@ use Rattle.mg_defs.specs.Answers.{Below, CutShort, IsNone, IsPrefixFree}
 use Rattle.mg_defs.proofs.BitLaws.{length_digits}
 use Rattle.mg_defs.proofs.CanonSteps.{first-step, first-zero, first-last, nth}
 use Rattle.mg_defs.proofs.CanonLaws.{digits-low, good_within, good_full, codeword-many, codewords_free, goes_on_to}
-use Rattle.mg_canon.specs.Tables.{count_below, place_of, AreNumbered, AreTables, AreBeginnings, IsBeginning, IsStart, found_in}
+use Rattle.mg_canon.specs.Tables.{count_below, place_of, AreTables, AreBeginnings, IsBeginning, IsStart, IsSymbolAt, found_in}
 use Rattle.mg_canon.proofs.Refused.{good_from}
 use Rattle.mg_canon.proofs.Placing.{room_for}
 
@@ -213,9 +213,9 @@ module _ (lengths : List ℕ) (good : AreGood lengths) (some : 0 < length length
         (e, one, omega arith))
         (cases_lt 1 (length lengths))
 
-    pub found : (values symbols : List ℕ) → AreNumbered lengths values symbols (length lengths) → count_below read lengths + (value - first_codeword read lengths) < length lengths →
-        (s : ℕ) × (s < length lengths) × (get_or symbols (count_below read lengths + (value - first_codeword read lengths)) 0 ≡ s) × (codeword lengths s ≡ digits read value)
-    found values symbols t h =
+    pub found : count_below read lengths + (value - first_codeword read lengths) < length lengths →
+        (s : ℕ) × (s < length lengths) × (place_of lengths s ≡ count_below read lengths + (value - first_codeword read lengths)) × (codeword lengths s ≡ digits read value)
+    found h =
         let below = in_range h in
         let n = nth lengths read (value - first_codeword read lengths) (omega arith) in
         let is_length : get_or lengths n.0 0 ≡ read = n.2 in
@@ -225,7 +225,7 @@ module _ (lengths : List ℕ) (good : AreGood lengths) (some : 0 < length length
         let number : codeword_value lengths n.0 ≡ value = ap (λ l. first_codeword l lengths + count_of l (take n.0 lengths)) is_length ∙ (let r = rank in omega arith) in (
           n.0,
           n.1,
-          ap (λ p. get_or symbols p 0) (sym place) ∙ t.symbol_at n.0 n.1,
+          place,
           codeword-digits lengths n.0 good n.1 ∙ ap (λ l. digits l (codeword_value lengths n.0)) is_length ∙ ap (λ v. digits read v) number,
         )
 
@@ -286,17 +286,17 @@ module _ {lengths values firsts offsets symbols : List ℕ} {read value : ℕ} (
     index_is = omega (arith, t.first_numbers.at read w.short, t.first_places.at read w.short)
 
     -- the codeword is that of the symbol at its place among the sorted ones
-    pub ends_with : (x : ℕ) → get_or offsets read 0 + (value - get_or firsts read 0) < length symbols →
-        x ≡ get_or symbols (get_or offsets read 0 + (value - get_or firsts read 0)) x → IsCodeword lengths x read value
-    ends_with x within is =
-        let f = found lengths good some read value w some_read stopped values symbols t.numbered (omega (arith, index_is, t.symbol_count)) in
-        let symbol : f.0 ≡ x = sym (is ∙ get_or_default symbols _ x 0 within ∙ ap (λ p. get_or symbols p 0) index_is ∙ f.2) in
+    pub ends_with : (x place : ℕ) → place ≡ get_or offsets read 0 + (value - get_or firsts read 0) → place < length lengths →
+        IsSymbolAt lengths place x → IsCodeword lengths x read value
+    ends_with x place at within is =
+        let f = found lengths good some read value w some_read stopped (omega (arith, index_is, at)) in
+        let symbol : f.0 ≡ x = sym (is f.0 f.1 (f.2 ∙ sym index_is ∙ sym at)) in
         subst (λ s. IsCodeword lengths s read value) symbol (record { taken = f.1; code = f.3 })
 
     -- or that place is behind them
-    pub ends_nowhere : length symbols ≤ get_or offsets read 0 + (value - get_or firsts read 0) → NoCodeword lengths read value
+    pub ends_nowhere : length lengths ≤ get_or offsets read 0 + (value - get_or firsts read 0) → NoCodeword lengths read value
     ends_nowhere past =
-        let out : length lengths ≤ count_below read lengths + (value - first_codeword read lengths) = omega (arith, index_is, t.symbol_count) in
+        let out : length lengths ≤ count_below read lengths + (value - first_codeword read lengths) = omega (arith, index_is) in
         record {
           alone = (out_of_range lengths good some read value w some_read stopped out).0;
           none = none_found lengths good some read value w some_read stopped out;

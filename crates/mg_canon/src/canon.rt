@@ -1,5 +1,5 @@
 //! A canonical code: the codewords of given lengths, both ways.
-ghost use Rattle.std.specs.Prelude.{◌≡◌, ℕ, ◌+◌, ◌-◌, ◌*◌, ◌/◌, ◌^◌, ◌<◌, ◌≤◌, ◌↔◌, ◌⊎◌, Option, Some, length, slice_index, Ok, Err, IfOk, IfSome, IsSome, OnOk, MatchOption};
+ghost use Rattle.std.specs.Prelude.{◌≡◌, ℕ, ◌+◌, ◌-◌, ◌*◌, ◌/◌, ◌^◌, ◌<◌, ◌≤◌, ◌↔◌, ◌⊎◌, Option, Some, length, slice_index, Ok, Err, IfOk, IfSome, IfNone, IsSome, OnOk, MatchOption};
 ghost use Rattle.std.specs.Bool.{OnTrue, OnFalse};
 ghost use Rattle.mg_defs.specs.Answers.{Below};
 ghost use Rattle.mg_defs.specs.Canon.{AreGood, codeword};
@@ -11,7 +11,7 @@ ghost use Rattle.mg_bits.specs.Feed.{Device, HasBits, ToldBits};
 ghost use Rattle.mg_bits.specs.NextBits.{ReadNext};
 ghost use Rattle.mg_bits.specs.Writer.{WroteTo};
 ghost use Rattle.mg_canon.specs.Symbols.{FirstFound, ReadsSymbol};
-ghost use Rattle.mg_canon.specs.Tables.{IsBeginning, IsStart, found_in};
+ghost use Rattle.mg_canon.specs.Tables.{IsBeginning, IsStart, IsSymbolAt, found_in, place_of};
 ghost use Rattle.mg_canon.specs.Refusals.{IsFirstBad, IsUnfilled, HaveLengths};
 
 use crate::CanonErr;
@@ -32,6 +32,9 @@ use std::marker::Model;
 /// is 9 bytes a symbol. A codeword of at most twelve bits is found by one look at a table of what
 /// each twelve bits begin with, which takes 16 KiB. A code looks at ten bits, in 4 KiB, where it has
 /// fewer than 4,096 symbols, so that it is soon made, or where few codewords are longer.
+///
+/// A code for writing has neither the symbols sorted by length nor the table of first bits, so it
+/// takes 5 bytes a symbol. It reads the same symbols, but seeks each among all.
 #[derive(Drop)]
 pub struct Canon {
     lengths: Vec<u8>,
@@ -76,6 +79,16 @@ impl Canon {
             Ok(code) => Ok(code),
             Err(_) => Err(CanonErr::Memory),
         }
+    }
+
+    /// The code of good lengths, for writing: it takes less memory, and is slow to read by.
+    pub fn for_writing(alloc: Global, lengths: &[u8]) -> Result<Canon, AllocError>
+        requires few { length lengths.now ≤ 2 ^ 22 }
+        requires good { AreGood lengths.now }
+        ensures { IfOk result (λ code. code ≡ lengths.now) }
+    {
+        let code = tables_of(alloc, lengths)?;
+        Ok(code.without_symbols(alloc))
     }
 
     /// The number of symbols.
@@ -225,10 +238,58 @@ impl Canon {
         }
         let past = (next >> (57 - read)) - u64::from(firsts[read]);
         let index = (u64::from(self.offsets[read]) + past) as usize;
-        if index >= self.symbols.len() {
-            return 0;
+        match self.symbol_at(index) {
+            Some(symbol) => entry_of(symbol, read as u32),
+            None => 0,
         }
-        entry_of(self.symbols[index], read as u32)
+    }
+
+    /// The symbol at a place among those sorted by length. There is none behind the last.
+    #[inline(always)]
+    fn symbol_at(&self, place: usize) -> Option<u32>
+        ensures is { IfSome result (IsSymbolAt self.now place) }
+        ensures within { IfSome result (λ _. place < length self.now) }
+        ensures none { IfNone result (length self.now ≤ place) }
+    {
+        if place < self.symbols.len() {
+            return Some(self.symbols[place]);
+        }
+        self.sought(place)
+    }
+
+    /// The same, sought among all symbols: a code for writing has no table of them.
+    #[inline(never)]
+    fn sought(&self, place: usize) -> Option<u32>
+        ensures is { IfSome result (IsSymbolAt self.now place) }
+        ensures within { IfSome result (λ _. place < length self.now) }
+        ensures none { IfNone result (length self.now ≤ place) }
+    {
+        if place >= self.lengths.len() {
+            return None;
+        }
+        Some(self.symbol_of(place))
+    }
+
+    // The symbol at a place: that of each symbol is looked at in turn.
+    fn symbol_of(&self, place: usize) -> u32
+        ensures { IsSymbolAt self.now place result }
+    {
+        for symbol in 0..self.count() {
+            if self.place_of(symbol) == place {
+                return symbol;
+            }
+        }
+        0
+    }
+
+    /// The place of a symbol among those sorted by length.
+    fn place_of(&self, symbol: u32) -> usize
+        requires { symbol < length self.now }
+        ensures { result ≡ place_of self.now symbol }
+    {
+        let symbol = symbol as usize;
+        let length = usize::from(self.lengths[symbol]);
+        (self.offsets[length] + (self.values[symbol] - self.firsts[length])) as usize
     }
 
     /// With how many bits the way by lengths may begin for 57 bits up to this number: with one more
@@ -286,6 +347,15 @@ impl Canon {
         Ok(code)
     }
 
+    /// The code with no table of symbols.
+    fn without_symbols(self, alloc: Global) -> Canon
+        ensures { result ≡ self }
+    {
+        let mut code = self;
+        code.symbols = Vec::new(alloc);
+        code
+    }
+
     /// Reads a symbol bit by bit. It stands apart so that `get` is short where the table tells the
     /// codeword.
     #[inline(never)]
@@ -317,14 +387,16 @@ impl Canon {
             }
         }
         let place = (self.offsets[read] + (value - firsts[read])) as usize;
-        if place >= self.symbols.len() {
-            reader.seek(start);
-            return Err(CodeErr::Over {
-                at: start,
-                limit: 1,
-            });
+        match self.symbol_at(place) {
+            Some(symbol) => Ok(symbol),
+            None => {
+                reader.seek(start);
+                Err(CodeErr::Over {
+                    at: start,
+                    limit: 1,
+                })
+            }
         }
-        Ok(self.symbols[place])
     }
 }
 
@@ -362,13 +434,24 @@ fn made(alloc: Global, lengths: &[u8]) -> Result<Canon, AllocError>
     requires good { AreGood lengths.now }
     ensures { IfOk result (λ code. code ≡ lengths.now) }
 {
+    let code = tables_of(alloc, lengths)?;
+    code.with_beginnings(alloc)
+}
+
+/// The same, with no table of first bits.
+fn tables_of(alloc: Global, lengths: &[u8]) -> Result<Canon, AllocError>
+    requires few { length lengths.now ≤ 2 ^ 22 }
+    requires all { HaveLengths (length lengths.now) lengths.now }
+    requires good { AreGood lengths.now }
+    ensures { IfOk result (λ code. code ≡ lengths.now) }
+{
     let counts = count_lengths(lengths);
     let firsts = first_codewords(&counts);
     let offsets = first_places(&counts);
     let numbered = number(alloc, lengths, &firsts, &offsets)?;
     let symbols = lengths.len();
     let lengths = lengths.to_vec(alloc)?;
-    let code = Canon {
+    Ok(Canon {
         lengths,
         values: numbered.values,
         firsts,
@@ -376,6 +459,5 @@ fn made(alloc: Global, lengths: &[u8]) -> Result<Canon, AllocError>
         symbols: numbered.symbols,
         width: width_of(symbols, &firsts),
         beginnings: Vec::new(alloc),
-    };
-    code.with_beginnings(alloc)
+    })
 }

@@ -22,6 +22,17 @@ fn code_of(alloc: Global, lengths: &[u8]) -> Option<Canon> {
     Canon::new(alloc, lengths).ok()
 }
 
+/// The same for writing.
+fn code_for_writing(alloc: Global, lengths: &[u8]) -> Option<Canon> {
+    if lengths.len() > 1 << 22 {
+        return None;
+    }
+    match Canon::new(alloc, lengths) {
+        Ok(_) => Canon::for_writing(alloc, lengths).ok(),
+        Err(_) => None,
+    }
+}
+
 /// Symbols from one on and before another, and their codewords as a file: how many bits and which bytes.
 struct Coded {
     from: u32,
@@ -132,6 +143,14 @@ fn is_coded(alloc: Global, lengths: &[u8], coded: &Coded) -> Result<bool, PutErr
     is_coded_by(alloc, &code, coded)
 }
 
+/// The same by the code of these lengths for writing, which reads too.
+fn is_coded_for_writing(alloc: Global, lengths: &[u8], coded: &Coded) -> Result<bool, PutErr> {
+    let Some(code) = code_for_writing(alloc, lengths) else {
+        return Ok(false);
+    };
+    is_coded_by(alloc, &code, coded)
+}
+
 static FIVE: [u8; 5] = [3, 2, 2, 3, 2];
 
 /// 000 01 10 001 11
@@ -156,6 +175,13 @@ static ALL_TWELVE: Coded = Coded {
 fn codewords_are_written_and_read(rt: HostRuntime) -> Result<(), Fail> {
     assert!(rt; is_coded(rt.alloc(), &FIVE, &ALL_FIVE)?);
     assert!(rt; is_coded(rt.alloc(), &TWELVE, &ALL_TWELVE)?);
+    Ok(())
+}
+
+#[test]
+fn a_code_for_writing_is_the_same(rt: HostRuntime) -> Result<(), Fail> {
+    assert!(rt; is_coded_for_writing(rt.alloc(), &FIVE, &ALL_FIVE)?);
+    assert!(rt; is_coded_for_writing(rt.alloc(), &TWELVE, &ALL_TWELVE)?);
     Ok(())
 }
 

@@ -10,7 +10,6 @@ ghost use Rattle.mg_dev.specs.Files.{bytes_at, file_bytes};
 ghost use Rattle.mg_dev.specs.Moments.{Between};
 ghost use Rattle.mg_dev.specs.Names.{full_name};
 ghost use Rattle.mg_bits.specs.Writer.{WroteTo};
-ghost use Rattle.mg_defs.specs.Canon.{AreGood};
 ghost use Rattle.mg_defs.specs.CodedText.{IsHuffman, pieces_part};
 ghost use Rattle.mg_defs.specs.Vocabulary.{sorted_of, counts_of};
 ghost use Rattle.mg_model.specs.Blocks.{short_piece};
@@ -51,19 +50,7 @@ impl Model for StreamModel {
     ghost invariant = { λ m. IsStreamCode (record { pieces = pieces_in m.pieces; lengths = m.canon }) };
 }
 
-/// The code of good lengths.
-fn canon_of(alloc: Global, lengths: &[u8]) -> Result<Canon, AllocError>
-    requires few { length lengths.now ≤ 2 ^ 22 }
-    requires good { AreGood lengths.now }
-    ensures { IfOk result (λ canon. canon ≡ lengths.now) }
-{
-    match Canon::new(alloc, lengths) {
-        Ok(canon) => Ok(canon),
-        Err(_) => Err(AllocError),
-    }
-}
-
-// Sorts the counted pieces, and answers the code of their counts.
+// Sorts the counted pieces, and answers the code of their counts, for writing.
 fn sorted_code(alloc: Global, vocab: &mut Vocab) -> Result<Canon, AllocError>
     ensures pieces { OnOk result (pieces_of vocab.new ≡ sorted_of vocab.old) }
     ensures lengths { IfOk result (λ code. IsHuffman (counts_of vocab.old) code) }
@@ -74,7 +61,7 @@ fn sorted_code(alloc: Global, vocab: &mut Vocab) -> Result<Canon, AllocError>
     let counts = vocab.counts()?;
     let mut lengths = Vec::new(alloc);
     mg_huff::lengths(alloc, &counts, &mut lengths)?;
-    let canon = canon_of(alloc, &lengths)?;
+    let canon = Canon::for_writing(alloc, &lengths)?;
     Ok(canon)
 }
 

@@ -27,9 +27,9 @@ use std::marker::Model;
 /// The distinct pieces of each stream in the order of their bytes, and the codes of their numbers:
 /// a piece's symbol is its number, from 0.
 ///
-/// A model that was made of vocabularies keeps their maps, sorted. One that was loaded keeps 25 bytes
-/// a piece, sixteen of them an entry with the piece's own where these are at most fifteen, and beside
-/// them the bytes of the longer pieces.
+/// A model that was made of vocabularies keeps their maps, sorted, and codes for writing. One that was
+/// loaded keeps 25 bytes a piece, sixteen of them an entry with the piece's own where these are at most
+/// fifteen, and beside them the bytes of the longer pieces.
 #[derive(Drop)]
 pub struct TextModel {
     words: StreamModel,

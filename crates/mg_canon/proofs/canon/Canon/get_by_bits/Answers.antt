@@ -1,7 +1,8 @@
-use Rattle.std.proofs.Common.{◌≡◌, ◌+◌, ◌*◌, ◌++◌, [], ◌∷◌, suc, sym, ap, ◌∙◌, subst, arith, add-one}
+use Rattle.std.proofs.Common.{◌≡◌, ℕ, ◌+◌, ◌-◌, ◌*◌, ◌++◌, [], ◌∷◌, suc, refl, sym, ap, get_or, ◌∙◌, subst, arith, add-one}
 use Rattle.mg_defs.specs.Bits.{digits}
 use Rattle.mg_defs.proofs.BitLaws.{length_digits}
 use Rattle.mg_bits.proofs.CallerLemmas.{read_a_bit, read_nothing}
+use Rattle.mg_canon.specs.Tables.{IsSymbolAt}
 use Rattle.mg_canon.proofs.Decoding.{Walk, by_tables, digits-more, ends_nowhere, ends_with, tables_good, walk_start}
 use Rattle.mg_canon.proofs.SymbolReads.{symbol_cut, symbol_none, symbol_read}
 use Rattle.mg_canon.proofs.canon.Canon.get_by_bits.Goals as goal
@@ -40,17 +41,19 @@ returns-in-Err g c =
     (by_tables c.self.invariant.tables (rw (← c.self.view_is) at c.requires.some) c.loop-reader.invariant.walk c.loop-reader-test.ensures.more)
     c.in-Err.ensures c.seek.ensures.feed (omega (arith, c.seek.ensures.place, c.place-start.ensures)))
 
-pub returns-then-place-len : goal.returns-then-place-len
-returns-then-place-len g c =
+pub returns-in-None : goal.returns-in-None
+returns-in-None g c =
     rw (← c.self.view_is, c.place-start.ensures)
     (symbol_none c.loop-reader.invariant.read
     (ends_nowhere c.self.invariant.tables (rw (← c.self.view_is) at c.requires.some) c.loop-reader.invariant.walk c.loop-reader-test.ensures.some
-    c.loop-reader-test.ensures.stop (omega arith))
-    c.seek-then-place-len.ensures.feed (omega (arith, c.seek-then-place-len.ensures.place, c.place-start.ensures)))
+    c.loop-reader-test.ensures.stop (rw (← c.self.view_is) at c.in-None.ensures.none))
+    c.seek-in-None.ensures.feed (omega (arith, c.seek-in-None.ensures.place, c.place-start.ensures)))
 
-pub returns : goal.returns
-returns g c =
+pub returns-in-Some : goal.returns-in-Some
+returns-in-Some g c =
+    let place : ℕ = get_or c.self.inside.offsets c.loop-reader.read 0 + (c.loop-reader.value - get_or c.self.inside.firsts c.loop-reader.read 0) in
     rw (← c.self.view_is)
     (symbol_read c.loop-reader.invariant.read
     (ends_with c.self.invariant.tables (rw (← c.self.view_is) at c.requires.some) c.loop-reader.invariant.walk c.loop-reader-test.ensures.some
-    c.loop-reader-test.ensures.stop _ (omega arith) c.index.ensures))
+    c.loop-reader-test.ensures.stop c.in-Some.symbol place refl (rw (← c.self.view_is) at c.in-Some.ensures.within)
+    (subst (λ l. IsSymbolAt l place c.in-Some.symbol) (sym c.self.view_is) c.in-Some.ensures.is)))

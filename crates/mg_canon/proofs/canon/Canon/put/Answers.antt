@@ -19,7 +19,7 @@ returns-clause-bits g c =
     let value : c.from-value.result ≡ codeword_value s.lengths.items symbol = omega (
       arith,
       at_zero s.values.items symbol c.index.result.now c.index.ensures in_values,
-      t.numbered.value_at symbol there,
+      t.value_at symbol there,
     ) in
     let bits : c.from-length.result ≡ get_or s.lengths.items symbol 0 = omega (arith, at_zero s.lengths.items symbol c.index-2.result.now c.index-2.ensures there) in
     let code : codeword s.lengths.items symbol ≡ digits c.from-length.result c.from-value.result =
