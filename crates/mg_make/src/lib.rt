@@ -12,6 +12,7 @@
 mod index;
 mod inverter;
 mod mark_writer;
+mod plan_pieces;
 mod second;
 mod set_parts;
 mod summary;

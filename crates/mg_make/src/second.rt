@@ -20,51 +20,23 @@ ghost use Rattle.mg_make.specs.Written.{OfSecond};
 
 use crate::inverter::Inverter;
 use crate::mark_writer::MarkWriter;
+use crate::plan_pieces::PlanPieces;
 use mg_count::{DocCounts, Plan};
 use mg_dev::{Fault, PutErr, Store, What};
-use mg_model::{Recent, TextModel, symbol_and_piece, terms_are_the_dictionary, words_have_terms};
+use mg_model::{symbol_and_piece, terms_are_the_dictionary, words_have_terms};
 use mg_parse::Stream;
 use mg_runs::{Pool, runs_stay};
 use mg_text_writer::{TextWriter, pieces_make_documents};
 use std::alloc::Global;
 use std::marker::Model;
 
-/// Where the pieces of both streams stand that were looked up last.
-#[derive(Drop)]
-struct RecentPieces {
-    words: Recent,
-    others: Recent,
-}
-
-impl RecentPieces {
-    // No piece was looked up.
-    fn new(alloc: Global) -> Self {
-        RecentPieces {
-            words: Recent::new(alloc),
-            others: Recent::new(alloc),
-        }
-    }
-
-    // The symbol of a piece of the stream, as the model tells it.
-    #[inline]
-    fn symbol(&mut self, model: &TextModel, stream: Stream, piece: &[u8]) -> Option<u32>
-        ensures { result ≡ position (bytes_eq piece.now) (code_of stream model.now).pieces }
-    {
-        match stream {
-            Stream::Words => model.symbol_near(stream, piece, &mut self.words),
-            Stream::Others => model.symbol_near(stream, piece, &mut self.others),
-        }
-    }
-}
-
 /// Writes documents by the plan of the first pass, and the occurrences of their terms as runs.
 #[derive(Drop)]
 pub(crate) struct SecondPass<'a> {
     base: &'a str,
-    plan: &'a Plan,
+    pieces: PlanPieces<'a>,
     text: TextWriter<'a>,
     index: Inverter<'a>,
-    recent: RecentPieces,
     doc: u32,
     left: u64,
 }
@@ -74,7 +46,7 @@ impl<'a> Model for SecondPass<'a> {
 
     ghost Value = { Inversion };
 
-    ghost view = { λ s. record { base = s.base.now; plan = s.plan.now; text = s.text; index = s.index; doc = s.doc; left = s.left } };
+    ghost view = { λ s. record { base = s.base.now; plan = s.pieces; text = s.text; index = s.index; doc = s.doc; left = s.left } };
 }
 
 impl<'a> SecondPass<'a> {
@@ -107,10 +79,9 @@ impl<'a> SecondPass<'a> {
         };
         Ok(SecondPass {
             base,
-            plan,
+            pieces: PlanPieces::new(alloc, plan),
             text,
             index,
-            recent: RecentPieces::new(alloc),
             doc: 0,
             left: 0,
         })
@@ -132,8 +103,7 @@ impl<'a> SecondPass<'a> {
         ensures { Between S.files S.reads S.faults store.old store.new
             (PassStep self.old self.new (piece_mark stream piece.now ∷ []) result) }
     {
-        let plan = self.plan;
-        let symbol = match self.recent.symbol(&plan.model, stream, piece) {
+        let symbol = match self.pieces.symbol(stream, piece) {
             Some(symbol) => symbol,
             None => return Err(unknown(stream)),
         };
@@ -160,7 +130,7 @@ impl<'a> SecondPass<'a> {
         pieces_make_documents();
         runs_stay();
         symbol_and_piece();
-        let plan = self.plan;
+        let plan = self.pieces.plan();
         match self.text.put_piece(store, &plan.model, stream, symbol) {
             Ok(()) => {}
             Err(refusal) => return Err(Fault::of_store(refusal)),
@@ -189,7 +159,7 @@ impl<'a> SecondPass<'a> {
             result ≡ Changed what_is.Pairs (get_or self.now.plan.pairs (self.now.doc - 1) 0)
             (get_or self.now.plan.pairs (self.now.doc - 1) 0 - (self.now.left + 1) / 2) }
     {
-        let plan = self.plan;
+        let plan = self.pieces.plan();
         let at = (self.doc - 1) as usize;
         let first = u64::from(plan.pairs[at]);
         let second = if self.left == 0 {
@@ -214,7 +184,7 @@ impl<'a, S: Store> MarkWriter<'a, S> for SecondPass<'a> {
         }
         // A law: what the runs took stays while the text is written.
         runs_stay();
-        let plan = self.plan;
+        let plan = self.pieces.plan();
         let at = self.doc as usize;
         if at >= plan.pairs.len() {
             return Err(Fault::Changed {
@@ -266,7 +236,7 @@ impl<'a, S: Store> MarkWriter<'a, S> for SecondPass<'a> {
     }
 
     fn end_text(&mut self, store: &mut S) -> Result<u64, Fault> {
-        let plan = self.plan;
+        let plan = self.pieces.plan();
         if (self.doc as usize) < plan.pairs.len() {
             return Err(Fault::Changed {
                 what: What::Documents,

@@ -1,6 +1,7 @@
 mod Lists
 mod Sixteen
 mod Keys
+mod Founds
 mod Counting
 mod Order
 mod Sorting

@@ -1,4 +1,5 @@
 pub mod Keys
+pub mod Found
 pub mod Vocabularies
 pub mod Blocks
 pub mod Pieces

@@ -15,6 +15,7 @@
 mod block;
 mod dropping;
 mod entry_walk;
+mod found_symbols;
 mod laws;
 mod piece_key;
 mod pieces;
@@ -28,12 +29,12 @@ mod vocab;
 mod vocab_err;
 
 pub use block::short_piece;
+pub use found_symbols::FoundSymbols;
 pub use laws::{
     codes_are_models, symbol_and_piece, terms_are_the_dictionary, vocabularies_sort,
     words_have_terms,
 };
 pub use mg_defs::Stream;
-pub use recent::Recent;
 pub use term_table::TermTable;
 pub use text_model::TextModel;
 pub use vocab::Vocab;

@@ -17,6 +17,9 @@ use std::hash::{Hash, Hasher};
 /// The first byte of a longer piece's key: no short piece has that length.
 const LONGER: u8 = 16;
 
+/// The first byte of the key of no piece.
+const NO_LENGTH: u8 = 255;
+
 /// What the last of sixteen bytes is worth where the lowest comes first.
 const TOP: u128 = 1 << 120;
 
@@ -92,6 +95,13 @@ impl PieceKey {
         ensures { result.entry ≡ short_key piece.now }
     {
         PieceKey::filled(piece.len() as u8, piece)
+    }
+
+    // The key of no piece: a short one has not this length, and a longer one not this first byte.
+    pub(crate) fn none() -> PieceKey
+        ensures { result.entry ≡ filled 255 [] }
+    {
+        PieceKey::filled(NO_LENGTH, &[])
     }
 
     // The key that these bytes are: a piece's length, and the piece where it has at most fifteen bytes.

@@ -7,8 +7,8 @@ ghost use Rattle.std.specs.Str.{bytes_eq};
 ghost use Rattle.mg_model.specs.Blocks.{short_piece};
 ghost use Rattle.mg_model.specs.Pieces.{pieces_in};
 
+use crate::Vocab;
 use crate::block::PieceBlock;
-use crate::{Recent, Vocab};
 
 /// The pieces of a stream in the order of their bytes: a place is a symbol.
 #[derive(Drop)]
@@ -27,18 +27,6 @@ impl Pieces {
     {
         match self {
             Pieces::Counted(vocab) => vocab.place_of(piece),
-            Pieces::Loaded(block) => block.place_of(piece),
-        }
-    }
-
-    /// The same, looked for first where one was found last.
-    #[inline]
-    pub fn symbol_near(&self, piece: &[u8], recent: &mut Recent) -> Option<u32>
-        requires { IsStrictlySortedBy (slice_cmp nat_cmp) (pieces_in self.now) }
-        ensures { result ≡ position (bytes_eq piece.now) (pieces_in self.now) }
-    {
-        match self {
-            Pieces::Counted(vocab) => vocab.place_near(piece, recent),
             Pieces::Loaded(block) => block.place_of(piece),
         }
     }

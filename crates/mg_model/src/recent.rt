@@ -15,13 +15,13 @@ const PLACE_BITS: u32 = 12;
 /// Places of the entries of one vocabulary. Where memory lacked for them there are none, and every
 /// piece is looked up.
 #[derive(Drop)]
-pub struct Recent {
+pub(crate) struct Recent {
     places: Vec<u32>,
 }
 
 impl Recent {
     /// No piece was looked up.
-    pub fn new(alloc: Global) -> Self {
+    pub(crate) fn new(alloc: Global) -> Self {
         match vec![in alloc; 0; PLACES] {
             Ok(places) => Recent { places },
             Err(_) => Recent {

@@ -20,10 +20,10 @@ ghost use Rattle.mg_model.specs.Loading.{LoadsStream};
 ghost use Rattle.mg_model.specs.Read.{code_read};
 ghost use Rattle.mg_model.specs.Vocabularies.{pieces_of};
 
+use crate::Vocab;
 use crate::dropping::without;
 use crate::pieces::Pieces;
 use crate::reading::{ReadPieces, checked_code, expect_room, read_pieces};
-use crate::{Recent, Vocab};
 use mg_canon::Canon;
 use mg_dev::{FileRef, Part, PartErr, PutErr, Store};
 use mg_front::FrontWriter;
@@ -184,16 +184,6 @@ impl StreamModel {
         // For the proof: the pieces of a model rise.
         let _ = &self.canon;
         self.pieces.symbol(piece)
-    }
-
-    /// The same, looked for first where one was found last.
-    #[inline]
-    pub fn symbol_near(&self, piece: &[u8], recent: &mut Recent) -> Option<u32>
-        ensures { result ≡ position (bytes_eq piece.now) self.now.pieces }
-    {
-        // For the proof: the pieces of a model rise.
-        let _ = &self.canon;
-        self.pieces.symbol_near(piece, recent)
     }
 
     /// The piece of a symbol.

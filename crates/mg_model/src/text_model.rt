@@ -9,6 +9,7 @@ ghost use Rattle.mg_defs.specs.CodedText.{IsHuffman, TextCode};
 ghost use Rattle.mg_defs.specs.Vocabulary.{sorted_of, counts_of};
 ghost use Rattle.mg_front.specs.Reading.{LookedAt};
 ghost use Rattle.mg_model.specs.Blocks.{short_piece};
+ghost use Rattle.mg_model.specs.Found.{AreFound};
 ghost use Rattle.mg_model.specs.Damage.{AnswersStanding};
 ghost use Rattle.mg_defs.specs.Marks.{code_of};
 ghost use Rattle.mg_defs.specs.Means.{IsStreamCode};
@@ -16,9 +17,11 @@ ghost use Rattle.mg_model.specs.Models.{PartsHold, PartsStand};
 ghost use Rattle.mg_model.specs.Loading.{AnswersModel, LoadsModel, OnlyModelChanges, ReadsOnce, ReadsWordsFirst, SkipsIfShort};
 ghost use Rattle.mg_model.specs.Read.{ToldUnread};
 
+use crate::block::SHORT;
 use crate::dropping::without;
+use crate::piece_key::PieceKey;
 use crate::stream_model::StreamModel;
-use crate::{Recent, Stream, Vocab};
+use crate::{FoundSymbols, Stream, Vocab};
 use mg_canon::Canon;
 use mg_dev::{FileRef, Part, PartErr, PutErr, Store};
 use std::alloc::{AllocError, Global};
@@ -176,13 +179,37 @@ impl TextModel {
         self.stream(stream).symbol(piece)
     }
 
-    /// The same. In a model that was made it is looked for first where `recent` has a place for it,
-    /// and what is found is kept there.
+    /// The same. A piece of at most fifteen bytes is looked for first among the symbols that were found
+    /// in this stream, and what is found is kept there.
     #[inline]
-    pub fn symbol_near(&self, stream: Stream, piece: &[u8], recent: &mut Recent) -> Option<u32>
-        ensures { result ≡ position (bytes_eq piece.now) (code_of stream self.now).pieces }
+    pub fn symbol_near(&self, stream: Stream, piece: &[u8], found: &mut FoundSymbols) -> Option<u32>
+        requires kept { AreFound found.old (code_of stream self.now).pieces }
+        ensures symbol { result ≡ position (bytes_eq piece.now) (code_of stream self.now).pieces }
+        ensures kept { AreFound found.new (code_of stream self.now).pieces }
     {
-        self.stream(stream).symbol_near(piece, recent)
+        if piece.len() > SHORT {
+            return self.symbol(stream, piece);
+        }
+        match found.symbol(&PieceKey::short(piece)) {
+            Some(symbol) => Some(symbol),
+            None => self.symbol_anew(stream, piece, found),
+        }
+    }
+
+    // The same of a piece of at most fifteen bytes that is not kept. It stands apart, so that above the
+    // key of a piece stays a number.
+    #[inline(never)]
+    fn symbol_anew(&self, stream: Stream, piece: &[u8], found: &mut FoundSymbols) -> Option<u32>
+        requires short { length piece.now ≤ 15 }
+        requires kept { AreFound found.old (code_of stream self.now).pieces }
+        ensures symbol { result ≡ position (bytes_eq piece.now) (code_of stream self.now).pieces }
+        ensures kept { AreFound found.new (code_of stream self.now).pieces }
+    {
+        let there = self.symbol(stream, piece);
+        if let Some(symbol) = there {
+            found.keep(&PieceKey::short(piece), symbol);
+        }
+        there
     }
 
     /// The piece of a symbol, which is below the number of the stream's pieces.

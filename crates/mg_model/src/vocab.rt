@@ -284,17 +284,6 @@ impl Vocab {
         self.place_by_key(piece)
     }
 
-    /// The same, looked for first where one was found last.
-    #[inline]
-    pub(crate) fn place_near(&self, piece: &[u8], recent: &mut Recent) -> Option<u32>
-        ensures { result ≡ position (bytes_eq piece.now) (pieces_of self.now) }
-    {
-        if piece.len() <= SHORT {
-            return place_near(&self.counts, &PieceKey::short(piece), recent);
-        }
-        self.place_by_key(piece)
-    }
-
     // The same, of a longer piece too. It stands apart, so that above the key of a short piece stays a
     // number.
     #[inline(never)]

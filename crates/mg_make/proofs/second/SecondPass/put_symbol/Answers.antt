@@ -29,13 +29,14 @@ put_piece-requires-clause-turn g c =
 pub returns-in-None : goal.returns-in-None
 returns-in-None g c =
     let n = rw (← c.self.view_is) at c.requires.next in
-    let code : c.plan.inside.model ≡ c.self.inside.plan.now.code = ap (λ (p : Plan). p.code) c.plan.view_is in
+    let code : c.plan.inside.model ≡ c.self.inside.pieces.code = ap (λ (p : Plan). p.code) (c.plan.view_is ∙ c.plan-plan.ensures) in
     let found = subst (λ (k : TextCode). position (bytes_eq c.args._piece.now) (code_of c.args.stream k).pieces ≡ Some c.args.symbol) (sym code) (rw (← c.self.view_is) at c.requires.symbol) in
     let at = c.symbol_and_piece.ensures.piece (code_of c.args.stream c.plan.inside.model) c.args.symbol c.args._piece.now found in
     let there = subst (λ (k : TextCode). slice_get (code_of c.args.stream k).pieces c.args.symbol ≡ Some c.args._piece.now) code at in
     let number = c.symbol_and_piece.ensures.number (code_of c.args.stream c.plan.inside.model) c.args.symbol c.args._piece.now found in
     let more : 0 < c.self.inside.left = rw (← c.self.view_is) at c.requires.more in
-    let term_is = c.in-None.ensures.term c.args._piece.now there in
+    let of_term = rw c.plan-plan.ensures at c.in-None.ensures.term in
+    let term_is = of_term c.args._piece.now there in
     let e = c.put_piece.ensures in
     rw (← c.self.view_is)
     (text_done (record { base = n.written.text_base; told = e.told; others = λ m a b. e.others m a; reads = e.reads; faults = e.cause.later })
@@ -45,18 +46,20 @@ returns-in-None g c =
           let taken = index_kept c.runs_stay.ensures.fed _ _ _ _ _ _ (is.text_base ∙ sym is.runs_base) e.told (λ n a b. e.others n a) is.index in
           wrote_piece _ _ _ _ _ met c.args.stream c.args._piece.now None more term_is
           (put_bits c.args.stream _ _ _ c.args._piece.now _ _ _ _ code number c.in-Ok.ensures.took) c.in-Ok.ensures.numbers e.base refl
-          (subst (λ (fed : List (ℕ × ℕ)). HasTaken c.self.inside.index (g.S.Store.files c.put_piece.new.store) (length c.self.inside.plan.now.terms.terms) fed) (sym (append-nil _)) taken) is;
+          (subst (λ (fed : List (ℕ × ℕ)). HasTaken c.self.inside.index (g.S.Store.files c.put_piece.new.store) (length c.self.inside.pieces.terms.terms) fed) (sym (append-nil _)) taken) is;
     }))
 
 pub add-requires : goal.add-requires
 add-requires g c =
     let n = rw (← c.self.view_is) at c.requires.next in
-    let code : c.plan.inside.model ≡ c.self.inside.plan.now.code = ap (λ (p : Plan). p.code) c.plan.view_is in
+    let code : c.plan.inside.model ≡ c.self.inside.pieces.code = ap (λ (p : Plan). p.code) (c.plan.view_is ∙ c.plan-plan.ensures) in
     let found = subst (λ (k : TextCode). position (bytes_eq c.args._piece.now) (code_of c.args.stream k).pieces ≡ Some c.args.symbol) (sym code) (rw (← c.self.view_is) at c.requires.symbol) in
     let at = c.symbol_and_piece.ensures.piece (code_of c.args.stream c.plan.inside.model) c.args.symbol c.args._piece.now found in
     let there = subst (λ (k : TextCode). slice_get (code_of c.args.stream k).pieces c.args.symbol ≡ Some c.args._piece.now) code at in
-    let term_is = c.in-Some.ensures.term c.args._piece.now there in
-    let known = c.in-Some.ensures.known c.in-Some.term refl in
+    let of_term = rw c.plan-plan.ensures at c.in-Some.ensures.term in
+    let term_is = of_term c.args._piece.now there in
+    let of_known = rw c.plan-plan.ensures at c.in-Some.ensures.known in
+    let known = of_known c.in-Some.term refl in
     let some = some_begun n.met _ n.collection n.front (open_at_piece n.met c.args.stream c.args._piece.now n.collection n.front) in
     let few = few_taken _ _ n.met c.args.stream c.args._piece.now c.in-Some.term n.collection term_is n.written n.front in
     let taken = index_kept c.runs_stay.ensures.fed _ _ _ _ _ _ (n.written.text_base ∙ sym n.written.runs_base) c.put_piece.ensures.told (λ n a b. c.put_piece.ensures.others n a) n.written.index in
@@ -65,14 +68,16 @@ add-requires g c =
 pub returns : goal.returns
 returns g c =
     let n = rw (← c.self.view_is) at c.requires.next in
-    let code : c.plan.inside.model ≡ c.self.inside.plan.now.code = ap (λ (p : Plan). p.code) c.plan.view_is in
+    let code : c.plan.inside.model ≡ c.self.inside.pieces.code = ap (λ (p : Plan). p.code) (c.plan.view_is ∙ c.plan-plan.ensures) in
     let found = subst (λ (k : TextCode). position (bytes_eq c.args._piece.now) (code_of c.args.stream k).pieces ≡ Some c.args.symbol) (sym code) (rw (← c.self.view_is) at c.requires.symbol) in
     let at = c.symbol_and_piece.ensures.piece (code_of c.args.stream c.plan.inside.model) c.args.symbol c.args._piece.now found in
     let there = subst (λ (k : TextCode). slice_get (code_of c.args.stream k).pieces c.args.symbol ≡ Some c.args._piece.now) code at in
     let number = c.symbol_and_piece.ensures.number (code_of c.args.stream c.plan.inside.model) c.args.symbol c.args._piece.now found in
     let more : 0 < c.self.inside.left = rw (← c.self.view_is) at c.requires.more in
-    let term_is = c.in-Some.ensures.term c.args._piece.now there in
-    let known = c.in-Some.ensures.known c.in-Some.term refl in
+    let of_term = rw c.plan-plan.ensures at c.in-Some.ensures.term in
+    let term_is = of_term c.args._piece.now there in
+    let of_known = rw c.plan-plan.ensures at c.in-Some.ensures.known in
+    let known = of_known c.in-Some.term refl in
     let some = some_begun n.met _ n.collection n.front (open_at_piece n.met c.args.stream c.args._piece.now n.collection n.front) in
     let begun : 1 ≤ c.self.inside.doc = omega (arith, some, n.written.doc) in
     let few = few_taken _ _ n.met c.args.stream c.args._piece.now c.in-Some.term n.collection term_is n.written n.front in
@@ -92,8 +97,8 @@ returns g c =
                   wrote_piece _ _ _ _ _ met c.args.stream c.args._piece.now (Some c.in-Some.term) more term_is
                   (λ docs bits on. text_kept _ _ _ _ docs _ base c.add.ensures.wrote (took docs bits on)) c.in-Ok.ensures.numbers c.put_piece.ensures.base
                   c.add.ensures.base
-                  (subst (λ (d : ℕ). HasTaken c.add.new.self (g.S.Store.files c.add.new.store) (length c.self.inside.plan.now.terms.terms)
-                  (occurring_by c.self.inside.plan.now met ++ with_doc d (Some c.in-Some.term))) is.doc taken) is;
+                  (subst (λ (d : ℕ). HasTaken c.add.new.self (g.S.Store.files c.add.new.store) (length c.self.inside.pieces.terms.terms)
+                  (occurring_by c.self.inside.pieces met ++ with_doc d (Some c.in-Some.term))) is.doc taken) is;
             };
             same = record { base = refl; plan = refl; limit = a.limit };
             wrote = wrote;

@@ -25,5 +25,6 @@ returns-clause-step g c =
 
 pub returns-clause-written : goal.returns-clause-written
 returns-clause-written g c =
-    wrote_nothing _ _ c.in-Ok.ensures.base c.in-Ok-start.ensures.base c.requires.plan (text_kept _ _ _ _ _ _ (sym c.in-Ok.ensures.base) c.start-2.ensures.wrote c.in-Ok.ensures.took)
-    (c.in-Ok-start.ensures.taken _ c.requires.counts) refl refl c.in-Ok.ensures.docs c.in-Ok.ensures.pairs c.in-Ok.ensures.closed
+    rw c.new.ensures
+    (wrote_nothing _ _ c.in-Ok.ensures.base c.in-Ok-start.ensures.base c.requires.plan (text_kept _ _ _ _ _ _ (sym c.in-Ok.ensures.base) c.start-2.ensures.wrote c.in-Ok.ensures.took)
+    (c.in-Ok-start.ensures.taken _ c.requires.counts) refl refl c.in-Ok.ensures.docs c.in-Ok.ensures.pairs c.in-Ok.ensures.closed)

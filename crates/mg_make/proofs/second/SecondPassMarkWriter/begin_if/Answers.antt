@@ -12,9 +12,9 @@ returns-then-not-begins g c = rw c.if-not-begins.true pass_none
 
 pub returns-then-at-len : goal.returns-then-at-len
 returns-then-at-len g c =
-    let same : c.plan.inside.pairs.items ≡ c.self.inside.plan.now.pairs = ap (λ (p : Plan). p.pairs) c.plan.view_is in
+    let same : c.plan.inside.pairs.items ≡ c.self.inside.pieces.pairs = ap (λ (p : Plan). p.pairs) (c.plan.view_is ∙ c.plan-plan.ensures) in
     let long = ap length same in
-    let all : length c.self.inside.plan.now.pairs ≤ c.self.inside.doc = omega (arith, long, c.len.ensures, c.if-at-len.true) in
+    let all : length c.self.inside.pieces.pairs ≤ c.self.inside.doc = omega (arith, long, c.len.ensures, c.if-at-len.true) in
     rw (c.if-not-begins.false, ← c.self.view_is)
     (pass_refused (record {
       cause = λ met collection is front.
@@ -36,11 +36,11 @@ begin_doc-requires-clause-took g c =
 pub begin_doc-requires-clause-pairs : goal.begin_doc-requires-clause-pairs
 begin_doc-requires-clause-pairs g c =
     let n = rw (c.if-not-begins.false, ← c.self.view_is) at c.requires.next in
-    let same : c.plan.inside.pairs.items ≡ c.self.inside.plan.now.pairs = ap (λ (p : Plan). p.pairs) c.plan.view_is in
+    let same : c.plan.inside.pairs.items ≡ c.self.inside.pieces.pairs = ap (λ (p : Plan). p.pairs) (c.plan.view_is ∙ c.plan-plan.ensures) in
     let long = ap length same in
-    let low : c.self.inside.doc < length c.self.inside.plan.now.pairs = omega (arith, long, c.len.ensures, c.if-at-len.false) in
+    let low : c.self.inside.doc < length c.self.inside.pieces.pairs = omega (arith, long, c.len.ensures, c.if-at-len.false) in
     let within : c.self.inside.doc < length c.plan.inside.pairs.items = omega (arith, long, low) in
-    let here : c.index-pairs.result.now ≡ get_or c.self.inside.plan.now.pairs c.self.inside.doc 0 = c.index-pairs.ensures ∙ same_there _ _ _ 0 within ∙ ap (λ ns. get_or ns c.self.inside.doc 0) same in
+    let here : c.index-pairs.result.now ≡ get_or c.self.inside.pieces.pairs c.self.inside.doc 0 = c.index-pairs.ensures ∙ same_there _ _ _ 0 within ∙ ap (λ ns. get_or ns c.self.inside.doc 0) same in
     let room = pairs_room _ _ n.met n.written low in
     omega (arith, room, here)
 
@@ -55,11 +55,11 @@ pub returns : goal.returns
 returns g c =
     let n = rw (c.if-not-begins.false, ← c.self.view_is) at c.requires.next in
     let closed = n.written.is_open ∙ closed_at_start n.met n.collection n.front in
-    let same : c.plan.inside.pairs.items ≡ c.self.inside.plan.now.pairs = ap (λ (p : Plan). p.pairs) c.plan.view_is in
+    let same : c.plan.inside.pairs.items ≡ c.self.inside.pieces.pairs = ap (λ (p : Plan). p.pairs) (c.plan.view_is ∙ c.plan-plan.ensures) in
     let long = ap length same in
-    let low : c.self.inside.doc < length c.self.inside.plan.now.pairs = omega (arith, long, c.len.ensures, c.if-at-len.false) in
+    let low : c.self.inside.doc < length c.self.inside.pieces.pairs = omega (arith, long, c.len.ensures, c.if-at-len.false) in
     let within : c.self.inside.doc < length c.plan.inside.pairs.items = omega (arith, long, low) in
-    let here : c.index-pairs.result.now ≡ get_or c.self.inside.plan.now.pairs c.self.inside.doc 0 = c.index-pairs.ensures ∙ same_there _ _ _ 0 within ∙ ap (λ ns. get_or ns c.self.inside.doc 0) same in
+    let here : c.index-pairs.result.now ≡ get_or c.self.inside.pieces.pairs c.self.inside.doc 0 = c.index-pairs.ensures ∙ same_there _ _ _ 0 within ∙ ap (λ ns. get_or ns c.self.inside.doc 0) same in
     let e = c.in-Ok.ensures in
     rw (c.if-not-begins.false, c.from-2.ensures, ← c.self.view_is)
     (text_done (record { base = n.written.text_base; told = e.told; others = e.others; reads = e.reads; faults = e.cause.later })

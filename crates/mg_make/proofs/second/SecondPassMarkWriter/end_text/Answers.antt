@@ -1,4 +1,4 @@
-use Rattle.std.proofs.Common.{◌≤◌, ◌<◌, refl, length, ap, arith}
+use Rattle.std.proofs.Common.{◌≤◌, ◌<◌, ◌∙◌, refl, length, ap, arith}
 use Rattle.mg_count.specs.Plans.{Plan}
 use Rattle.mg_make.proofs.Finishing.{fewer_documents, tells_fewer_documents, whole_is_closed}
 use Rattle.mg_make.proofs.SecondSteps.{none_open}
@@ -8,8 +8,8 @@ use Rattle.mg_make.proofs.second.SecondPassMarkWriter.end_text.Goals.{in-Ok, in-
 
 pub returns-then-self-len : goal.returns-then-self-len
 returns-then-self-len g c =
-    let long = ap (λ (p : Plan). length p.pairs) c.plan.view_is in
-    let few : c.self.inside.doc < length c.self.inside.plan.now.pairs = omega (arith, long, c.len.ensures, c.if-self-len.true) in
+    let long = ap (λ (p : Plan). length p.pairs) (c.plan.view_is ∙ c.plan-plan.ensures) in
+    let few : c.self.inside.doc < length c.self.inside.pieces.pairs = omega (arith, long, c.len.ensures, c.if-self-len.true) in
     rw (← c.self.view_is)
     (record {
       index = refl;
@@ -37,8 +37,8 @@ finish-requires-clause-took g c =
 
 pub returns : goal.returns
 returns g c =
-    let long = ap (λ (p : Plan). length p.pairs) c.plan.view_is in
-    let all : length c.self.inside.plan.now.pairs ≤ c.self.inside.doc = omega (arith, long, c.len.ensures, c.if-self-len.false) in
+    let long = ap (λ (p : Plan). length p.pairs) (c.plan.view_is ∙ c.plan-plan.ensures) in
+    let all : length c.self.inside.pieces.pairs ≤ c.self.inside.doc = omega (arith, long, c.len.ensures, c.if-self-len.false) in
     let e = c.finish.ensures in
     elim c.match-finish.branch [
       | in-Ok w ↦
