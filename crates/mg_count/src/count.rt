@@ -12,6 +12,7 @@ use crate::plan::{Plan, Room, plan_of};
 use crate::scanner::Scanner;
 use mg_dev::Fault;
 use mg_laws::{few_of_each, marks_add_up, marks_have_all};
+use mg_model::Piece;
 use std::alloc::Global;
 use std::marker::Model;
 
@@ -140,7 +141,7 @@ impl Count {
         if next == at {
             return Ok(at);
         }
-        match self.counts.add(stream, &bytes[at..next]) {
+        match self.counts.add(stream, &Piece::within(bytes, at, next)) {
             Ok(()) => {}
             Err(refusal) => return Err(fault_of(stream, refusal)),
         }

@@ -11,7 +11,7 @@ ghost use Rattle.mg_count.specs.Whole.{fault_by};
 use crate::met::Met;
 use mg_dev::Fault;
 use mg_laws::marks_add_up;
-use mg_model::{Stream, Vocab, VocabErr};
+use mg_model::{Piece, Stream, Vocab, VocabErr};
 use std::alloc::Global;
 use std::marker::Model;
 
@@ -40,7 +40,7 @@ impl Model for Counts {
 
 /// Counts a piece, of at most 255 bytes. It is one too many exactly where it is new among 2^22 others.
 #[inline]
-fn count_in(vocab: &mut Vocab, bytes: &[u8]) -> Result<(), VocabErr>
+fn count_in(vocab: &mut Vocab, bytes: &Piece<'_>) -> Result<(), VocabErr>
     requires total { total vocab.old < 2 ^ 32 - 1 }
     requires short { length bytes.now ≤ 255 }
     ensures counted { OnOk result (vocab.new ≡ counted bytes.now vocab.old) }
@@ -146,7 +146,7 @@ impl Counts {
         if !is_met {
             return Ok(());
         }
-        match self.add(stream, bytes) {
+        match self.add(stream, &Piece::alone(bytes)) {
             Ok(()) => Ok(()),
             Err(refusal) => Err(fault_of(stream, refusal)),
         }
@@ -154,7 +154,7 @@ impl Counts {
 
     /// Counts a piece. What it answers is small, so that a piece costs no room for a fault.
     #[inline]
-    pub(crate) fn add(&mut self, stream: Stream, bytes: &[u8]) -> Result<(), VocabErr>
+    pub(crate) fn add(&mut self, stream: Stream, bytes: &Piece<'_>) -> Result<(), VocabErr>
         requires short { length bytes.now ≤ 255 }
         requires few { (met : List Mark) × IsCounted self.old met
             × AreFew (met ++ piece stream bytes.now ∷ []) }

@@ -1,5 +1,6 @@
 mod Lists
 mod Sixteen
+mod FirstBytes
 mod Keys
 mod Founds
 mod Counting

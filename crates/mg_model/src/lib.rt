@@ -17,6 +17,7 @@ mod dropping;
 mod entry_walk;
 mod found_symbols;
 mod laws;
+mod piece;
 mod piece_key;
 mod pieces;
 mod reading;
@@ -35,6 +36,7 @@ pub use laws::{
     words_have_terms,
 };
 pub use mg_defs::Stream;
+pub use piece::Piece;
 pub use term_table::TermTable;
 pub use text_model::TextModel;
 pub use vocab::Vocab;

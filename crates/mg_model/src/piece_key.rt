@@ -1,5 +1,5 @@
 //! The keys by which a vocabulary's map finds its pieces.
-ghost use Rattle.std.specs.Prelude.{◌≡◌, ◌<◌, ◌≤◌, ◌^◌, ◌∷◌, [], length, IfOk, IfSome, IfNone};
+ghost use Rattle.std.specs.Prelude.{◌≡◌, ◌<◌, ◌≤◌, ◌^◌, ◌∷◌, [], length, take, IfOk, IfSome, IfNone};
 ghost use Rattle.std.specs.Ordering.{nat_cmp};
 ghost use Rattle.std.specs.Cmp.Lexicographic.{slice_cmp, bytes_decides};
 ghost use Rattle.std.specs.Cmp.Rules.{comparing};
@@ -7,6 +7,7 @@ ghost use Rattle.std.specs.Str.{bytes_eq};
 ghost use Rattle.std.proofs.Common.{ap, rules};
 ghost use Rattle.mg_model.specs.Keys.{filled, longer_key, short_key, piece_in, Extends, HasNoNumber, IsKeyOf};
 
+use crate::Piece;
 use crate::block::{SHORT, short_piece};
 use indexmap::IndexSet;
 use mg_fields::{eight_at, eight_bytes};
@@ -89,7 +90,34 @@ impl PieceKey {
         }
     }
 
-    // The key of a piece that it holds.
+    /// The key of a piece that it holds.
+    #[inline]
+    pub(crate) fn of(piece: &Piece<'_>) -> PieceKey
+        requires { length piece.now ≤ 15 }
+        ensures { result.entry ≡ short_key piece.now }
+    {
+        match piece.sixteen() {
+            Some(bytes) => PieceKey::first_of(&bytes, piece.len()),
+            None => PieceKey::short(piece.bytes()),
+        }
+    }
+
+    // The key of the piece that the first bytes are, at most fifteen. How many they are decides no
+    // branch, for the processor would seldom guess it.
+    #[inline]
+    fn first_of(bytes: &[u8; 16], length: usize) -> PieceKey
+        requires { length ≤ 15 }
+        ensures { result.entry ≡ short_key (take length bytes.now) }
+    {
+        let kept = u128::from_le_bytes(*bytes) & ((1 << (8 * length)) - 1);
+        let number = kept * 256 + length as u128;
+        PieceKey {
+            entry: number.to_le_bytes(),
+        }
+    }
+
+    /// The same of a piece alone, byte by byte. It stands apart, for it is seldom asked for.
+    #[inline(never)]
     pub(crate) fn short(piece: &[u8]) -> PieceKey
         requires { length piece.now ≤ 15 }
         ensures { result.entry ≡ short_key piece.now }
@@ -151,15 +179,15 @@ pub(crate) fn key_of(longer: &IndexSet<Vec<u8>>, piece: &[u8]) -> Option<PieceKe
 pub(crate) fn new_key(
     alloc: Global,
     longer: &mut IndexSet<Vec<u8>>,
-    piece: &[u8],
+    piece: &Piece<'_>,
 ) -> Result<PieceKey, AllocError>
     ensures key { IfOk result (λ key. IsKeyOf longer.new.keys key.entry piece.now) }
     ensures extends { Extends longer.old.keys longer.new.keys }
 {
     if piece.len() <= SHORT {
-        return Ok(PieceKey::short(piece));
+        return Ok(PieceKey::of(piece));
     }
-    let kept = Vec::from_slice(alloc, piece)?;
+    let kept = Vec::from_slice(alloc, piece.bytes())?;
     let Ok((number, _)) = longer.insert_full(kept) else {
         return Err(AllocError);
     };

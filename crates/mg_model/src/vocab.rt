@@ -10,10 +10,10 @@ ghost use Rattle.mg_defs.specs.Vocabulary.{has_piece, counted, total, sorted_of,
 ghost use Rattle.mg_model.specs.Blocks.{short_piece};
 ghost use Rattle.mg_model.specs.Vocabularies.{IsVocabulary, pieces_of, entry_counts};
 
-use crate::VocabErr;
 use crate::block::{SHORT, short_piece};
 use crate::piece_key::{PieceKey, key_of, new_key, order, piece_of};
 use crate::recent::Recent;
+use crate::{Piece, VocabErr};
 use indexmap::{IndexMap, IndexSet};
 use std::alloc::{AllocError, Global};
 use std::marker::Model;
@@ -112,7 +112,7 @@ impl Vocab {
     /// 2^32 - 1 pieces were counted before. A piece that is there takes no memory, and is never
     /// refused. Another is refused as one too many exactly where there are 2^22 entries, and else
     /// only where there is no memory for it. After a refusal nothing changed.
-    pub fn count(&mut self, piece: &[u8]) -> Result<(), VocabErr>
+    pub fn count(&mut self, piece: &Piece<'_>) -> Result<(), VocabErr>
         requires total { total self.old < 2 ^ 32 - 1 }
         requires short { length piece.now ≤ 255 }
         ensures counted { OnOk result (self.new ≡ counted piece.now self.old) }
@@ -131,7 +131,7 @@ impl Vocab {
     /// The same, and it answers where the piece stands. Nothing is promised of that place: it is for
     /// `count_entry`, which looks whether the piece is there.
     #[inline]
-    pub fn count_placed(&mut self, piece: &[u8]) -> Result<u32, VocabErr>
+    pub fn count_placed(&mut self, piece: &Piece<'_>) -> Result<u32, VocabErr>
         requires total { total self.old < 2 ^ 32 - 1 }
         requires short { length piece.now ≤ 255 }
         ensures counted { OnOk result (self.new ≡ counted piece.now self.old) }
@@ -164,7 +164,7 @@ impl Vocab {
         if !has_at(&self.counts, &PieceKey::of_entry(entry), place) {
             return false;
         }
-        self.count_again(place as usize, short_piece(entry));
+        self.count_again(place as usize, &Piece::alone(short_piece(entry)));
         true
     }
 
@@ -180,7 +180,7 @@ impl Vocab {
         if !self.has_piece_at(piece, place) {
             return false;
         }
-        self.count_again(place as usize, piece);
+        self.count_again(place as usize, &Piece::alone(piece));
         true
     }
 
@@ -199,19 +199,19 @@ impl Vocab {
 
     // The place of a piece among the entries. It is kept for the next time.
     #[inline]
-    fn place_again(&mut self, piece: &[u8]) -> Option<u32>
+    fn place_again(&mut self, piece: &Piece<'_>) -> Option<u32>
         ensures place { result ≡ position (bytes_eq piece.now) (pieces_of self.old) }
         ensures same { self.new ≡ self.old }
     {
         if piece.len() <= SHORT {
-            return place_near(&self.counts, &PieceKey::short(piece), &mut self.recent);
+            return place_near(&self.counts, &PieceKey::of(piece), &mut self.recent);
         }
-        self.place_by_key(piece)
+        self.place_by_key(piece.bytes())
     }
 
     // Adds one to the count of a piece that is there, at its place.
     #[inline]
-    fn count_again(&mut self, place: usize, _piece: &[u8])
+    fn count_again(&mut self, place: usize, _piece: &Piece<'_>)
         requires place { position (bytes_eq _piece.now) (pieces_of self.old) ≡ Some place }
         requires total { total self.old < 2 ^ 32 - 1 }
         requires short { length _piece.now ≤ 255 }
@@ -224,7 +224,7 @@ impl Vocab {
     }
 
     // Adds a piece that is not there, last, and answers its place.
-    fn add(&mut self, piece: &[u8]) -> Result<u32, VocabErr>
+    fn add(&mut self, piece: &Piece<'_>) -> Result<u32, VocabErr>
         requires absent { has_piece self.old piece.now ≡ false }
         requires total { total self.old < 2 ^ 32 - 1 }
         requires short { length piece.now ≤ 255 }

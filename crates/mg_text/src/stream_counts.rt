@@ -4,7 +4,7 @@ ghost use Rattle.std.specs.Bool.{OnFalse, OnTrue};
 ghost use Rattle.mg_defs.specs.Vocabulary.{counted};
 ghost use Rattle.mg_model.specs.Blocks.{short_piece};
 
-use mg_model::{Vocab, short_piece};
+use mg_model::{Piece, Vocab, short_piece};
 use std::alloc::Global;
 use std::marker::Model;
 
@@ -78,7 +78,7 @@ impl StreamCounts {
             return false;
         }
         self.left -= 1;
-        match self.vocab.count(piece) {
+        match self.vocab.count(&Piece::alone(piece)) {
             Ok(()) => true,
             Err(_) => false,
         }
@@ -111,7 +111,7 @@ impl StreamCounts {
             return false;
         }
         self.left -= 1;
-        match self.vocab.count_placed(piece) {
+        match self.vocab.count_placed(&Piece::alone(piece)) {
             Ok(place) => {
                 self.keep(symbol, place);
                 true

@@ -4,4 +4,4 @@ use Rattle.mg_model.proofs.Counting.{total-counted}
 use Rattle.mg_model.proofs.vocab.Vocab.count_piece_at.Goals as goal
 
 pub returns-clause-total : goal.returns-clause-total
-returns-clause-total c = ap total c.count_again.ensures ∙ total-counted c.args.piece.now c.args.self.now
+returns-clause-total c = ap total c.count_again.ensures ∙ total-counted c.alone.result c.args.self.now

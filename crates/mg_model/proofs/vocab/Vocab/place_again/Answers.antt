@@ -5,9 +5,9 @@ use Rattle.mg_model.proofs.Counting.{place-keys}
 use Rattle.mg_model.proofs.Keys.{short-is}
 use Rattle.mg_model.proofs.vocab.Vocab.place_again.Goals as goal
 
-pub returns-then-piece-le-SHORT-clause-place : goal.returns-then-piece-le-SHORT-clause-place
-returns-then-piece-le-SHORT-clause-place c =
+pub returns-then-len-le-SHORT-clause-place : goal.returns-then-len-le-SHORT-clause-place
+returns-then-len-le-SHORT-clause-place c =
     let longer = c.self.inside.longer.keys in
-    let is = short-is longer c.short.result.entry c.args.piece.now (omega (arith, c.if-piece-le-SHORT.true)) c.short.ensures in
-    c.place_near.ensures ∙ place-keys longer c.short.result c.args.piece.now c.self.inside.counts.entries is c.self.invariant.keys
+    let is = short-is longer c.of.result.entry c.args.piece.now (omega (arith, c.len.ensures, c.if-len-le-SHORT.true)) c.of.ensures in
+    c.place_near.ensures ∙ place-keys longer c.of.result c.args.piece.now c.self.inside.counts.entries is c.self.invariant.keys
     ∙ ap (λ es. position (bytes_eq c.args.piece.now) (pieces_of es)) c.self.view_is
