@@ -1,17 +1,13 @@
 -- Where a key stands among distinct ones.
-use Rattle.std.proofs.Common.{◌≡◌, ℕ, zero, suc, ◌+◌, true, false, not, cond, List, [], ◌∷◌, length, ltb, position, slice_get, Some, None, refl, sym, ap, subst, ◌∙◌, arith}
-use Rattle.std.specs.Cmp.Lexicographic.{bytes_decides}
-use Rattle.std.specs.List.{AllByRecursion, IsDistinct, position_or_len}
+use Rattle.std.proofs.Common.{◌≡◌, ℕ, zero, suc, ◌+◌, true, false, not, cond, List, [], ◌∷◌, length, ltb, position, slice_get, Some, None, sym, ap, ◌∙◌, arith}
+use Rattle.std.specs.List.{IsDistinct, position_or_len}
 use Rattle.std.specs.Map.{keys_of}
-use Rattle.std.specs.Str.{bytes_eq}
 use Rattle.std.proofs.lemmas.Bool.{lt-ltb}
 use Rattle.std.proofs.lemmas.Cmp.{nat_list_eq_equiv}
 use Rattle.std.proofs.lemmas.Map.Keys.{IsDistinct-head, IsDistinct-tail}
 use Rattle.mg_model.specs.declared.piece_key.PieceKey.{PieceKey}
-use Rattle.mg_model.specs.Keys.{IsKeyOf, Longer, piece_in}
-use Rattle.mg_model.specs.Vocabularies.{IsKey, entries_of, pieces_of}
 use Rattle.mg_model.proofs.Collections.{there-within}
-use Rattle.mg_model.proofs.Counting.{place-keys, same_key}
+use Rattle.mg_model.proofs.Counting.{same_key}
 use Rattle.mg_model.proofs.Lists.{all-there}
 
 -- the key that stands at a place of distinct ones stands at none before it
@@ -38,11 +34,3 @@ position-at key there es i count apart at same =
     let at_key = key-there es i there count at in
     let first = first-at key (keys_of es) i there apart at_key same in
     ap (λ n. cond (ltb n (length (keys_of es))) (Some n) None) first ∙ ap (λ b. cond b (Some i) None) (lt-ltb i (length (keys_of es)) (there-within (keys_of es) i there at_key))
-
--- and so does its piece
-pub piece-at : (longer : Longer) (piece : List ℕ) (key : PieceKey) (es : List (PieceKey × ℕ)) (i count : ℕ) → IsDistinct same_key (keys_of es) → AllByRecursion (IsKey longer) (keys_of es) →
-    slice_get es i ≡ Some (key, count) → bytes_eq (piece_in longer key.entry) piece ≡ true → position (bytes_eq piece) (pieces_of (entries_of longer es)) ≡ Some i
-piece-at longer piece key es i count apart all at same =
-    let here : IsKey longer key = all-there (IsKey longer) (keys_of es) i key all (key-there es i key count at) in
-    let is : IsKeyOf longer key.entry piece = subst (IsKeyOf longer key.entry) ((bytes_decides (piece_in longer key.entry) piece).0 same) here in
-    sym (place-keys longer key piece es is all) ∙ position-at key key es i count apart at ((bytes_decides key.entry key.entry).1 refl)

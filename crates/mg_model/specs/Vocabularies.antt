@@ -1,5 +1,5 @@
 -- What every vocabulary keeps, and its columns.
-use Rattle.std.specs.Prelude.{ℕ, ◌^◌, ◌<◌, ◌≤◌, List, length, map}
+use Rattle.std.specs.Prelude.{ℕ, ◌^◌, ◌<◌, ◌≤◌, ◌+◌, if◌then◌else◌, List, [], ◌∷◌, length, map}
 use Rattle.std.specs.List.{AllByRecursion, IsDistinct}
 use Rattle.std.specs.Map.{keys_of}
 use Rattle.std.specs.Str.{bytes_eq}
@@ -17,6 +17,12 @@ IsKey longer key = IsKeyOf longer key.entry (piece_in longer key.entry)
 
 abbrev pub pieces_of : List (List ℕ × ℕ) → List (List ℕ)
 pieces_of entries = map (λ e. e.0) entries
+
+-- a vocabulary after a piece came so many times more: its count rises by them, or it is added last
+abbrev pub counted_times : List ℕ → ℕ → List (List ℕ × ℕ) → List (List ℕ × ℕ)
+counted_times piece times [] = (piece, times) ∷ []
+counted_times piece times (e ∷ entries) =
+    if bytes_eq piece e.0 then (e.0, e.1 + times) ∷ entries else e ∷ counted_times piece times entries
 
 -- The pieces are distinct, each has at most 255 bytes and came at least once, and there are no more pieces, and they came no more often, than a vocabulary may hold.
 pub record IsVocabulary (entries : List (List ℕ × ℕ)) : Type 0 where

@@ -132,14 +132,6 @@ impl PieceKey {
         PieceKey::filled(NO_LENGTH, &[])
     }
 
-    // The key that these bytes are: a piece's length, and the piece where it has at most fifteen bytes.
-    #[inline]
-    pub(crate) fn of_entry(entry: &[u8; 16]) -> PieceKey
-        ensures { result.entry ≡ entry.now }
-    {
-        PieceKey { entry: *entry }
-    }
-
     /// So many bits, from 1 to 32, in which the bytes of the key are mixed.
     #[inline]
     pub(crate) fn mixed(&self, bits: u32) -> usize

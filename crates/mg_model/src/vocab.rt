@@ -1,16 +1,14 @@
 //! A vocabulary: distinct pieces, each with its count.
-ghost use Rattle.std.specs.Prelude.{◌≡◌, ◌+◌, ◌-◌, ◌<◌, ◌≤◌, ◌^◌, ◌↔◌, [], length, position, slice_get, slice_index, Some, false, true, IfOk, IsOk, OnOk, OnErr, IsErrOf};
+ghost use Rattle.std.specs.Prelude.{◌≡◌, ◌+◌, ◌-◌, ◌<◌, ◌≤◌, ◌^◌, ◌↔◌, [], length, position, slice_get, Some, false, true, IfOk, IsOk, OnOk, OnErr, IsErrOf};
 ghost use Rattle.std.specs.List.Sorted.{IsStrictlySortedBy};
-ghost use Rattle.std.specs.Bool.{OnFalse, OnTrue};
 ghost use Rattle.std.specs.Ordering.{nat_cmp};
 ghost use Rattle.std.specs.Cmp.Lexicographic.{slice_cmp};
 ghost use Rattle.std.specs.Str.{bytes_eq};
 ghost use Rattle.indexmap.specs.IndexMap.{keys};
 ghost use Rattle.mg_defs.specs.Vocabulary.{has_piece, counted, total, sorted_of, counts_of};
-ghost use Rattle.mg_model.specs.Blocks.{short_piece};
-ghost use Rattle.mg_model.specs.Vocabularies.{IsVocabulary, pieces_of, entry_counts};
+ghost use Rattle.mg_model.specs.Vocabularies.{IsVocabulary, counted_times, pieces_of, entry_counts};
 
-use crate::block::{SHORT, short_piece};
+use crate::block::SHORT;
 use crate::piece_key::{PieceKey, key_of, new_key, order, piece_of};
 use crate::recent::Recent;
 use crate::{Piece, VocabErr};
@@ -122,20 +120,19 @@ impl Vocab {
         ensures known { has_piece self.old piece.now ≡ true → IsOk result }
         ensures err { OnErr result (self.new ≡ self.old) }
     {
-        match self.count_placed(piece) {
-            Ok(_) => Ok(()),
-            Err(refusal) => Err(refusal),
-        }
+        self.count_times(piece, 1)
     }
 
-    /// The same, and it answers where the piece stands. Nothing is promised of that place: it is for
-    /// `count_entry`, which looks whether the piece is there.
+    /// Adds so many times, one or more, to the count of a piece of at most 255 bytes, or adds the piece
+    /// last with this count. With them fewer than 2^32 pieces are counted. It refuses what `count` does,
+    /// and after a refusal nothing changed.
     #[inline]
-    pub fn count_placed(&mut self, piece: &Piece<'_>) -> Result<u32, VocabErr>
-        requires total { total self.old < 2 ^ 32 - 1 }
+    pub fn count_times(&mut self, piece: &Piece<'_>, times: u32) -> Result<(), VocabErr>
+        requires some { 1 ≤ times }
+        requires total { total self.old + times < 2 ^ 32 }
         requires short { length piece.now ≤ 255 }
-        ensures counted { OnOk result (self.new ≡ counted piece.now self.old) }
-        ensures total { OnOk result (total self.new ≡ total self.old + 1) }
+        ensures counted { OnOk result (self.new ≡ counted_times piece.now times self.old) }
+        ensures total { OnOk result (total self.new ≡ total self.old + times) }
         ensures full { IsErrOf result VocabErr.TooMany ↔
             ((has_piece self.old piece.now ≡ false) × (length self.old ≡ 2 ^ 22)) }
         ensures known { has_piece self.old piece.now ≡ true → IsOk result }
@@ -143,57 +140,10 @@ impl Vocab {
     {
         match self.place_again(piece) {
             Some(place) => {
-                self.count_again(place as usize, piece);
-                Ok(place)
+                self.count_again(place as usize, piece, times);
+                Ok(())
             }
-            None => self.add(piece),
-        }
-    }
-
-    /// Adds one to the count of a piece of at most fifteen bytes where it stands at the place. The entry
-    /// is its length and the piece behind it, as a loaded model keeps it: so it is the piece's key.
-    /// False, and nothing changed, where another piece or none stands there.
-    #[inline(always)]
-    pub fn count_entry(&mut self, entry: &[u8; 16], place: u32) -> bool
-        requires total { total self.old < 2 ^ 32 - 1 }
-        requires short { slice_index entry.now 0 ≤ 15 }
-        ensures counted { OnTrue result (self.new ≡ counted (short_piece entry.now) self.old) }
-        ensures total { OnTrue result (total self.new ≡ total self.old + 1) }
-        ensures same { OnFalse result (self.new ≡ self.old) }
-    {
-        if !has_at(&self.counts, &PieceKey::of_entry(entry), place) {
-            return false;
-        }
-        self.count_again(place as usize, &Piece::alone(short_piece(entry)));
-        true
-    }
-
-    /// The same of any piece, whose bytes are compared. `count_entry` is faster.
-    #[inline]
-    pub fn count_piece_at(&mut self, piece: &[u8], place: u32) -> bool
-        requires total { total self.old < 2 ^ 32 - 1 }
-        requires short { length piece.now ≤ 255 }
-        ensures counted { OnTrue result (self.new ≡ counted piece.now self.old) }
-        ensures total { OnTrue result (total self.new ≡ total self.old + 1) }
-        ensures same { OnFalse result (self.new ≡ self.old) }
-    {
-        if !self.has_piece_at(piece, place) {
-            return false;
-        }
-        self.count_again(place as usize, &Piece::alone(piece));
-        true
-    }
-
-    // Whether a piece stands at a place.
-    #[inline]
-    fn has_piece_at(&self, piece: &[u8], place: u32) -> bool
-        ensures { result ≡ true → position (bytes_eq piece.now) (pieces_of self.now) ≡ Some place }
-    {
-        // For the proof: no two entries have the same key.
-        let _ = self.counts.len();
-        match self.counts.get_index(place as usize) {
-            Some((key, _)) => piece_of(&self.longer, key) == piece,
-            None => false,
+            None => self.add(piece, times),
         }
     }
 
@@ -209,26 +159,28 @@ impl Vocab {
         self.place_by_key(piece.bytes())
     }
 
-    // Adds one to the count of a piece that is there, at its place.
+    // Adds so many times to the count of a piece that is there, at its place.
     #[inline]
-    fn count_again(&mut self, place: usize, _piece: &Piece<'_>)
+    fn count_again(&mut self, place: usize, _piece: &Piece<'_>, times: u32)
         requires place { position (bytes_eq _piece.now) (pieces_of self.old) ≡ Some place }
-        requires total { total self.old < 2 ^ 32 - 1 }
+        requires some { 1 ≤ times }
+        requires total { total self.old + times < 2 ^ 32 }
         requires short { length _piece.now ≤ 255 }
-        ensures { self.new ≡ counted _piece.now self.old }
+        ensures { self.new ≡ counted_times _piece.now times self.old }
     {
         let Some(count) = self.counts.get_index_mut(place) else {
             return;
         };
-        *count += 1;
+        *count += times;
     }
 
-    // Adds a piece that is not there, last, and answers its place.
-    fn add(&mut self, piece: &Piece<'_>) -> Result<u32, VocabErr>
+    // Adds a piece that is not there, last, with this count.
+    fn add(&mut self, piece: &Piece<'_>, times: u32) -> Result<(), VocabErr>
         requires absent { has_piece self.old piece.now ≡ false }
-        requires total { total self.old < 2 ^ 32 - 1 }
+        requires some { 1 ≤ times }
+        requires total { total self.old + times < 2 ^ 32 }
         requires short { length piece.now ≤ 255 }
-        ensures counted { OnOk result (self.new ≡ counted piece.now self.old) }
+        ensures counted { OnOk result (self.new ≡ counted_times piece.now times self.old) }
         ensures full { IsErrOf result VocabErr.TooMany ↔ (length self.old ≡ 2 ^ 22) }
         ensures err { OnErr result (self.new ≡ self.old) }
     {
@@ -237,8 +189,8 @@ impl Vocab {
             return Err(VocabErr::TooMany);
         }
         let key = new_key(*self.counts.allocator(), &mut self.longer, piece)?;
-        self.counts.insert(key, 1)?;
-        Ok(place as u32)
+        self.counts.insert(key, times)?;
+        Ok(())
     }
 
     /// Sorts the entries by the bytes of their pieces.

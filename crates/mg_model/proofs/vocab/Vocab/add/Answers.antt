@@ -1,6 +1,6 @@
 use Rattle.std.proofs.Common.{rules, ◌≡◌, ◌^◌, ◌∙◌, Result, Ok, Err, OnErr, length, false, sym, ap, subst, arith}
-use Rattle.mg_defs.specs.Vocabulary.{has_piece, counted, total}
-use Rattle.mg_model.specs.Vocabularies.{IsKept, entries_of}
+use Rattle.mg_defs.specs.Vocabulary.{has_piece, total}
+use Rattle.mg_model.specs.Vocabularies.{IsKept, counted_times, entries_of}
 use Rattle.mg_model.proofs.Counting.{counted-new, length-entries, more-longer, still-kept}
 use Rattle.mg_model.proofs.vocab.Vocab.add.Goals as goal
 
@@ -47,14 +47,14 @@ pub invariant_of-self-2 : goal.invariant_of-self-2
 invariant_of-self-2 c =
     let es = c.self.inside.counts.entries in
     let none : has_piece (entries_of c.self.inside.longer.keys es) c.args.piece.now ≡ false = ap (λ x. has_piece x c.args.piece.now) c.self.view_is ∙ c.requires.absent in
-    (counted-new c.self.inside.longer.keys c.new_key.new.longer.keys c.args.piece.now es c.insert.new.self.entries c.in_ok-key.key c.new_key.ensures.extends c.in_ok-key.ensures.key
-    c.self.invariant none (omega (arith, ap total c.self.view_is, c.requires.total)) c.requires.short (omega (arith, c.len-place.ensures.len, c.if-place-ge-MOST_PIECES.false))
+    (counted-new c.self.inside.longer.keys c.new_key.new.longer.keys c.args.piece.now c.args.times es c.insert.new.self.entries c.in_ok-key.key c.new_key.ensures.extends c.in_ok-key.ensures.key
+    c.self.invariant none c.requires.some (omega (arith, ap total c.self.view_is, c.requires.total)) c.requires.short (omega (arith, c.len-place.ensures.len, c.if-place-ge-MOST_PIECES.false))
     c.in_ok-insert.ensures.entries).kept
 
 pub returns-clause-counted : goal.returns-clause-counted
 returns-clause-counted c =
     let es = c.self.inside.counts.entries in
     let none : has_piece (entries_of c.self.inside.longer.keys es) c.args.piece.now ≡ false = ap (λ x. has_piece x c.args.piece.now) c.self.view_is ∙ c.requires.absent in
-    (counted-new c.self.inside.longer.keys c.new_key.new.longer.keys c.args.piece.now es c.insert.new.self.entries c.in_ok-key.key c.new_key.ensures.extends c.in_ok-key.ensures.key
-    c.self.invariant none (omega (arith, ap total c.self.view_is, c.requires.total)) c.requires.short (omega (arith, c.len-place.ensures.len, c.if-place-ge-MOST_PIECES.false))
-    c.in_ok-insert.ensures.entries).entries ∙ ap (counted c.args.piece.now) c.self.view_is
+    (counted-new c.self.inside.longer.keys c.new_key.new.longer.keys c.args.piece.now c.args.times es c.insert.new.self.entries c.in_ok-key.key c.new_key.ensures.extends c.in_ok-key.ensures.key
+    c.self.invariant none c.requires.some (omega (arith, ap total c.self.view_is, c.requires.total)) c.requires.short (omega (arith, c.len-place.ensures.len, c.if-place-ge-MOST_PIECES.false))
+    c.in_ok-insert.ensures.entries).entries ∙ ap (counted_times c.args.piece.now c.args.times) c.self.view_is

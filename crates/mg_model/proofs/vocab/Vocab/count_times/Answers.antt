@@ -2,10 +2,10 @@ use Rattle.std.proofs.Common.{◌∙◌, ◌+◌, length, position, sym, ap}
 use Rattle.std.specs.Str.{bytes_eq}
 use Rattle.std.proofs.lemmas.Bool.{false≢true}
 use Rattle.std.proofs.lemmas.Result.{on_ok_weaker}
-use Rattle.mg_defs.specs.Vocabulary.{counted, has_piece, total}
-use Rattle.mg_model.specs.Vocabularies.{pieces_of}
+use Rattle.mg_defs.specs.Vocabulary.{has_piece, total}
+use Rattle.mg_model.specs.Vocabularies.{counted_times, pieces_of}
 use Rattle.mg_model.proofs.Counting.{has-no-place, has-place, total-counted}
-use Rattle.mg_model.proofs.vocab.Vocab.count_placed.Goals as goal
+use Rattle.mg_model.proofs.vocab.Vocab.count_times.Goals as goal
 
 -- ---- a piece that is there
 
@@ -13,10 +13,10 @@ pub count_again-requires-clause-place : goal.count_again-requires-clause-place
 count_again-requires-clause-place c = ap (λ v. position (bytes_eq c.args.piece.now) (pieces_of v)) c.in-Some.ensures.same ∙ sym c.in-Some.ensures.place
 
 pub returns-in-Some-clause-counted : goal.returns-in-Some-clause-counted
-returns-in-Some-clause-counted c = c.count_again.ensures ∙ ap (counted c.args.piece.now) c.in-Some.ensures.same
+returns-in-Some-clause-counted c = c.count_again.ensures ∙ ap (counted_times c.args.piece.now c.args.times) c.in-Some.ensures.same
 
 pub returns-in-Some-clause-total : goal.returns-in-Some-clause-total
-returns-in-Some-clause-total c = ap total c.count_again.ensures ∙ total-counted c.args.piece.now c.place_again.new.self ∙ ap (λ v. total v + 1) c.in-Some.ensures.same
+returns-in-Some-clause-total c = ap total c.count_again.ensures ∙ total-counted c.args.piece.now c.args.times c.place_again.new.self ∙ ap (λ v. total v + c.args.times) c.in-Some.ensures.same
 
 pub returns-in-Some-clause-full : goal.returns-in-Some-clause-full
 returns-in-Some-clause-full c =
@@ -29,11 +29,11 @@ pub add-requires-clause-absent : goal.add-requires-clause-absent
 add-requires-clause-absent c = ap (λ v. has_piece v c.args.piece.now) c.in-None.ensures.same ∙ has-no-place c.args.piece.now c.args.self.now c.in-None.ensures.place
 
 pub returns-in-None-clause-counted : goal.returns-in-None-clause-counted
-returns-in-None-clause-counted c = on_ok_weaker c.add.result (λ is. is ∙ ap (counted c.args.piece.now) c.in-None.ensures.same) c.add.ensures.counted
+returns-in-None-clause-counted c = on_ok_weaker c.add.result (λ is. is ∙ ap (counted_times c.args.piece.now c.args.times) c.in-None.ensures.same) c.add.ensures.counted
 
 pub returns-in-None-clause-total : goal.returns-in-None-clause-total
 returns-in-None-clause-total c =
-    on_ok_weaker c.add.result (λ is. ap total is ∙ total-counted c.args.piece.now c.place_again.new.self ∙ ap (λ v. total v + 1) c.in-None.ensures.same) c.add.ensures.counted
+    on_ok_weaker c.add.result (λ is. ap total is ∙ total-counted c.args.piece.now c.args.times c.place_again.new.self ∙ ap (λ v. total v + c.args.times) c.in-None.ensures.same) c.add.ensures.counted
 
 pub returns-in-None-clause-full : goal.returns-in-None-clause-full
 returns-in-None-clause-full c =
