@@ -29,7 +29,6 @@ mod text_model;
 mod vocab;
 mod vocab_err;
 
-pub use block::short_piece;
 pub use found_symbols::FoundSymbols;
 pub use laws::{
     codes_are_models, symbol_and_piece, terms_are_the_dictionary, vocabularies_sort,

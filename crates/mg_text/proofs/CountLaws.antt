@@ -41,7 +41,7 @@ if_done_map (Err failed) f h = tt
 
 -- ---- causes
 
-failed_more : {T : Type 0} (answer : Result T Failed) (a b c : ℕ) → a ≤ b → OnErr answer (Rose b c) → OnErr answer (Rose a c)
+pub failed_more : {T : Type 0} (answer : Result T Failed) (a b c : ℕ) → a ≤ b → OnErr answer (Rose b c) → OnErr answer (Rose a c)
 failed_more (Ok value) a b c le cause = tt
 failed_more (Err failed) a b c le cause = omega (arith, le, cause)
 
@@ -60,9 +60,9 @@ on_true_is false A is h = absurd cc
 -- ---- counts
 
 -- pairs behind others
-pub with_pairs_more : (one two : List Pair) (t : PieceTally) → with_pairs (one ++ two) t ≡ with_pairs two (with_pairs one t)
-with_pairs_more [] two t = refl
-with_pairs_more (p ∷ one) two t = with_pairs_more one two (with_pair p t)
+pub with_pairs_more : (code : TextCode) (one two : List Pair) (t : PieceTally) → with_pairs code (one ++ two) t ≡ with_pairs code two (with_pairs code one t)
+with_pairs_more code [] two t = refl
+with_pairs_more code (p ∷ one) two t = with_pairs_more code one two (with_pair code p t)
 
 -- ---- one step behind another
 
@@ -83,8 +83,8 @@ pub pair_counted : {before agrees : Type 0} (code : TextCode) (first : Bool) (an
 pair_counted code first answer {a} {b} {c} is word other = record {
   fits = other.fits;
   calm = calm_more _ _ _ _ _ _ word.calm other.calm;
-  told = if_done_map answer (λ told. λ p there. counts_both (codeword_of code.words p.word) (codeword_of code.others p.other) (with_piece Words p.word)
-      (with_piece Others p.other) a b c word.calm (on_true_is first (CountsPiece code Words a b) is word.told p.word there.word) (told p.other there.other)) other.told;
+  told = if_done_map answer (λ told. λ p there. counts_both (codeword_of code.words p.word) (codeword_of code.others p.other) (with_piece code Words p.word)
+      (with_piece code Others p.other) a b c word.calm (on_true_is first (CountsPiece code Words a b) is word.told p.word there.word) (told p.other there.other)) other.told;
   cause = failed_more answer _ _ _ word.calm.faults other.cause;
 }
 
@@ -110,8 +110,8 @@ one_more code {count} {i} answer {a} {b} {c} lt is_done first pair = record {
       let both = tells next.pair next.there (pair_small a.place b.place code ps i next here.0 small)
       (pair_shows _ _ _ _ a.place b.place code ps i next first.calm here.0 shows) in (
         omega (arith, here.0, both.0, ap length (bits_more code ps i next), length-append (coded_pairs code (take i ps)) (coded_pair code next.pair)),
-        both.1 ∙ ap (with_pair next.pair) here.1
-            ∙ sym (ap (λ l. with_pairs l a.counts) next.more ∙ with_pairs_more (take i ps) (next.pair ∷ []) a.counts),
+        both.1 ∙ ap (with_pair code next.pair) here.1
+            ∙ sym (ap (λ l. with_pairs code l a.counts) next.more ∙ with_pairs_more code (take i ps) (next.pair ∷ []) a.counts),
       );
   cause = tt;
 }
@@ -165,7 +165,7 @@ doc_counted code count answer {a} {b} {c} is_done same calm is pairs = record {
       let tells : CountsPairs code count b c = on_true_is answer (CountsPairs code count b c) is_done pairs.told in
       let rest = tells (parse doc) all head.0 (omega (arith, small, length-append x y, head.1))
       (shows_next _ _ _ _ a.place b.place x y calm head.1 shows) in
-      (head.0, rest.1 ∙ ap (with_pairs (parse doc)) same);
+      (head.0, rest.1 ∙ ap (with_pairs code (parse doc)) same);
   cause = tt;
 }
 
@@ -191,7 +191,7 @@ pub counts_told : {agrees : Type 0} (result : Result (Option ℕ) Failed) (r : T
     TextStands r files collection → 1 ≤ number → number ≤ r.documents → a.device.files ≡ files → from ≡ place_after r.code collection (number - 1) →
     place ≡ 8 * from → feed ≡ r.text → a.feed ≡ feeding_of 4096 feed → a.place ≡ place →
     CountSteps agrees (IfOk result (λ found. IfSome found (λ n. CountsDoc r.code n a c))) result a c →
-    CountsIfFound result number collection a.counts c.counts
+    CountsIfFound r.code result number collection a.counts c.counts
 counts_told (Err failed) r files collection number from place feed a c stands some within same at place_is fed feed_is there step = tt
 counts_told (Ok None) r files collection number from place feed a c stands some within same at place_is fed feed_is there step = tt
 counts_told (Ok (Some n)) r files collection number from place feed a c stands some within same at place_is fed feed_is there step =
@@ -231,7 +231,7 @@ pub count_done : (result : Result (Option ℕ) Failed) {tells : Type 0} {old : T
     old.text.part ≡ part.Text → old.places.part ≡ part.Places → ReadsPlace claim caused old.places places f g r s k m → text0 ≡ old.text →
     CountSteps (Fits text h) tells result (record { feed = feeding_of 4096 text0; place = p; device = of_store g m s; counts = counts })
     (record { feed = feeding_of 4096 text; place = q; device = of_store h n t; counts = counts_now }) →
-    ((collection : List ℕ) → TextStands old f collection → CountsIfFound result number collection counts counts_now) →
+    ((collection : List ℕ) → TextStands old f collection → CountsIfFound old.code result number collection counts counts_now) →
     CountsPieces number result old (with_feeds old text places) counts counts_now f h r t k n
 count_done result {old = old} {text0 = text0} {text = text} {places = places} {r = r} {s = s} {t = t} text_own own read same step told =
     let text_is : text0.part ≡ part.Text = ap (λ (feed : Paging). feed.part) same ∙ text_own in

@@ -19,7 +19,7 @@ use Rattle.mg_canon.specs.Pairs.{HeldSymbol, HeldSymbols, ahead}
 use Rattle.mg_text.specs.Decoding.{Gathering, IsIn, Keeps, PieceStood, ReadsHeld, StoodHeld}
 use Rattle.mg_text.specs.HeldPairs.{CameHeld, ShowsHeld}
 use Rattle.mg_text.specs.Listing.{Adds, ListedHeld, Listing, ListsHeld, symbol_if}
-use Rattle.mg_text.specs.PieceCounts.{CountsPair, CountsSymbol, PieceTally, count_moment, with_piece}
+use Rattle.mg_text.specs.PieceCounts.{CountsPair, PieceTally, count_moment, with_piece, with_symbol}
 use Rattle.mg_text.proofs.ListLaws.{held_listed}
 use Rattle.mg_text.proofs.ListedLaws.{held_came as listed_came}
 use Rattle.mg_text.proofs.PairLaws.{held_decoded, piece_number}
@@ -28,16 +28,16 @@ use Rattle.mg_text.proofs.ToldLaws.{from_code, held_came, piece_stood, symbol_is
 module _ {Fed : Type 0} {agrees : Fed → Option Files → Type 0} {feeding : Fed → Feeding} where
   -- ---- one of them
 
-  -- the piece whose codeword stands there is that of the symbol, and the reader goes behind it
+  -- the symbol is the number of the piece whose codeword stands there, and the reader goes behind it
   symbol_read : (code : StreamCode) → IsStreamCode code → {r r_now : Reading Fed} {symbol : ℕ} → HeldSymbol agrees feeding code.lengths r r_now symbol →
       (piece : List ℕ) → IsIn code piece → (d : Seen) → agrees r.feed d.files → Shows ((feeding r.feed).source d.files) r.place (codeword_of code piece) →
-      (slice_get code.pieces symbol ≡ Some piece) × (r_now.place ≡ r.place + length (codeword_of code piece))
+      (symbol ≡ number_of code.pieces piece) × (r_now.place ≡ r.place + length (codeword_of code piece))
   symbol_read code keeps {r} {r_now} {symbol} one piece is d fits shows =
       let number = number_of code.pieces piece in
       let below : number < length code.lengths = omega (arith, piece_number code piece is, keeps.each) in
       let got : symbol ≡ number = told_got (Below (length code.lengths)) (codeword code.lengths) (codewords_free code.lengths keeps.good) _ (Ok symbol) 1 r.place number
       below shows (one.told d.files fits) in
-      (ap (slice_get code.pieces) got ∙ is, one.place ∙ ap (λ x. r.place + length (codeword code.lengths x)) got)
+      (got, one.place ∙ ap (λ x. r.place + length (codeword code.lengths x)) got)
 
   module _ (code : StreamCode) (keeps : IsStreamCode code) {r r_now : Reading Fed} {symbol : ℕ} (one : HeldSymbol agrees feeding code.lengths r r_now symbol)
       {held : List ℕ} (at : slice_get code.pieces symbol ≡ Some held) where
@@ -62,15 +62,18 @@ module _ {Fed : Type 0} {agrees : Fed → Option Files → Type 0} {feeding : Fe
   -- their pieces are counted
   pub symbols_counted : (code : TextCode) → IsStreamCode code.words → IsStreamCode code.others → {r r_now : Reading Fed} {found : ℕ × ℕ} →
       HeldSymbols agrees feeding code.words.lengths code.others.lengths r r_now found → (d : Seen) → agrees r.feed d.files → (t mid_t t_now : PieceTally) →
-      CountsSymbol code.words Words found.0 t mid_t → CountsSymbol code.others Others found.1 mid_t t_now →
+      mid_t ≡ with_symbol Words found.0 t → t_now ≡ with_symbol Others found.1 mid_t →
       CountsPair code (count_moment feeding (λ (seen : Seen). seen) r d t) (count_moment feeding (λ (seen : Seen). seen) r_now d t_now)
   symbols_counted code in_words in_others {r} {r_now} {found} both d fits t mid_t t_now first second = λ p is small shows.
       let x = codeword_of code.words p.word in
       let y = codeword_of code.others p.other in
       let one = symbol_read code.words in_words both.one p.word is.word d fits (shows_left _ r.place x y shows) in
       let next = shows_right _ r.place (r.place + length (codeword code.words.lengths found.0)) x y one.1 shows in
-      let two = symbol_read code.others in_others both.two p.other is.other d fits next in
-      (omega (arith, one.1, two.1, length-append x y), second p.other two.0 ∙ ap (with_piece Others p.other) (first p.word one.0))
+      let two = symbol_read code.others in_others both.two p.other is.other d fits next in (
+        omega (arith, one.1, two.1, length-append x y),
+        second ∙ ap (with_symbol Others found.1) first ∙ ap (λ x. with_symbol Others found.1 (with_symbol Words x t)) one.0
+            ∙ ap (λ x. with_symbol Others x (with_piece code Words p.word t)) two.0,
+      )
 
   module _ (code : TextCode) (in_words : IsStreamCode code.words) (in_others : IsStreamCode code.others) {r r_now : Reading Fed} {found : ℕ × ℕ}
       (both : HeldSymbols agrees feeding code.words.lengths code.others.lengths r r_now found) {word other : List ℕ}

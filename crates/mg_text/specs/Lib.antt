@@ -7,3 +7,4 @@ pub mod Listing
 pub mod HeldPairs
 pub mod Stood
 pub mod PieceCounts
+pub mod CountedText

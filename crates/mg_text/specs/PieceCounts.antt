@@ -1,5 +1,5 @@
--- The pieces of documents, counted in two vocabularies: what counts have, and what counting the pieces of a document promises.
-use Rattle.std.specs.Prelude.{◌≡◌, ℕ, ◌+◌, ◌^◌, ◌≤◌, ◌<◌, Bool, List, [], ◌∷◌, Some, length, slice_get, take, IfOk, IfSome, OnErr}
+-- The pieces of documents, tallied by their symbols: what a tally has, and what tallying the pieces of a document promises.
+use Rattle.std.specs.Prelude.{◌≡◌, ℕ, ◌+◌, ◌^◌, ◌≤◌, ◌<◌, Bool, List, [], ◌∷◌, length, replicate, slice_index, slice_set, take, IfOk, IfSome, OnErr}
 use Rattle.std.specs.Bool.{OnTrue}
 use Rattle.std.specs.declared.option.Option.{Option}
 use Rattle.std.specs.declared.result.Result.{Result}
@@ -13,38 +13,49 @@ use Rattle.mg_bits.specs.Reading.{Reading}
 use Rattle.mg_defs.specs.declared.Stream.{Stream}
 use Rattle.mg_defs.specs.declared.Stream.TheVariants.{Words, Others}
 use Rattle.mg_defs.specs.Bits.{Bits, Shows}
-use Rattle.mg_defs.specs.CodedText.{StreamCode, TextCode, codeword_of, coded_doc, coded_pair}
+use Rattle.mg_defs.specs.CodedText.{TextCode, codeword_of, coded_doc, coded_pair}
 use Rattle.mg_defs.specs.Marks.{code_of}
 use Rattle.mg_defs.specs.Parse.{Pair, parse}
+use Rattle.mg_defs.specs.Sorted.{number_of}
 use Rattle.mg_defs.specs.Terms.{document}
-use Rattle.mg_defs.specs.Vocabulary.{counted}
 use Rattle.mg_text.specs.Decoding.{IsIn, PairIn, PairsIn, coded_pairs}
 use Rattle.mg_text.specs.Reading.{SameText, TextFits, TextReading, WhereTextStands}
 
--- ---- counts
+-- ---- tallies
 
--- the words and the others that were counted, each with its count
+-- how often each symbol of either stream came
 pub record PieceTally : Type 0 where
-  pub words : List (List ℕ × ℕ)
-  pub others : List (List ℕ × ℕ)
+  pub words : List ℕ
+  pub others : List ℕ
 
--- one piece more of a stream
-abbrev pub with_piece : Stream → List ℕ → PieceTally → PieceTally
-with_piece Words piece t = record { words = counted piece t.words; others = t.others }
-with_piece Others piece t = record { words = t.words; others = counted piece t.others }
+-- no symbol of a code came
+abbrev pub IsNoTally : TextCode → PieceTally → Type 0
+IsNoTally code t = (t.words ≡ replicate (length code.words.pieces) 0) × (t.others ≡ replicate (length code.others.pieces) 0)
 
--- the piece of a symbol of a code is counted
-abbrev pub CountsSymbol : StreamCode → Stream → ℕ → PieceTally → PieceTally → Type 0
-CountsSymbol code kind symbol old new = (piece : List ℕ) → slice_get code.pieces symbol ≡ Some piece → new ≡ with_piece kind piece old
+-- the number at this place is greater by one
+abbrev pub one_more : ℕ → List ℕ → List ℕ
+one_more place numbers = slice_set numbers place (slice_index numbers place + 1)
+
+-- one symbol more of a stream
+abbrev pub with_symbol : Stream → ℕ → PieceTally → PieceTally
+with_symbol Words symbol t = record { words = one_more symbol t.words; others = t.others }
+with_symbol Others symbol t = record { words = t.words; others = one_more symbol t.others }
+
+-- one piece more of a stream: that of its number in the code
+abbrev pub with_piece : TextCode → Stream → List ℕ → PieceTally → PieceTally
+with_piece code kind piece t = with_symbol kind (number_of (code_of kind code).pieces piece) t
 
 -- the word and the other of a pair
-abbrev pub with_pair : Pair → PieceTally → PieceTally
-with_pair p t = record { words = counted p.word t.words; others = counted p.other t.others }
+abbrev pub with_pair : TextCode → Pair → PieceTally → PieceTally
+with_pair code p t = record {
+  words = one_more (number_of code.words.pieces p.word) t.words;
+  others = one_more (number_of code.others.pieces p.other) t.others;
+}
 
 -- those of pairs
-abbrev pub with_pairs : List Pair → PieceTally → PieceTally
-with_pairs [] t = t
-with_pairs (p ∷ ps) t = with_pairs ps (with_pair p t)
+abbrev pub with_pairs : TextCode → List Pair → PieceTally → PieceTally
+with_pairs code [] t = t
+with_pairs code (p ∷ ps) t = with_pairs code ps (with_pair code p t)
 
 -- ---- steps
 
@@ -70,28 +81,28 @@ Counts bits change old new = old.place + length bits ≤ 2 ^ 63 → Shows (old.f
 -- the piece whose codeword stands there is counted
 abbrev pub CountsPiece : TextCode → Stream → CountStep
 CountsPiece code kind old new = (piece : List ℕ) → IsIn (code_of kind code) piece →
-    Counts (codeword_of (code_of kind code) piece) (with_piece kind piece) old new
+    Counts (codeword_of (code_of kind code) piece) (with_piece code kind piece) old new
 
 -- the pair whose codewords stand there
 abbrev pub CountsPair : TextCode → CountStep
-CountsPair code old new = (p : Pair) → PairIn code p → Counts (coded_pair code p) (with_pair p) old new
+CountsPair code old new = (p : Pair) → PairIn code p → Counts (coded_pair code p) (with_pair code p) old new
 
 -- the pairs, so many, whose codewords stand there
 abbrev pub CountsPairs : TextCode → ℕ → CountStep
 CountsPairs code count old new = (ps : List Pair) → PairsIn code ps → count ≡ length ps →
-    Counts (coded_pairs code ps) (with_pairs ps) old new
+    Counts (coded_pairs code ps) (with_pairs code ps) old new
 
 -- the first pairs, so many, of those whose codewords stand there
 abbrev pub CountsFirst : TextCode → ℕ → ℕ → CountStep
 CountsFirst code count done old new = (ps : List Pair) → PairsIn code ps → count ≡ length ps →
     old.place + length (coded_pairs code ps) ≤ 2 ^ 63 → Shows (old.feed.source old.device.files) old.place (coded_pairs code ps) →
-    (new.place ≡ old.place + length (coded_pairs code (take done ps))) × (new.counts ≡ with_pairs (take done ps) old.counts)
+    (new.place ≡ old.place + length (coded_pairs code (take done ps))) × (new.counts ≡ with_pairs code (take done ps) old.counts)
 
 -- the document whose bits stand there, of so many pairs
 abbrev pub CountsDoc : TextCode → ℕ → CountStep
 CountsDoc code count old new = (doc : List ℕ) → PairsIn code (parse doc) → length (parse doc) < 2 ^ 32 →
     old.place + length (coded_doc code doc) ≤ 2 ^ 63 → Shows (old.feed.source old.device.files) old.place (coded_doc code doc) →
-    (count ≡ length (parse doc)) × (new.counts ≡ with_pairs (parse doc) old.counts)
+    (count ≡ length (parse doc)) × (new.counts ≡ with_pairs code (parse doc) old.counts)
 
 -- what every step of counting promises: it tells nothing where it was not done
 pub record CountSteps {T : Type 0} (agrees tells : Type 0) (answer : Result T Failed) (old new : CountMoment) : Type 0 where
@@ -120,15 +131,15 @@ CountsSome answer tells feeding fits device r r_now d d_now counts counts_now = 
 
 -- ---- a document
 
--- a document of a collection has so many pairs, and their pieces were counted
-abbrev pub CountsDocument : ℕ → List ℕ → ℕ → PieceTally → PieceTally → Type 0
-CountsDocument number collection count old new = (count ≡ length (parse (document collection number)))
-    × (new ≡ with_pairs (parse (document collection number)) old)
+-- a document of a collection has so many pairs, and their pieces were tallied
+abbrev pub CountsDocument : TextCode → ℕ → List ℕ → ℕ → PieceTally → PieceTally → Type 0
+CountsDocument code number collection count old new = (count ≡ length (parse (document collection number)))
+    × (new ≡ with_pairs code (parse (document collection number)) old)
 
--- the same, where it was counted
-abbrev pub CountsIfFound : Result (Option ℕ) Failed → ℕ → List ℕ → PieceTally → PieceTally → Type 0
-CountsIfFound result number collection old new = IfOk result (λ found. IfSome found (λ count.
-    CountsDocument number collection count old new))
+-- the same, where it was tallied
+abbrev pub CountsIfFound : TextCode → Result (Option ℕ) Failed → ℕ → List ℕ → PieceTally → PieceTally → Type 0
+CountsIfFound code result number collection old new = IfOk result (λ found. IfSome found (λ count.
+    CountsDocument code number collection count old new))
 
 -- what counting the pieces of a document promises
 pub record CountsPieces (number : ℕ) (result : Result (Option ℕ) Failed) (old new : TextReading) (counts counts_now : PieceTally)
@@ -140,7 +151,7 @@ pub record CountsPieces (number : ℕ) (result : Result (Option ℕ) Failed) (ol
     pub same : SameText old new
     -- nothing is read but Text and Places, and no file changes
     pub looked : LookedAt part.Text part.Places files_before files_now reads_before reads_now faults_before faults_now
-    -- the pieces of the document were counted, and its pairs are told
-    pub counted : WhereTextStands old files_before (λ collection. CountsIfFound result number collection counts counts_now)
+    -- the pieces of the document were tallied, and its pairs are told
+    pub counted : WhereTextStands old files_before (λ collection. CountsIfFound old.code result number collection counts counts_now)
     -- a refusal has its cause
     pub cause : HasCause faults_before faults_now result

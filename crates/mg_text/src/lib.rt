@@ -19,8 +19,11 @@ mod reader_laws;
 mod reader_parts;
 mod show_buffer;
 mod stream_counts;
+mod stream_tally;
 mod symbols;
+mod text_counter;
 mod text_reader;
+mod text_tally;
 mod word_list;
 mod word_lister;
 
@@ -29,5 +32,6 @@ pub use held_document::HeldDocument;
 pub use piece_counts::PieceCounts;
 pub use reader_laws::texts_stand;
 pub use show_buffer::ShowBuffer;
+pub use text_counter::count_text;
 pub use text_reader::TextReader;
 pub use word_list::WordList;

@@ -7,8 +7,8 @@ ghost use Rattle.std.specs.Bool.{OnFalse, OnTrue};
 ghost use Rattle.mg_dev.specs.declared.part_err.PartErr.TheVariants.{Device};
 ghost use Rattle.mg_text.specs.PieceCounts.{CountsDoc, CountsIf, CountsPair, CountsPairs, CountsPiece, CountsSome};
 
-use crate::piece_counts::PieceCounts;
 use crate::symbols::{get_count, get_symbol, held_symbols};
+use crate::text_tally::TextTally;
 use mg_bits::{BitReader, Feed};
 use mg_dev::{Failed, PartErr};
 use mg_model::{Stream, TextModel};
@@ -31,7 +31,7 @@ fn count_piece<F: Feed>(
     stream: Stream,
     r: &mut BitReader<F>,
     dev: &mut F::Dev,
-    counts: &mut PieceCounts,
+    counts: &mut TextTally,
 ) -> Result<bool, Failed>
     requires fits { F.fits r.old.feed (F.device dev.old).files }
     ensures { CountsIf result (CountsPiece model.now stream) F.feeding F.fits F.device
@@ -47,7 +47,7 @@ fn count_piece<F: Feed>(
             return Ok(false);
         }
     };
-    Ok(counts.count(stream, model.piece(stream, symbol)))
+    Ok(counts.count(stream, symbol))
 }
 
 /// Counts the word and the other of a pair. It stands apart so that `count_pairs` is short where
@@ -57,7 +57,7 @@ fn count_pair<F: Feed>(
     model: &TextModel,
     r: &mut BitReader<F>,
     dev: &mut F::Dev,
-    counts: &mut PieceCounts,
+    counts: &mut TextTally,
 ) -> Result<bool, Failed>
     requires fits { F.fits r.old.feed (F.device dev.old).files }
     ensures { CountsIf result (CountsPair model.now) F.feeding F.fits F.device
@@ -80,7 +80,7 @@ fn count_next<F: Feed>(
     model: &TextModel,
     r: &mut BitReader<F>,
     dev: &mut F::Dev,
-    counts: &mut PieceCounts,
+    counts: &mut TextTally,
 ) -> Result<bool, Failed>
     requires fits { F.fits r.old.feed (F.device dev.old).files }
     ensures { CountsIf result (CountsPair model.now) F.feeding F.fits F.device
@@ -92,10 +92,10 @@ fn count_next<F: Feed>(
         Some(symbols) => symbols,
         None => return count_pair(model, r, dev, counts),
     };
-    if !counts.count_symbol(model, Stream::Words, first) {
+    if !counts.count(Stream::Words, first) {
         return Ok(false);
     }
-    Ok(counts.count_symbol(model, Stream::Others, second))
+    Ok(counts.count(Stream::Others, second))
 }
 
 /// Counts so many pairs.
@@ -103,7 +103,7 @@ fn count_pairs<F: Feed>(
     model: &TextModel,
     r: &mut BitReader<F>,
     dev: &mut F::Dev,
-    counts: &mut PieceCounts,
+    counts: &mut TextTally,
     count: u32,
 ) -> Result<bool, Failed>
     requires fits { F.fits r.old.feed (F.device dev.old).files }
@@ -127,13 +127,13 @@ pub fn count_doc<F: Feed>(
     model: &TextModel,
     r: &mut BitReader<F>,
     dev: &mut F::Dev,
-    counts: &mut PieceCounts,
+    counts: &mut TextTally,
 ) -> Result<Option<u32>, Failed>
     requires fits { F.fits r.old.feed (F.device dev.old).files }
     ensures { CountsSome result (CountsDoc model.now) F.feeding F.fits F.device
         r.old r.new dev.old dev.new counts.old counts.new }
 {
-    counts.begin(model);
+    counts.begin();
     let count = match get_count(r, dev) {
         Ok(count) => count,
         Err(refusal) => {

@@ -8,7 +8,6 @@ ghost use Rattle.mg_dev.specs.Moments.{sink_at};
 ghost use Rattle.mg_text.specs.Decoding.{AddsOf, ForShown, IsPutCaused, Keeps, PutsPiece, bytes_to_come};
 
 use mg_dev::{Bad, Part, PartErr, PutErr, ShowErr, Sink, refused_put};
-use mg_model::short_piece;
 use std::alloc::{AllocError, Global};
 use std::marker::Model;
 
@@ -140,7 +139,7 @@ impl ShowBuffer {
             self.keep_short(entry);
             return Ok(());
         }
-        self.put(out, short_piece(entry))
+        self.put(out, &entry[1..1 + usize::from(entry[0])])
     }
 
     /// Holds the pieces of two entries, one behind the other. False, and nothing changed, where there

@@ -1,10 +1,10 @@
 //! Counts of the pieces of one stream.
-ghost use Rattle.std.specs.Prelude.{◌≡◌, ◌<◌, ◌≤◌, ◌+◌, ◌^◌, [], length, slice_index};
-ghost use Rattle.std.specs.Bool.{OnFalse, OnTrue};
-ghost use Rattle.mg_defs.specs.Vocabulary.{counted};
-ghost use Rattle.mg_model.specs.Blocks.{short_piece};
+ghost use Rattle.std.specs.Prelude.{◌≡◌, ◌<◌, ◌≤◌, ◌+◌, ◌^◌, ℕ, List, [], length};
+ghost use Rattle.std.specs.Bool.{OnTrue};
+ghost use Rattle.mg_defs.specs.Marks.{code_of};
+ghost use Rattle.mg_text.specs.CountedText.{AllCame, ComeMore, ComesMore};
 
-use mg_model::{Piece, Vocab, short_piece};
+use mg_model::{Piece, Stream, TextModel, Vocab};
 use std::alloc::Global;
 use std::marker::Model;
 
@@ -12,17 +12,13 @@ use std::marker::Model;
 const MOST: u32 = u32::MAX;
 
 /// The pieces of a stream, each with how often it came.
-///
-/// It keeps where the piece of a symbol stood when it was counted last, so that few are looked up.
-/// Nothing is promised of these places: another text's symbols stand for other pieces, and the
-/// vocabulary looks whether the piece is there.
 #[derive(Drop)]
 pub struct StreamCounts {
     vocab: Vocab,
-    // By symbols. Where memory lacked for them there are too few, and pieces are looked up.
-    places: Vec<u32>,
     // How many more may come.
     left: u32,
+    // How many bytes all pieces have. Nothing is promised of it.
+    bytes: u64,
 }
 
 impl Model for StreamCounts {
@@ -36,13 +32,6 @@ impl Model for StreamCounts {
     ghost invariant = { λ c. total c.vocab + c.left < 2 ^ 32 };
 }
 
-// The place that is kept for a symbol, or none that is known of it.
-#[inline(always)]
-fn kept_place(places: &[u32], symbol: u32) -> u32 {
-    let at = symbol as usize;
-    if at < places.len() { places[at] } else { 0 }
-}
-
 impl StreamCounts {
     /// No piece was counted.
     pub(crate) fn new(alloc: Global) -> Self
@@ -50,122 +39,67 @@ impl StreamCounts {
     {
         StreamCounts {
             vocab: Vocab::new(alloc),
-            places: Vec::new(alloc),
             left: MOST,
+            bytes: 0,
         }
     }
 
-    /// Makes room for the places of so many symbols, where there is memory for them.
-    pub(crate) fn make_room(&mut self, symbols: u32)
-        ensures { self.new ≡ self.old }
-    {
-        let symbols = symbols as usize;
-        if symbols <= self.places.len() {
-            return;
-        }
-        let alloc = *self.places.allocator();
-        if let Ok(places) = vec![in alloc; 0; symbols] {
-            self.places = places;
-        }
-    }
-
-    /// Counts a piece of at most 255 bytes. False where there are too many pieces, or no memory.
-    pub(crate) fn count(&mut self, piece: &[u8]) -> bool
+    // Counts a piece of at most 255 bytes that came so many times. False where there are too many
+    // pieces, or no memory.
+    fn put(&mut self, piece: &[u8], times: u32) -> bool
         requires short { length piece.now ≤ 255 }
-        ensures { OnTrue result (self.new ≡ counted piece.now self.old) }
+        ensures { OnTrue result (ComesMore piece.now times self.old self.new) }
     {
-        if self.left == 0 {
-            return false;
-        }
-        self.left -= 1;
-        match self.vocab.count(&Piece::alone(piece)) {
-            Ok(()) => true,
-            Err(_) => false,
-        }
-    }
-
-    /// The same, of the piece of a symbol. It is looked for first where it stood last.
-    #[inline(never)]
-    pub(crate) fn count_piece(&mut self, symbol: u32, piece: &[u8]) -> bool
-        requires short { length piece.now ≤ 255 }
-        ensures { OnTrue result (self.new ≡ counted piece.now self.old) }
-    {
-        if self.left == 0 {
-            return false;
-        }
-        let place = kept_place(&self.places, symbol);
-        if self.vocab.count_piece_at(piece, place) {
-            self.left -= 1;
+        if times == 0 {
             return true;
         }
-        self.count_placed(symbol, piece)
-    }
-
-    // Counts the piece of a symbol, and keeps the place at which it stands.
-    #[inline(never)]
-    fn count_placed(&mut self, symbol: u32, piece: &[u8]) -> bool
-        requires short { length piece.now ≤ 255 }
-        ensures { OnTrue result (self.new ≡ counted piece.now self.old) }
-    {
-        if self.left == 0 {
+        if times > self.left {
             return false;
         }
-        self.left -= 1;
-        match self.vocab.count_placed(&Piece::alone(piece)) {
-            Ok(place) => {
-                self.keep(symbol, place);
-                true
-            }
-            Err(_) => false,
-        }
+        self.left -= times;
+        let bytes = u64::from(times) * piece.len() as u64;
+        self.bytes = self.bytes.saturating_add(bytes);
+        let put = self.vocab.count_times(&Piece::alone(piece), times);
+        put.is_ok()
     }
 
-    // Keeps the place at which the piece of a symbol stands.
-    #[inline]
-    fn keep(&mut self, symbol: u32, place: u32)
-        ensures { self.new ≡ self.old }
-    {
-        let at = symbol as usize;
-        if at < self.places.len() {
-            self.places[at] = place;
-        }
-    }
-
-    /// The same, of a piece of at most fifteen bytes that its entry holds.
-    #[inline(always)]
-    pub(crate) fn count_entry(&mut self, symbol: u32, entry: &[u8; 16]) -> bool
-        requires short { slice_index entry.now 0 ≤ 15 }
-        ensures { OnTrue result (self.new ≡ counted (short_piece entry.now) self.old) }
-    {
-        if self.count_again(symbol, entry) {
-            return true;
-        }
-        self.count_placed(symbol, short_piece(entry))
-    }
-
-    // Counts the piece of an entry where it stood last. At `false` nothing changed.
-    #[inline(always)]
-    fn count_again(&mut self, symbol: u32, entry: &[u8; 16]) -> bool
-        requires short { slice_index entry.now 0 ≤ 15 }
-        ensures counted { OnTrue result (self.new ≡ counted (short_piece entry.now) self.old) }
-        ensures same { OnFalse result (self.new ≡ self.old) }
-    {
-        if self.left == 0 {
-            return false;
-        }
-        let place = kept_place(&self.places, symbol);
-        if !self.vocab.count_entry(entry, place) {
-            return false;
-        }
-        self.left -= 1;
-        true
+    /// How many bytes all pieces have. Nothing is promised of it.
+    pub(crate) fn bytes(&self) -> u64 {
+        self.bytes
     }
 
     /// The vocabulary.
     pub(crate) fn into_vocab(self) -> Vocab
-        ensures { result ≡ self }
+        ensures same { result ≡ self }
+        ensures came { AllCame self }
     {
         let StreamCounts { vocab, .. } = self;
+        // For the proof: each piece of a vocabulary came.
+        let _ = vocab.len();
         vocab
     }
+}
+
+/// Counts the piece of each symbol of a model as often as the symbol came. False where there are too
+/// many pieces, or no memory, or not as many symbols as the model has.
+pub fn put_all(
+    counts: &mut StreamCounts,
+    model: &TextModel,
+    stream: Stream,
+    symbols: &[u32],
+) -> bool
+    ensures { OnTrue result (ComeMore (code_of stream model.now).pieces symbols.now
+        counts.old counts.new) }
+{
+    let count = model.canon(stream).count();
+    if symbols.len() != count as usize {
+        return false;
+    }
+    for symbol in 0..count {
+        let put = counts.put(model.piece(stream, symbol), symbols[symbol as usize]);
+        if !put {
+            return false;
+        }
+    }
+    true
 }

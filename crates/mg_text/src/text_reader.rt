@@ -16,11 +16,11 @@ ghost use Rattle.mg_dev.specs.Streams.{AfterPut};
 
 use crate::decoder::{gather_doc, show_doc};
 use crate::piece_counter::{count_doc, is_failure};
-use crate::piece_counts::PieceCounts;
 use crate::piece_kinds::has_pieces_of;
 use crate::places::{first_byte, width_of};
 use crate::reader_parts::ReaderParts;
 use crate::show_buffer::ShowBuffer;
+use crate::text_tally::TextTally;
 use crate::word_list::WordList;
 use crate::word_lister::list_doc;
 use mg_bits::{BitReader, PageFeed};
@@ -295,18 +295,14 @@ impl<'a, S: Store> TextReader<'a, S> {
         has_pieces_of(&self.model, Stream::Words) && has_pieces_of(&self.model, Stream::Others)
     }
 
-    /// Counts the pieces of a document, from 1 to the number of documents, and answers how many pairs it has. None where
-    /// the text is damaged or its pieces come as in no document, memory is wanted or there are too many pieces: then the
-    /// counts are of no use, and it is not told why. The reader stays of use whatever it answers.
-    ///
-    /// # Errors
-    ///
-    /// `Failed` where the store failed.
-    pub fn count(
+    // Counts the symbols of a document, from 1 to the number of documents, and answers how many pairs it has. None where
+    // the text is damaged, its pieces come as in no document or a symbol came too often: then the tally is of no use, and
+    // it is not told why.
+    pub(crate) fn tally(
         &mut self,
         store: &mut S,
         number: u32,
-        counts: &mut PieceCounts,
+        counts: &mut TextTally,
     ) -> Result<Option<u32>, Failed>
         requires { CanRead self.old (S.files store.old) number }
         ensures { Between S.files S.reads S.faults store.old store.new
@@ -325,6 +321,13 @@ impl<'a, S: Store> TextReader<'a, S> {
         };
         self.text.seek(8 * byte);
         count_doc(&self.model, &mut self.text, store, counts)
+    }
+
+    /// How many documents there are.
+    pub(crate) fn documents(&self) -> u32
+        ensures { result ≡ self.now.documents }
+    {
+        self.documents
     }
 
     /// The models of both streams, as they were loaded.

@@ -1,8 +1,7 @@
-use Rattle.std.proofs.Common.{arith, ◌≡◌, ◌<◌, ℕ, length, Some, sym, ◌∙◌, ap}
-use Rattle.std.specs.Prelude.{slice_get}
+use Rattle.std.proofs.Common.{arith, ◌<◌, ℕ, length, ◌∙◌, ap}
 use Rattle.mg_defs.specs.Marks.{code_of}
 use Rattle.mg_defs.specs.Sorted.{number_of}
-use Rattle.mg_text.specs.PieceCounts.{with_piece}
+use Rattle.mg_text.specs.PieceCounts.{with_symbol}
 use Rattle.mg_text.proofs.CountLaws.{number_failed, on_true_map}
 use Rattle.mg_text.proofs.PairLaws.{piece_number}
 use Rattle.mg_text.proofs.piece_counter.count_piece.Goals as goal
@@ -25,8 +24,6 @@ returns g c =
           let number = number_of code.pieces piece in
           let below : number < length code.lengths = omega (arith, piece_number code piece there, c.canon.ensures.keeps.each) in
           let read = (rw c.canon.ensures.lengths at c.in-Ok.ensures.told) number below small shows in
-          let found : slice_get code.pieces number ≡ Some c.piece.result.now = ap (slice_get code.pieces) (sym read.0) ∙ c.piece.ensures.piece in
-          let same : c.piece.result.now ≡ piece = cc (found, there) in
-          (read.1, is ∙ ap (λ p. with_piece c.args.stream p c.args.counts.now) same)) c.count.ensures;
+          (read.1, is ∙ ap (λ symbol. with_symbol c.args.stream symbol c.args.counts.now) read.0)) c.count.ensures;
       cause = tt;
     }

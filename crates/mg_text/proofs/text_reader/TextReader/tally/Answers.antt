@@ -2,7 +2,7 @@ use Rattle.std.proofs.Common.{◌-◌, ℕ, refl}
 use Rattle.mg_defs.specs.CodedText.{place_after}
 use Rattle.mg_text.proofs.CountLaws.{count_done, count_failed, count_refused, counts_told, number_failed}
 use Rattle.mg_text.proofs.ReaderLaws.{place_wanted}
-use Rattle.mg_text.proofs.text_reader.TextReader.count.Goals as goal
+use Rattle.mg_text.proofs.text_reader.TextReader.tally.Goals as goal
 
 pub returns-then-failed : goal.returns-then-failed
 returns-then-failed g c =
