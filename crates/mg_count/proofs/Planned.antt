@@ -12,7 +12,7 @@ use Rattle.mg_defs.specs.Means.{IsStreamCode}
 use Rattle.mg_defs.specs.Parse.{parse}
 use Rattle.mg_defs.specs.Split.{documents}
 use Rattle.mg_defs.specs.Terms.{dictionary}
-use Rattle.mg_defs.specs.Vocabulary.{all_pieces, counts_of, sorted_of, sorted_pieces, vocabulary}
+use Rattle.mg_defs.specs.Vocabulary.{all_pieces, counts_of, piece_counts, sorted_of, sorted_pieces, vocabulary}
 use Rattle.mg_defs.proofs.VocabularyLaws.{collection-symbols}
 use Rattle.mg_model.specs.Terms.{TermNumbers, terms_and_numbers}
 use Rattle.mg_count.specs.Counting.{Counting, IsCountOf}
@@ -67,14 +67,12 @@ plan-is laws p collection few h table =
 
 -- ---- what was counted otherwise
 
-counted-code : (kind : Stream) (collection : List ℕ) (entries : List (List ℕ × ℕ)) (code : StreamCode) → entries ≡ vocabulary (all_pieces kind collection) →
-    code.pieces ≡ sorted_of entries → IsHuffman (counts_of entries) code.lengths → IsCodeOf kind collection code
-counted-code kind collection entries code is pieces lengths =
-    let symbols = collection-symbols kind collection in
-    record {
-      pieces = pieces ∙ ap sorted_of is ∙ symbols.0;
-      lengths = subst (λ (counts : List ℕ). IsHuffman counts code.lengths) (ap counts_of is ∙ symbols.1) lengths;
-    }
+counted-code : (kind : Stream) (collection : List ℕ) (entries : List (List ℕ × ℕ)) (code : StreamCode) → sorted_of entries ≡ sorted_pieces kind collection →
+    counts_of entries ≡ piece_counts kind collection → code.pieces ≡ sorted_of entries → IsHuffman (counts_of entries) code.lengths → IsCodeOf kind collection code
+counted-code kind collection entries code are counts pieces lengths = record {
+  pieces = pieces ∙ are;
+  lengths = subst (λ (found : List ℕ). IsHuffman found code.lengths) counts lengths;
+}
 
 pub plan-of-counts : ((collection : List ℕ) → (terms_and_numbers (sorted_pieces Words collection)).terms ≡ dictionary collection) →
     (words others : List (List ℕ × ℕ)) (p : Plan) (collection : List ℕ) → length p.pairs ≤ 2 ^ 24 → IsStreamCode p.code.words → IsStreamCode p.code.others →
@@ -82,8 +80,8 @@ pub plan-of-counts : ((collection : List ℕ) → (terms_and_numbers (sorted_pie
     IsHuffman (counts_of words) p.code.words.lengths → IsHuffman (counts_of others) p.code.others.lengths → p.terms ≡ terms_and_numbers p.code.words.pieces →
     IsPlanOf p collection
 plan-of-counts terms words others p collection few word_code other_code h word_pieces other_pieces word_lengths other_lengths table =
-    let of_words = counted-code Words collection words p.code.words h.words_are word_pieces word_lengths in
-    let of_others = counted-code Others collection others p.code.others h.others_are other_pieces other_lengths in
+    let of_words = counted-code Words collection words p.code.words h.words_are h.word_counts word_pieces word_lengths in
+    let of_others = counted-code Others collection others p.code.others h.others_are h.other_counts other_pieces other_lengths in
     record {
       limits = record {
         bytes = omega (arith, h.few);

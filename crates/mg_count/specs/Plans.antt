@@ -5,7 +5,7 @@ use Rattle.mg_defs.specs.WithinLimits.{IsWithinLimits}
 use Rattle.mg_defs.specs.Marks.{pair_counts}
 use Rattle.mg_defs.specs.Means.{IsModel}
 use Rattle.mg_defs.specs.Split.{has_open_end}
-use Rattle.mg_defs.specs.Vocabulary.{all_pieces, vocabulary}
+use Rattle.mg_defs.specs.Vocabulary.{counts_of, piece_counts, sorted_of, sorted_pieces}
 use Rattle.mg_defs.specs.declared.Stream.TheVariants.{Words, Others}
 use Rattle.mg_defs.specs.Terms.{dictionary}
 use Rattle.mg_model.specs.Terms.{TermNumbers, terms_and_numbers}
@@ -43,11 +43,13 @@ pub record IsPlanOf (p : Plan) (collection : List ℕ) : Type 0 where
   pub terms : p.terms.terms ≡ dictionary collection
   pub open_end : p.open_end ≡ has_open_end collection
 
--- These are the words, the others and the pairs of each document of a collection of fewer than 2^32 bytes.
+-- These are the words and the others of a collection of fewer than 2^32 bytes, in any order, each with how often it comes, and the pairs of each document.
 pub record AreCountsOf (words others : List (List ℕ × ℕ)) (pairs : List ℕ) (open_end : Bool) (collection : List ℕ) : Type 0 where
   pub few : length collection < 2 ^ 32
-  pub words_are : words ≡ vocabulary (all_pieces Words collection)
-  pub others_are : others ≡ vocabulary (all_pieces Others collection)
+  pub words_are : sorted_of words ≡ sorted_pieces Words collection
+  pub others_are : sorted_of others ≡ sorted_pieces Others collection
+  pub word_counts : counts_of words ≡ piece_counts Words collection
+  pub other_counts : counts_of others ≡ piece_counts Others collection
   pub pairs_are : pairs ≡ pair_counts collection
   pub end : open_end ≡ has_open_end collection
 
