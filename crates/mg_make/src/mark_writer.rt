@@ -13,6 +13,7 @@ ghost use Rattle.mg_make.specs.Written.{OfSecond};
 use crate::inverter::{Inverted, Inverter};
 use mg_count::Met;
 use mg_dev::{Fault, Store};
+use mg_model::Piece;
 use mg_parse::Stream;
 use mg_runs::runs_stay;
 
@@ -35,7 +36,7 @@ pub(crate) trait MarkWriter<'a, S: Store> {
         store: &mut S,
         is_met: bool,
         stream: Stream,
-        piece: &[u8],
+        piece: &Piece<'_>,
     ) -> Result<(), Fault>
         requires next { IsNext (pass self.old) (S.files store.old)
             (piece_if is_met stream piece.now) }
@@ -70,7 +71,7 @@ pub(crate) fn put_marks<'a, S: Store, W: MarkWriter<'a, S>>(
         (PassStep (W.pass writer.old) (W.pass writer.new) (marks_of met.now) result) }
 {
     if met.is_piece_alone() {
-        return writer.piece_if(store, true, met.kind(), met.piece());
+        return writer.piece_if(store, true, met.kind(), &Piece::alone(met.piece()));
     }
     put_each(writer, store, met)
 }
@@ -81,7 +82,7 @@ pub(crate) fn put_piece<'a, S: Store, W: MarkWriter<'a, S>>(
     writer: &mut W,
     store: &mut S,
     stream: Stream,
-    piece: &[u8],
+    piece: &Piece<'_>,
 ) -> Result<(), Fault>
     requires next { IsNext (W.pass writer.old) (S.files store.old)
         (piece_mark stream piece.now ∷ []) }
@@ -104,8 +105,13 @@ fn put_each<'a, S: Store, W: MarkWriter<'a, S>>(
         (PassStep (W.pass writer.old) (W.pass writer.new) (marks_of met.now) result) }
 {
     writer.begin_if(store, met.begins())?;
-    writer.piece_if(store, met.has_piece(), met.kind(), met.piece())?;
-    writer.piece_if(store, met.has_other(), met.other_kind(), &[])?;
+    writer.piece_if(
+        store,
+        met.has_piece(),
+        met.kind(),
+        &Piece::alone(met.piece()),
+    )?;
+    writer.piece_if(store, met.has_other(), met.other_kind(), &Piece::alone(&[]))?;
     writer.end_if(store, met.ends())
 }
 

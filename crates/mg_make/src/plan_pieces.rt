@@ -4,7 +4,7 @@ ghost use Rattle.std.specs.Str.{bytes_eq};
 ghost use Rattle.mg_defs.specs.Marks.{code_of};
 
 use mg_count::Plan;
-use mg_model::FoundSymbols;
+use mg_model::{FoundSymbols, Piece};
 use mg_parse::Stream;
 use std::alloc::Global;
 use std::marker::Model;
@@ -51,7 +51,7 @@ impl<'a> PlanPieces<'a> {
 
     /// The symbol of a piece of the stream, as the model of the plan tells it.
     #[inline]
-    pub(crate) fn symbol(&mut self, stream: Stream, piece: &[u8]) -> Option<u32>
+    pub(crate) fn symbol(&mut self, stream: Stream, piece: &Piece<'_>) -> Option<u32>
         ensures symbol { result ≡ position (bytes_eq piece.now)
             (code_of stream self.old.code).pieces }
         ensures same { self.new ≡ self.old }

@@ -23,7 +23,7 @@ use crate::mark_writer::MarkWriter;
 use crate::plan_pieces::PlanPieces;
 use mg_count::{DocCounts, Plan};
 use mg_dev::{Fault, PutErr, Store, What};
-use mg_model::{symbol_and_piece, terms_are_the_dictionary, words_have_terms};
+use mg_model::{Piece, symbol_and_piece, terms_are_the_dictionary, words_have_terms};
 use mg_parse::Stream;
 use mg_runs::{Pool, runs_stay};
 use mg_text_writer::{TextWriter, pieces_make_documents};
@@ -96,7 +96,7 @@ impl<'a> SecondPass<'a> {
         &mut self,
         store: &mut S,
         stream: Stream,
-        piece: &[u8],
+        piece: &Piece<'_>,
     ) -> Result<(), Fault>
         requires next { IsNext self.old (S.files store.old) (piece_mark stream piece.now ∷ []) }
         requires more { 0 < self.old.left }
@@ -117,7 +117,7 @@ impl<'a> SecondPass<'a> {
         store: &mut S,
         stream: Stream,
         symbol: u32,
-        _piece: &[u8],
+        _piece: &Piece<'_>,
     ) -> Result<(), Fault>
         requires next { IsNext self.old (S.files store.old) (piece_mark stream _piece.now ∷ []) }
         requires more { 0 < self.old.left }
@@ -209,7 +209,7 @@ impl<'a, S: Store> MarkWriter<'a, S> for SecondPass<'a> {
         store: &mut S,
         is_met: bool,
         stream: Stream,
-        piece: &[u8],
+        piece: &Piece<'_>,
     ) -> Result<(), Fault> {
         if !is_met {
             return Ok(());

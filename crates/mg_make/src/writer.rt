@@ -27,6 +27,7 @@ use crate::summary::Summary;
 use mg_count::{Plan, Room, Scanner};
 use mg_dev::{Fault, PutErr, Store};
 use mg_layout::Head;
+use mg_model::Piece;
 use mg_text_writer::text_has_its_documents;
 use std::alloc::Global;
 use std::marker::Model;
@@ -197,7 +198,12 @@ impl<'a> SetWriter<'a> {
         if next == at {
             return Ok(at);
         }
-        match put_piece(&mut self.pass, store, stream, &bytes[at..next]) {
+        match put_piece(
+            &mut self.pass,
+            store,
+            stream,
+            &Piece::within(bytes, at, next),
+        ) {
             Ok(()) => {}
             Err(refusal) => return Err(refusal),
         }

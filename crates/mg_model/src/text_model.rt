@@ -21,7 +21,7 @@ use crate::block::SHORT;
 use crate::dropping::without;
 use crate::piece_key::PieceKey;
 use crate::stream_model::StreamModel;
-use crate::{FoundSymbols, Stream, Vocab};
+use crate::{FoundSymbols, Piece, Stream, Vocab};
 use mg_canon::Canon;
 use mg_dev::{FileRef, Part, PartErr, PutErr, Store};
 use std::alloc::{AllocError, Global};
@@ -182,15 +182,20 @@ impl TextModel {
     /// The same. A piece of at most fifteen bytes is looked for first among the symbols that were found
     /// in this stream, and what is found is kept there.
     #[inline]
-    pub fn symbol_near(&self, stream: Stream, piece: &[u8], found: &mut FoundSymbols) -> Option<u32>
+    pub fn symbol_near(
+        &self,
+        stream: Stream,
+        piece: &Piece<'_>,
+        found: &mut FoundSymbols,
+    ) -> Option<u32>
         requires kept { AreFound found.old (code_of stream self.now).pieces }
         ensures symbol { result ≡ position (bytes_eq piece.now) (code_of stream self.now).pieces }
         ensures kept { AreFound found.new (code_of stream self.now).pieces }
     {
         if piece.len() > SHORT {
-            return self.symbol(stream, piece);
+            return self.symbol(stream, piece.bytes());
         }
-        match found.symbol(&PieceKey::short(piece)) {
+        match found.symbol(&PieceKey::of(piece)) {
             Some(symbol) => Some(symbol),
             None => self.symbol_anew(stream, piece, found),
         }
@@ -199,15 +204,20 @@ impl TextModel {
     // The same of a piece of at most fifteen bytes that is not kept. It stands apart, so that above the
     // key of a piece stays a number.
     #[inline(never)]
-    fn symbol_anew(&self, stream: Stream, piece: &[u8], found: &mut FoundSymbols) -> Option<u32>
+    fn symbol_anew(
+        &self,
+        stream: Stream,
+        piece: &Piece<'_>,
+        found: &mut FoundSymbols,
+    ) -> Option<u32>
         requires short { length piece.now ≤ 15 }
         requires kept { AreFound found.old (code_of stream self.now).pieces }
         ensures symbol { result ≡ position (bytes_eq piece.now) (code_of stream self.now).pieces }
         ensures kept { AreFound found.new (code_of stream self.now).pieces }
     {
-        let there = self.symbol(stream, piece);
+        let there = self.symbol(stream, piece.bytes());
         if let Some(symbol) = there {
-            found.keep(&PieceKey::short(piece), symbol);
+            found.keep(&PieceKey::of(piece), symbol);
         }
         there
     }

@@ -29,9 +29,10 @@ put_piece-requires g c =
     let long = between-length (c.args.at + 1) (c.take_piece-next.result + 1) c.args.bytes.now (omega (arith, ends.within)) in
     λ k. (
       (refl, tt),
-      subst (λ (kind : Stream). IsNext i.pass (g.S.Store.files c.args.store.now) (next kind)) (sym c.kind-stream.ensures)
+      rw c.within.ensures
+          (subst (λ (kind : Stream). IsNext i.pass (g.S.Store.files c.args.store.now) (next kind)) (sym c.kind-stream.ensures)
           (next_marks (writing i.base.now i.plan.now i.limit i.sums.items i.size i.scanner i.pass) c.take_piece-next.new.self i.pass _ (g.S.Store.files c.args.store.now) run
-          (next i.scanner.reading.kind) ends.met c.requires.put.0 put (omega (arith, c.requires.put.2, long, ends.after, ends.within))),
+          (next i.scanner.reading.kind) ends.met c.requires.put.0 put (omega (arith, c.requires.put.2, long, ends.after, ends.within)))),
     )
 
 pub overflow_add-self : goal.overflow_add-self
@@ -52,7 +53,7 @@ returns-in-Err g c =
     = λ fed met h. subst (λ n. HasMet c.take_piece-next.new.self (fed ++ take n (drop (c.args.at + 1) c.args.bytes.now)) (met ++ next i.scanner.reading.kind)) count (ends.met fed met h) in
     rw (← c.self.view_is)
     (piece_refused {w = writing i.base.now i.plan.now i.limit i.sums.items i.size i.scanner i.pass} (c.take_piece-next.result - (c.args.at + 1))
-    (omega (arith, ends.after, ends.within, length-drop (c.args.at + 1) c.args.bytes.now)) ends.read takes c.requires.put.0 put (rw c.kind-stream.ensures at c.in-Err.ensures))
+    (omega (arith, ends.after, ends.within, length-drop (c.args.at + 1) c.args.bytes.now)) ends.read takes c.requires.put.0 put (rw (c.kind-stream.ensures, c.within.ensures) at c.in-Err.ensures))
 
 pub returns : goal.returns
 returns g c =
@@ -64,5 +65,5 @@ returns g c =
       omega (arith, ends.after),
       ends.within,
       piece_done {w = writing i.base.now i.plan.now i.limit i.sums.items i.size i.scanner i.pass} {count = c.take_piece-next.result - c.args.at} (omega (arith, long, ends.after)) ends.met
-          c.requires.put.0 put (rw c.kind-stream.ensures at c.in-Ok.ensures),
+          c.requires.put.0 put (rw (c.kind-stream.ensures, c.within.ensures) at c.in-Ok.ensures),
     )
