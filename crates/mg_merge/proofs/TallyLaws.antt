@@ -1,12 +1,15 @@
 -- Documents whose pieces are counted by their symbols, one document after the other.
-use Rattle.std.proofs.Common.{arith, ◌≡◌, ◌≤◌, ◌<◌, ◌+◌, ◌-◌, ◌^◌, ◌++◌, ◌∷◌, ◌∙◌, ℕ, Bool, true, false, List, [], length, map, take, get_or, Option, None, Some, Ok, Err, refl, sym, ap, subst, append-nil, append_assoc}
-use Rattle.std.specs.Prelude.{IfErr, IfOk, IfSome, Result, sum}
+use Rattle.std.proofs.Common.{arith, ◌≡◌, ◌≤◌, ◌+◌, ◌++◌, ◌∙◌, ◌||◌, ℕ, Bool, true, false, cond, ltb, if◌then◌else◌, List, [], ◌∷◌, length, map, Option, Some, Ok, Err, refl, sym, ap, subst, append_assoc}
+use Rattle.std.specs.Prelude.{IfErr, IfOk, IfSome, OnErr, Result}
 use Rattle.std.specs.Bool.{OnTrue}
-use Rattle.std.specs.List.{flat_map}
-use Rattle.std.proofs.Math.Seq.{take-length}
+use Rattle.std.specs.List.{flat_map, list_any}
+use Rattle.std.specs.Str.{bytes_eq}
+use Rattle.std.proofs.lemmas.Bool.{lt-ltb}
 use Rattle.std.proofs.lemmas.Grind.{flat_map-append}
-use Rattle.std.proofs.lemmas.List.{length-append, map-append, take_more}
-use Rattle.std.proofs.lemmas.List.Sums.{sum_by-append, sum_by-cons}
+use Rattle.std.proofs.lemmas.List.{map-append}
+use Rattle.std.proofs.lemmas.List.Elements.{recursion_from_All}
+use Rattle.std.proofs.lemmas.List.Sums.{sum_by-append}
+use Rattle.mg_dev.specs.Causes.{Rose}
 use Rattle.mg_dev.specs.Files.{Files}
 use Rattle.mg_dev.specs.Moments.{StoreAt, StoreRose}
 use Rattle.mg_dev.specs.declared.device.Failed.{Failed}
@@ -15,135 +18,121 @@ use Rattle.mg_dev.specs.declared.fault.Fault.TheVariants as cause
 use Rattle.mg_count.specs.Plans.{AreCountsOf}
 use Rattle.mg_defs.specs.declared.Stream.{Stream}
 use Rattle.mg_defs.specs.declared.Stream.TheVariants.{Others, Words}
-use Rattle.mg_defs.specs.Parse.{Pair, parse}
-use Rattle.mg_defs.specs.Split.{documents, has_open_end}
-use Rattle.mg_defs.specs.Terms.{document}
-use Rattle.mg_defs.specs.Vocabulary.{all_pieces, counted, piece_of_pair, pieces_in, vocabulary}
-use Rattle.mg_defs.proofs.TermLaws.{document_behind}
-use Rattle.mg_defs.proofs.VocabularyLaws.{vocabulary-push}
-use Rattle.mg_text.specs.PieceCounts.{CountsDocument, PieceTally, with_pair, with_pairs}
+use Rattle.mg_defs.specs.Parse.{parse}
+use Rattle.mg_defs.specs.Sorted.{sorted_distinct}
+use Rattle.mg_defs.specs.Split.{documents}
+use Rattle.mg_defs.specs.Vocabulary.{all_pieces, count_in, counts_of, entry_count, piece_counts, pieces_in, sorted_of, sorted_pieces, vocabulary}
+use Rattle.mg_defs.proofs.SortedLaws.{has-sorted, rising-unique, sorted-rising}
+use Rattle.mg_defs.proofs.VocabularyLaws.{collection-symbols, counts-positive, entry-count}
+use Rattle.mg_laws.proofs.JoinLaws.{documents_joined}
+use Rattle.mg_text.specs.CountedText.{AllCame, Counted, CountsDocuments, pairs_of}
+use Rattle.mg_text.specs.Reading.{WhereTextStands}
 use Rattle.mg_make.proofs.CallerLemmas.{rose_behind}
-use Rattle.mg_merge.specs.Counted.{AreFewPairs, AreTallied, CountsTexts, TalliesTexts}
+use Rattle.mg_merge.specs.Counted.{CountsTexts, TalliesTexts}
 use Rattle.mg_merge.specs.Stops.{CountingStops}
 use Rattle.mg_merge.specs.Texts.{TextsFit, TextsStand, TwoTexts}
 use Rattle.mg_merge.proofs.LookLaws.{looks_more}
-use Rattle.mg_merge.proofs.TextLaws.{documents_of_texts, end_of_texts, texts_more, texts_stand_on}
+use Rattle.mg_merge.proofs.TextLaws.{end_of_texts, same_text, stands_on, texts_more, texts_stand_on}
 
--- ---- one document
+-- ---- documents of one text and then of another
 
-words_with : (ps : List Pair) (t : PieceTally) (xs : List (List ℕ)) → t.words ≡ vocabulary xs →
-    (with_pairs ps t).words ≡ vocabulary (xs ++ map (piece_of_pair Words) ps)
-words_with [] t xs is = is ∙ ap vocabulary (sym (append-nil xs))
-words_with (p ∷ ps) t xs is =
-    words_with ps (with_pair p t) (xs ++ p.word ∷ []) (ap (counted p.word) is ∙ sym (vocabulary-push xs p.word))
-    ∙ ap vocabulary (append_assoc xs (p.word ∷ []) (map (piece_of_pair Words) ps))
+count_both : (kind : Stream) (one two : List (List ℕ)) (q : List ℕ) →
+    count_in (flat_map (pieces_in kind) (one ++ two)) q ≡ count_in (flat_map (pieces_in kind) one) q + count_in (flat_map (pieces_in kind) two) q
+count_both kind one two q = ap (λ l. count_in l q) (flat_map-append (pieces_in kind) one two)
+    ∙ sum_by-append (λ r. cond (bytes_eq q r) 1 0) (flat_map (pieces_in kind) one) (flat_map (pieces_in kind) two)
 
-others_with : (ps : List Pair) (t : PieceTally) (xs : List (List ℕ)) → t.others ≡ vocabulary xs →
-    (with_pairs ps t).others ≡ vocabulary (xs ++ map (piece_of_pair Others) ps)
-others_with [] t xs is = is ∙ ap vocabulary (sym (append-nil xs))
-others_with (p ∷ ps) t xs is =
-    others_with ps (with_pair p t) (xs ++ p.other ∷ []) (ap (counted p.other) is ∙ sym (vocabulary-push xs p.other))
-    ∙ ap vocabulary (append_assoc xs (p.other ∷ []) (map (piece_of_pair Others) ps))
-
-pieces_more : (kind : Stream) (docs : List (List ℕ)) (doc : List ℕ) →
-    flat_map (pieces_in kind) (docs ++ doc ∷ []) ≡ flat_map (pieces_in kind) docs ++ pieces_in kind doc
-pieces_more kind docs doc = flat_map-append (pieces_in kind) docs (doc ∷ []) ∙ ap (λ l. flat_map (pieces_in kind) docs ++ l) (append-nil (pieces_in kind doc))
-
--- one document more was counted
-tallied_more : (docs : List (List ℕ)) (doc : List ℕ) (counts counts_now : PieceTally) (pairs : List ℕ) (count : ℕ) → AreTallied docs counts pairs →
-    count ≡ length (parse doc) → counts_now ≡ with_pairs (parse doc) counts → AreTallied (docs ++ doc ∷ []) counts_now (pairs ++ count ∷ [])
-tallied_more docs doc counts counts_now pairs count is count_is now = record {
-  words = ap (λ (t : PieceTally). t.words) now ∙ words_with (parse doc) counts (flat_map (pieces_in Words) docs) is.words ∙ ap vocabulary (sym (pieces_more Words docs doc));
-  others = ap (λ (t : PieceTally). t.others) now ∙ others_with (parse doc) counts (flat_map (pieces_in Others) docs) is.others ∙ ap vocabulary (sym (pieces_more Others docs doc));
-  pairs_are = ap (λ l. l ++ count ∷ []) is.pairs_are ∙ ap (λ n. map (λ d. length (parse d)) docs ++ n ∷ []) count_is
-      ∙ sym (map-append (λ d. length (parse d)) docs (doc ∷ []));
+counts_both : (one two : List (List ℕ)) {old mid new : Counted} → CountsDocuments one old mid → CountsDocuments two mid new → CountsDocuments (one ++ two) old new
+counts_both one two {old} first second = record {
+  words = λ q. omega (arith, first.words q, second.words q, count_both Words one two q);
+  others = λ q. omega (arith, first.others q, second.others q, count_both Others one two q);
+  pairs = second.pairs ∙ ap (λ l. l ++ pairs_of two) first.pairs ∙ append_assoc old.pairs (pairs_of one) (pairs_of two)
+      ∙ ap (λ l. old.pairs ++ l) (sym (map-append (λ doc. length (parse doc)) one two));
 }
 
-pub tallied_none : (counts : PieceTally) → counts.words ≡ [] → counts.others ≡ [] → AreTallied [] counts []
-tallied_none counts words others = record { words = words; others = others; pairs_are = refl }
-
--- and it is the next one of a collection
-pub tallied_next : (collection : List ℕ) (i : ℕ) (counts counts_now : PieceTally) (pairs : List ℕ) (count : ℕ) → i < length (documents collection) →
-    AreTallied (take i (documents collection)) counts pairs → CountsDocument (i + 1) collection count counts counts_now →
-    AreTallied (take (i + 1) (documents collection)) counts_now (pairs ++ count ∷ [])
-tallied_next collection i counts counts_now pairs count lt is next =
-    let docs = documents collection in
-    let doc = get_or docs i [] in
-    let here : document collection (i + 1) ≡ doc = document_behind collection i in
-    subst (λ l. AreTallied l counts_now (pairs ++ count ∷ [])) (sym (take_more docs i [] lt))
-    (tallied_more (take i docs) doc counts counts_now pairs count is (next.0 ∙ ap (λ (d : List ℕ). length (parse d)) here)
-    (next.1 ∙ ap (λ (d : List ℕ). with_pairs (parse d) counts) here))
-
--- it was the last one
-pub tallied_all : (collection : List ℕ) (i : ℕ) (counts : PieceTally) (pairs : List ℕ) → i ≡ length (documents collection) →
-    AreTallied (take i (documents collection)) counts pairs → AreTallied (documents collection) counts pairs
-tallied_all collection i counts pairs all is =
-    subst (λ l. AreTallied l counts pairs) (ap (λ n. take n (documents collection)) all ∙ take-length (documents collection)) is
-
--- ---- answers
-
-pub some_is : {T : Type 0} (found : Option T) (value : T) (P : T → Type 0) → found ≡ Some value → IfSome found P → P value
-some_is found value P is h = subst (λ o. IfSome o P) is h
-
-pub on_true_of : (b : Bool) {A : Type 0} → A → OnTrue b A
-on_true_of true h = h
-on_true_of false h = tt
-
-pub on_true_is : (b : Bool) (A : Type 0) → b ≡ true → OnTrue b A → A
+on_true_is : (b : Bool) (A : Type 0) → b ≡ true → OnTrue b A → A
 on_true_is true A is h = h
 on_true_is false A is h = absurd cc
 
--- ---- pairs
+counted_map : (result : Result Bool Failed) {A B : Type 0} → (A → B) → IfOk result (λ done. OnTrue done A) → IfOk result (λ done. OnTrue done B)
+counted_map (Ok true) f h = f h
+counted_map (Ok false) f h = tt
+counted_map (Err failed) f h = tt
 
-pub sum_more : (pairs : List ℕ) (count : ℕ) → sum (pairs ++ count ∷ []) ≡ sum pairs + count
-sum_more pairs count =
-    let whole : sum (pairs ++ count ∷ []) ≡ sum pairs + sum (count ∷ []) = sum_by-append (λ (x : ℕ). x) pairs (count ∷ []) in
-    let one : sum (count ∷ []) ≡ count + sum [] = sum_by-cons (λ (x : ℕ). x) count [] in
-    let none : sum [] ≡ 0 = refl in
-    omega (arith, whole, one, none)
+-- the documents of the second text were counted behind those of the first
+pub texts_counted : (t : TwoTexts) (files files_mid : Option Files) (done : Bool) (result : Result Bool Failed) (old mid new : Counted) → done ≡ true → files_mid ≡ files →
+    WhereTextStands t.first files (λ a. OnTrue done (CountsDocuments (documents a) old mid)) →
+    WhereTextStands t.second files_mid (λ b. IfOk result (λ done. OnTrue done (CountsDocuments (documents b) mid new))) →
+    (collection : List ℕ) → TextsStand t files collection → IfOk result (λ done. OnTrue done (CountsDocuments (documents collection) old new))
+texts_counted t files files_mid done result old mid new is stay first second collection stand =
+    let before : CountsDocuments (documents stand.a) old mid = on_true_is done _ is (first stand.a stand.first) in
+    let there = stands_on t.second t.second files files_mid stand.b (same_text t.second) stay stand.second in
+    let docs : documents stand.a ++ documents stand.b ≡ documents collection = sym (ap documents stand.joins ∙ documents_joined stand.a stand.b) in
+    counted_map result (λ (behind : CountsDocuments (documents stand.b) mid new). subst (λ l. CountsDocuments l old new) docs (counts_both _ _ before behind)) (second stand.b there)
 
-pub few_pairs : (done : Bool) (pairs : List ℕ) → done ≡ true → OnTrue done (AreFewPairs pairs) → AreFewPairs pairs
-few_pairs true pairs is few = few
-few_pairs false pairs is few = absurd cc
+-- the store failed behind what was read before
+pub failed_behind : (result : Result Bool Failed) (a b c : ℕ) → a ≤ b → OnErr result (Rose b c) → OnErr result (Rose a c)
+failed_behind (Ok done) a b c le cause = tt
+failed_behind (Err failed) a b c le cause = rose_behind a b c le cause
 
--- ---- a text
+-- ---- a vocabulary
 
--- the document that a text counts is that of both
-pub counted_is : (result : Result (Option ℕ) Failed) (doc wanted : List ℕ) (old new : PieceTally) → doc ≡ wanted →
-    IfOk result (λ found. IfSome found (λ n. (n ≡ length (parse doc)) × (new ≡ with_pairs (parse doc) old))) →
-    IfOk result (λ found. IfSome found (λ n. (n ≡ length (parse wanted)) × (new ≡ with_pairs (parse wanted) old)))
-counted_is result doc wanted old new is counted =
-    subst (λ d. IfOk result (λ found. IfSome found (λ n. (n ≡ length (parse d)) × (new ≡ with_pairs (parse d) old)))) is counted
+there : (es : List (List ℕ × ℕ)) (q : List ℕ) → AllCame es → list_any (bytes_eq q) (map (λ (e : List ℕ × ℕ). e.0) es) ≡ ltb 0 (entry_count es q)
+there [] q all = refl
+there (e ∷ es) q all = by (bytes_eq q e.0) (there es q all.1)
+  where
+    by : (b : Bool) → list_any (bytes_eq q) (map (λ (x : List ℕ × ℕ). x.0) es) ≡ ltb 0 (entry_count es q) →
+        (b || list_any (bytes_eq q) (map (λ (x : List ℕ × ℕ). x.0) es)) ≡ ltb 0 (if b then e.1 else entry_count es q)
+    by true rest = sym (lt-ltb 0 e.1 all.0)
+    by false rest = rest
+
+-- two vocabularies in which each piece has the same count have the same symbols
+same_symbols : (es fs : List (List ℕ × ℕ)) → AllCame es → AllCame fs → ((q : List ℕ) → entry_count es q ≡ entry_count fs q) →
+    (sorted_of es ≡ sorted_of fs) × (counts_of es ≡ counts_of fs)
+same_symbols es fs all_es all_fs same =
+    let one = map (λ (e : List ℕ × ℕ). e.0) es in
+    let two = map (λ (e : List ℕ × ℕ). e.0) fs in
+    let has : (q : List ℕ) → list_any (bytes_eq q) one ≡ list_any (bytes_eq q) two = λ q. there es q all_es ∙ ap (ltb 0) (same q) ∙ sym (there fs q all_fs) in
+    let sorted : sorted_of es ≡ sorted_of fs = rising-unique (sorted_distinct one) (sorted_distinct two) (sorted-rising one) (sorted-rising two)
+    (λ q h. has-sorted two q ∙ sym (has q) ∙ sym (has-sorted one q) ∙ h) (λ q h. has-sorted one q ∙ has q ∙ sym (has-sorted two q) ∙ h) in
+    (sorted, ap (λ (f : List ℕ → ℕ). map f (sorted_of es)) (λ i. λ q. same q i) ∙ ap (map (entry_count fs)) sorted)
+
+-- what was counted is the vocabulary of these pieces, in another order
+symbols_of : (xs : List (List ℕ)) (before es : List (List ℕ × ℕ)) → before ≡ [] → AllCame es → ((q : List ℕ) → entry_count es q ≡ entry_count before q + count_in xs q) →
+    (sorted_of es ≡ sorted_of (vocabulary xs)) × (counts_of es ≡ counts_of (vocabulary xs))
+symbols_of xs before es none all is = same_symbols es (vocabulary xs) all (recursion_from_All (λ (e : List ℕ × ℕ). 1 ≤ e.1) (vocabulary xs) (counts-positive xs))
+    (λ q. omega (arith, is q, ap (λ l. entry_count l q) none, entry-count xs q))
+
+stream_counted : (kind : Stream) (collection : List ℕ) (before es : List (List ℕ × ℕ)) → before ≡ [] → AllCame es →
+    ((q : List ℕ) → entry_count es q ≡ entry_count before q + count_in (all_pieces kind collection) q) → (sorted_of es ≡ sorted_pieces kind collection) × (counts_of es ≡ piece_counts kind collection)
+stream_counted kind collection before es none all is =
+    let here = symbols_of (all_pieces kind collection) before es none all is in
+    let symbols = collection-symbols kind collection in
+    (here.0 ∙ symbols.0, here.1 ∙ symbols.1)
 
 -- ---- both
 
 -- what was counted is that of the collection
-pub counts_of_texts : (t : TwoTexts) (files : Option Files) (collection : List ℕ) (counts : PieceTally) (pairs : List ℕ) → TextsFit t files →
-    TextsStand t files collection → AreTallied (documents collection) counts pairs → AreCountsOf counts.words counts.others pairs t.open_end collection
-counts_of_texts t files collection counts pairs fits stand is = record {
-  few = omega (arith, fits.few, stand.size);
-  words_are = is.words;
-  others_are = is.others;
-  pairs_are = is.pairs_are;
-  end = end_of_texts t files collection stand;
-}
-
--- the same of its parts
-pub counts_in_parts : (t : TwoTexts) (files : Option Files) (collection : List ℕ) (counts : PieceTally) (words others : List (List ℕ × ℕ)) (pairs : List ℕ)
-    (open_end : Bool) → TextsFit t files → TextsStand t files collection → (done : Bool) → done ≡ true → OnTrue done (AreTallied (documents collection) counts pairs) →
-    words ≡ counts.words → others ≡ counts.others → open_end ≡ t.open_end → AreCountsOf words others pairs open_end collection
-counts_in_parts t files collection counts words others pairs open_end fits stand true is tallied words_are others_are end =
-    let whole = counts_of_texts t files collection counts pairs fits stand tallied in
+pub counts_of_texts : (t : TwoTexts) (files : Option Files) (collection : List ℕ) (done : Bool) (before c : Counted) (words others : List (List ℕ × ℕ)) (pairs : List ℕ) (open_end : Bool) →
+    TextsFit t files → TextsStand t files collection → done ≡ true → OnTrue done (CountsDocuments (documents collection) before c) → before.words ≡ [] → before.others ≡ [] → before.pairs ≡ [] → AllCame c.words → AllCame c.others →
+    words ≡ c.words → others ≡ c.others → pairs ≡ c.pairs → open_end ≡ t.open_end → AreCountsOf words others pairs open_end collection
+counts_of_texts t files collection done before c words others pairs open_end fits stand is counted no_words no_others no_pairs came_words came_others words_are others_are pairs_are end =
+    let all : CountsDocuments (documents collection) before c = on_true_is done _ is counted in
+    let of_words = stream_counted Words collection before.words c.words no_words came_words all.words in
+    let of_others = stream_counted Others collection before.others c.others no_others came_others all.others in
     record {
-      few = whole.few;
-      words_are = words_are ∙ whole.words_are;
-      others_are = others_are ∙ whole.others_are;
-      pairs_are = whole.pairs_are;
-      end = end ∙ whole.end;
+      few = omega (arith, fits.few, stand.size);
+      words_are = ap sorted_of words_are ∙ of_words.0;
+      others_are = ap sorted_of others_are ∙ of_others.0;
+      word_counts = ap counts_of words_are ∙ of_words.1;
+      other_counts = ap counts_of others_are ∙ of_others.1;
+      pairs_are = pairs_are ∙ all.pairs ∙ ap (λ l. l ++ pairs_of (documents collection)) no_pairs;
+      end = end ∙ end_of_texts t files collection stand;
     }
-counts_in_parts t files collection counts words others pairs open_end fits stand false is tallied words_are others_are end = absurd cc
 
 -- ---- one pass behind another
+
+pub some_is : {T : Type 0} (found : Option T) (value : T) (P : T → Type 0) → found ≡ Some value → IfSome found P → P value
+some_is found value P is h = subst (λ o. IfSome o P) is h
 
 -- a cause still is one where failures still rose and more texts stand
 counting_wider : (rose now : Type 0) (one other : List ℕ → Type 0) (fault : Fault) → (rose → now) → ((collection : List ℕ) → other collection → one collection) →
@@ -164,15 +153,6 @@ counting_wider rose now one other (cause.NameClash part) grows back stop = absur
 counting_wider rose now one other cause.InputTooLong grows back stop = absurd stop
 counting_wider rose now one other cause.SameName grows back stop = absurd stop
 counting_wider rose now one other (cause.TooManyRotations count) grows back stop = absurd stop
-
--- what was done so far is told with another answer
-pub tallies_so_far : {S T : Type 0} {t t_now : TwoTexts} {store store_now : StoreAt} {answer : Result S Failed} (value : T) →
-    TalliesTexts t t_now store store_now answer → TalliesTexts t t_now store store_now (Ok value)
-tallies_so_far value step = record { fits = step.fits; same = step.same; looks = step.looks; cause = tt }
-
-pub tallies_failed : {S T : Type 0} {t t_now : TwoTexts} {store store_now : StoreAt} (failed : Failed) →
-    TalliesTexts {T = S} t t_now store store_now (Err failed) → TalliesTexts {T = T} t t_now store store_now (Err failed)
-tallies_failed failed step = record { fits = step.fits; same = step.same; looks = step.looks; cause = step.cause }
 
 -- the texts were counted by their symbols
 pub tallied_texts : {S T : Type 0} {t t_now : TwoTexts} {store store_now : StoreAt} {answer : Result S Failed} (value : T) →

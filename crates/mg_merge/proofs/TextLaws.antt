@@ -47,6 +47,21 @@ fits_on r files files_now stay fits = subst (TextFits r) (sym stay) fits
 
 -- ---- both
 
+-- the first text was read
+pub fits_first : (t : TwoTexts) (r : TextReading) (files now : Option Files) → TextsFit t files → TextFits r now → now ≡ files → r.documents ≡ t.first.documents →
+    TextsFit (record { first = r; second = t.second; ahead = t.ahead; all = t.all; open_end = t.open_end; size = t.size; held = t.held }) now
+fits_first t r files now fits read stay count = record {
+  first = read;
+  second = fits_on t.second files now stay fits.second;
+  ahead = count ∙ fits.ahead;
+  all = fits.all;
+  few = fits.few;
+}
+
+pub same_first : (t : TwoTexts) (r : TextReading) → SameText t.first r →
+    SameTexts t (record { first = r; second = t.second; ahead = t.ahead; all = t.all; open_end = t.open_end; size = t.size; held = t.held })
+same_first t r same = record { first = same; second = same_text t.second; ahead = refl; all = refl; open_end = refl; size = refl }
+
 pub texts_none : (t : TwoTexts) → SameTexts t t
 texts_none t = record { first = same_text t.first; second = same_text t.second; ahead = refl; all = refl; open_end = refl; size = refl }
 

@@ -2,14 +2,12 @@
 //!
 //! The pieces of a text are told by its symbols, so that no byte has to be looked at. That is so of texts that stand, and is
 //! promised of them alone. Where such a count does not come to its end, the bytes are counted: then it is told why.
-ghost use Rattle.std.specs.Prelude.{◌≡◌, ◌≤◌, ◌+◌, ◌-◌, ◌^◌, ◌++◌, ◌∷◌, ℕ, List, [], IfOk, IfSome, OnOk, sum};
-ghost use Rattle.std.specs.Bool.{OnTrue};
+ghost use Rattle.std.specs.Prelude.{◌≤◌, ℕ, List, [], IfOk, IfSome, OnOk};
 ghost use Rattle.mg_defs.specs.Limits.{greatest_budget, least_budget};
 ghost use Rattle.mg_make.specs.Counting.{HasCounted};
 ghost use Rattle.mg_make.specs.Outcomes.{BetweenMoments};
 ghost use Rattle.mg_make.specs.Plans.{IsPlan, IsPlanOf, IsRoomFor};
-ghost use Rattle.mg_defs.specs.Split.{documents};
-ghost use Rattle.mg_merge.specs.Counted.{AreFewPairs, AreTallied, CountsTexts, TalliesTexts};
+ghost use Rattle.mg_merge.specs.Counted.{CountsTexts, TalliesTexts};
 ghost use Rattle.mg_merge.specs.Passes.{AreAllGiven};
 ghost use Rattle.mg_merge.specs.Texts.{TextsFit, TextsStand};
 
@@ -21,25 +19,6 @@ use mg_make::{Count, Plan, Room};
 use mg_text::PieceCounts;
 use std::alloc::Global;
 
-/// The most documents of a collection.
-const MOST_DOCUMENTS: u32 = 1 << 24;
-
-// Keeps how many pairs a document has, where so many more may come. False where there are too many, or no memory.
-fn keep_pairs(pairs: &mut Vec<u32>, left: &mut u32, found: u32) -> bool
-    requires few { sum pairs.old.items + left.old ≡ 2 ^ 32 - 1 }
-    ensures kept { OnTrue result (pairs.new.items ≡ pairs.old.items ++ found ∷ []) }
-    ensures few { OnTrue result (sum pairs.new.items + left.new ≡ 2 ^ 32 - 1) }
-{
-    if found > *left {
-        return false;
-    }
-    *left -= found;
-    match pairs.push(found) {
-        Ok(()) => true,
-        Err(_) => false,
-    }
-}
-
 // Whether so many documents, whose pieces have so many bytes, have the size that the heads tell; and whether the last one
 // has a pair where no byte closes it. Nothing is promised of it.
 fn has_size(documents: u32, bytes: u64, open_end: bool, last: u32, size: u64) -> bool {
@@ -50,52 +29,8 @@ fn has_size(documents: u32, bytes: u64, open_end: bool, last: u32, size: u64) ->
     closed == size
 }
 
-// Counts the pieces of each document by their symbols, and keeps how many pairs each has. False where that does not come to
-// its end, or where the documents have another size than the heads tell.
-fn tally_documents<'a, S: Store, D: Documents<'a, S>>(
-    store: &mut S,
-    texts: &mut D,
-    counts: &mut PieceCounts,
-    pairs: &mut Vec<u32>,
-) -> Result<bool, Failed>
-    requires fits { TextsFit (D.texts texts.old) (S.files store.old) }
-    requires no_words { counts.old.words ≡ [] }
-    requires no_others { counts.old.others ≡ [] }
-    requires no_pairs { pairs.old.items ≡ [] }
-    ensures few { IfOk result (λ done. OnTrue done (AreFewPairs pairs.new.items)) }
-    ensures tallied { (collection : List ℕ) → TextsStand (D.texts texts.old)
-        (S.files store.old) collection → IfOk result (λ done. OnTrue done (AreTallied
-        (documents collection) counts.new pairs.new.items)) }
-    ensures tallies { BetweenMoments S.files S.reads S.faults store.old store.new (λ before now.
-        TalliesTexts (D.texts texts.old) (D.texts texts.new) before now result) }
-{
-    let all = texts.documents();
-    if all > MOST_DOCUMENTS {
-        return Ok(false);
-    }
-    let mut left = u32::MAX;
-    let mut last = 0;
-    for index in 0..all {
-        let counted = match texts.count(store, index + 1, counts) {
-            Ok(counted) => counted,
-            Err(failed) => return Err(failed),
-        };
-        let found = match counted {
-            Some(found) => found,
-            None => return Ok(false),
-        };
-        let kept = keep_pairs(pairs, &mut left, found);
-        if !kept {
-            return Ok(false);
-        }
-        last = found;
-    }
-    let open_end = texts.has_open_end();
-    let whole = has_size(all, counts.bytes(), open_end, last, texts.size());
-    Ok(whole)
-}
-
-// The plan of two texts by the symbols of their pieces, and its room. None where these are not counted to the end.
+// The plan of two texts by the symbols of their pieces, and its room. None where these are not counted to the end, or where
+// the documents have another size than the heads tell.
 fn tallied<'a, S: Store, D: Documents<'a, S>>(
     alloc: Global,
     store: &mut S,
@@ -117,17 +52,21 @@ fn tallied<'a, S: Store, D: Documents<'a, S>>(
     if !pieces {
         return Ok(None);
     }
+    let (all, size, open_end) = (texts.documents(), texts.size(), texts.has_open_end());
     let mut counts = PieceCounts::new(alloc);
-    let mut pairs = Vec::new(alloc);
-    let open_end = texts.has_open_end();
-    let done = match tally_documents(store, texts, &mut counts, &mut pairs) {
+    let done = match texts.count(alloc, store, &mut counts) {
         Ok(done) => done,
         Err(failed) => return Err(failed),
     };
     if !done {
         return Ok(None);
     }
-    match plan_of_counts(alloc, counts.into_parts(), pairs, open_end, budget) {
+    let whole = has_size(all, counts.bytes(), open_end, counts.last_pairs(), size);
+    if !whole {
+        return Ok(None);
+    }
+    let (pieces, pairs) = counts.into_parts();
+    match plan_of_counts(alloc, pieces, pairs, open_end, budget) {
         Ok(made) => Ok(Some(made)),
         Err(_) => Ok(None),
     }

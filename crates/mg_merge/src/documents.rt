@@ -2,13 +2,15 @@
 //!
 //! Both passes take whatever reads them: they see no more of it than this trait tells.
 ghost use Rattle.std.specs.Prelude.{◌≡◌, ◌<◌, ◌≤◌, ◌+◌, ◌^◌, ℕ, List, IfErr, IfOk, OnErr, OnOk, length};
+ghost use Rattle.std.specs.Bool.{OnTrue};
 ghost use Rattle.mg_dev.specs.Moments.{Between};
 ghost use Rattle.mg_dev.specs.Causes.{Rose};
 ghost use Rattle.mg_dev.specs.Faults.{ReadStops};
 ghost use Rattle.mg_defs.specs.Heads.{IsWithin};
+ghost use Rattle.mg_defs.specs.Split.{documents};
 ghost use Rattle.mg_layout.specs.HeadAnswers.{fields_of};
 ghost use Rattle.mg_make.specs.Outcomes.{Fails};
-ghost use Rattle.mg_text.specs.PieceCounts.{CountsIfFound};
+ghost use Rattle.mg_text.specs.CountedText.{CountsDocuments};
 ghost use Rattle.mg_merge.specs.Looks.{LooksAtTexts};
 ghost use Rattle.mg_merge.specs.Merging.{joined_size};
 ghost use Rattle.mg_merge.specs.Texts.{AreShort, AreSomeSets, AreTextsOf, ForSetsBy, ForShort, SameTexts, TextsFit, TextsStand, TwoTexts, closed_document};
@@ -78,21 +80,21 @@ pub(crate) trait Documents<'a, S: Store> {
         ensures refused { IfErr result (ReadStops (Rose (S.faults store.old) (S.faults store.new))
             (AreShort (texts self.old) (S.files store.old) number most)) };
 
-    /// Counts the pieces of a document, from 1 to their number, and answers how many pairs it has. None where it could not
-    /// be counted, for another cause than a failure of the store: then the counts are of no use.
+    /// Counts the pieces of all documents by their symbols, and how many pairs each document has, behind what was counted
+    /// before. False where that does not come to its end, for another cause than a failure of the store: then the counts are
+    /// of no use.
     fn count(
         &mut self,
+        alloc: Global,
         store: &mut S,
-        number: u32,
         counts: &mut PieceCounts,
-    ) -> Result<Option<u32>, Failed>
+    ) -> Result<bool, Failed>
         requires fits { TextsFit (texts self.old) (S.files store.old) }
-        requires some { 1 ≤ number }
-        requires within { number ≤ (texts self.old).all }
         ensures fits { TextsFit (texts self.new) (S.files store.new) }
         ensures same { SameTexts (texts self.old) (texts self.new) }
         ensures counted { (collection : List ℕ) → TextsStand (texts self.old) (S.files store.old)
-            collection → CountsIfFound result number collection counts.old counts.new }
+            collection → IfOk result (λ done. OnTrue done (CountsDocuments (documents collection)
+            counts.old counts.new)) }
         ensures looks { Between S.files S.reads S.faults store.old store.new LooksAtTexts }
         ensures failed { OnErr result (Rose (S.faults store.old) (S.faults store.new)) };
 }

@@ -18,7 +18,7 @@ use crate::dropping::without;
 use crate::heads::joined_size;
 use mg_dev::{Failed, Fault, PartErr, Store};
 use mg_layout::Head;
-use mg_text::{HeldDocument, PieceCounts, TextReader, is_closed, texts_stand};
+use mg_text::{HeldDocument, PieceCounts, TextReader, count_text, is_closed, texts_stand};
 use std::alloc::Global;
 use std::marker::Model;
 
@@ -184,14 +184,17 @@ impl<'a, S: Store> Documents<'a, S> for Texts<'a, S> {
 
     fn count(
         &mut self,
+        alloc: Global,
         store: &mut S,
-        number: u32,
         counts: &mut PieceCounts,
-    ) -> Result<Option<u32>, Failed> {
-        if number <= self.ahead {
-            return self.first.count(store, number, counts);
+    ) -> Result<bool, Failed> {
+        let first = match count_text(alloc, &mut self.first, store, counts) {
+            Ok(done) => done,
+            Err(failed) => return Err(failed),
+        };
+        if !first {
+            return Ok(false);
         }
-        let behind = number - self.ahead;
-        self.second.count(store, behind, counts)
+        count_text(alloc, &mut self.second, store, counts)
     }
 }
