@@ -3,10 +3,10 @@
 ghost use Rattle.std.specs.Prelude.{◌≡◌};
 ghost use Rattle.mg_text.specs.Reading.{TextFits};
 
-use mg_dev::{Bad, Failed, FileRef, Part, PartErr, PutErr, ShowErr, Store};
+use mg_dev::{Bad, FileRef, Part, PartErr, PutErr, ShowErr, Store};
 use mg_layout::Head;
 use mg_mem::MemStore;
-use mg_text::{HeldDocument, PieceCounts, TextReader, WordList};
+use mg_text::{HeldDocument, PieceCounts, TextReader, WordList, count_text};
 use std::alloc::Global;
 use std::test::Fail;
 
@@ -208,37 +208,14 @@ fn words_beyond_the_bound_are_refused_as_shown_bytes_are(rt: HostRuntime) -> Res
     Ok(())
 }
 
-// Counts the pieces of documents of the three, and answers how many pairs they have together. None where one is not counted.
-fn count_all<S: Store>(
-    reader: &mut TextReader<'_, S>,
-    store: &mut S,
-    numbers: &[u32],
-    counts: &mut PieceCounts,
-) -> Result<Option<u64>, Failed>
-    requires fits { TextFits reader.old (S.files store.old) }
-    requires documents { reader.old.documents ≡ 3 }
-{
-    let mut pairs = 0u64;
-    for number in numbers {
-        if *number >= 1 && *number <= 3 {
-            let found = match reader.count(store, *number, counts)? {
-                Some(found) => found,
-                None => return Ok(None),
-            };
-            pairs = pairs.saturating_add(u64::from(found));
-        }
-    }
-    Ok(Some(pairs))
-}
-
-// The same by a reader of its own.
+// Counts the pieces of the three documents by a reader of their own.
 fn count<S: Store>(
     alloc: Global,
     store: &mut S,
     counts: &mut PieceCounts,
-) -> Result<Option<u64>, PartErr> {
+) -> Result<bool, PartErr> {
     let mut reader = TextReader::load(alloc, store, "set", &head())?;
-    Ok(count_all(&mut reader, store, &[1, 2, 3], counts)?)
+    Ok(count_text(alloc, &mut reader, store, counts)?)
 }
 
 #[test]
@@ -247,11 +224,12 @@ fn pieces_are_counted_and_pages_are_read_once(rt: HostRuntime) -> Result<(), Fai
     let mut store = MemStore::new(alloc);
     write_three(&mut store)?;
     let mut counts = PieceCounts::new(alloc);
-    assert!(rt; count(alloc, &mut store, &mut counts) == Ok(Some(3 * 8_191)));
-    assert!(rt; counts.bytes() == 3 * 16_382);
+    assert!(rt; count(alloc, &mut store, &mut counts) == Ok(true));
+    assert!(rt; counts.bytes() == 3 * 16_382 && counts.last_pairs() == 8_191);
     assert!(rt; store.reads_of(Part::Text) == 2 && store.reads_of(Part::Places) == 1);
-    let (words, others) = counts.into_parts();
+    let ((words, others), pairs) = counts.into_parts();
     assert!(rt; words.len() == 1 && others.len() == 1);
+    assert!(rt; &*pairs == [8_191, 8_191, 8_191].as_slice());
     Ok(())
 }
 
