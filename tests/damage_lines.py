@@ -314,6 +314,12 @@ def sessions(suite):
         stops(suite, f"damaged {ending}, at the first document that has all words", "phrase", b"zebra\nthe cat\n", b"= 0\n")
         status, out, _ = suite.run(["query", "set"], b"cat\n.set mode text\nsat\n")
         suite.check(f"damaged {ending}, at the first text", (status, out.removesuffix(b"-- 1\n")), (6, b"1\n3\n= 2\n"))
+    write_parts(suite.folder / "set", sound | {"lex": sound["lex"][:40]})
+    suite.check("a lexicon that is cut, and no line", suite.run(["wild", "set"], b""), (0, b"", b""))
+    bad = b"? bad pattern at 3\n? line too long\n? bad pattern at 1\n"
+    unasked = b"cat\n \n" + b"*" * 1025 + b"\n**\n"
+    suite.check("a lexicon that is cut, and no pattern", suite.run(["wild", "set"], unasked), (0, bad, b""))
+    stops(suite, "a lexicon that is cut, at the first pattern", "wild", unasked + b"cat*\n*\n", bad)
     write_parts(suite.folder / "set", sound | {"weights": sound["weights"][:8]})
     stops(suite, "weights that are cut", "query", b"zebra\n.set query ranked\ncat\n", b"= 0\n")
     remove(suite, "set")

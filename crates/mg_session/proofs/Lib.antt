@@ -24,6 +24,7 @@ mod PhraseLineLaws
 pub mod WildReplyLaws
 pub mod WildSetLaws
 pub mod WildStopLaws
+mod WildTermsLaws
 pub mod MarkLaws
 pub mod WildListLaws
 pub mod WildTextLaws

@@ -1,12 +1,12 @@
 -- What opening a set does, by what loading its head and its parts answers.
-use Rattle.std.proofs.Common.{arith, ◌≡◌, ◌+◌, ◌≤◌, ◌⊎◌, ℕ, false, List, Ok, Err, None, Some, IsSome, Option, refl, sym, subst, inl, inr}
+use Rattle.std.proofs.Common.{arith, ◌≡◌, ◌+◌, ◌≤◌, ◌⊎◌, ℕ, List, Ok, Err, None, Some, IsSome, Option, refl, sym, subst, inl, inr}
 use Rattle.std.specs.Prelude.{Result}
 use Rattle.mg_bits.specs.Pages.{Looked}
 use Rattle.mg_dev.specs.Causes.{Rose}
 use Rattle.mg_dev.specs.Faults.{fault_of_part}
 use Rattle.mg_dev.specs.Files.{Files, OneRead, Reads, SameReads, bytes_at, with_read}
 use Rattle.mg_dev.specs.Moments.{StoreAt}
-use Rattle.mg_dev.specs.Names.{full_name, same_part}
+use Rattle.mg_dev.specs.Names.{full_name}
 use Rattle.mg_dev.specs.PartCauses.{HasPartCause}
 use Rattle.mg_dev.specs.declared.fault.Fault.{Fault}
 use Rattle.mg_dev.specs.declared.fault.Fault.TheVariants.{NotBuilt}
@@ -16,14 +16,12 @@ use Rattle.mg_dev.specs.declared.part_err.PartErr.{PartErr}
 use Rattle.mg_dev.specs.declared.part_err.PartErr.TheVariants as err
 use Rattle.mg_defs.specs.Heads as defs
 use Rattle.mg_defs.specs.Heads.{IsHead}
-use Rattle.mg_defs.specs.WithinLimits.{IsWithinLimits}
 use Rattle.mg_front.specs.Reading.{Fronted, IsNotBad}
 use Rattle.mg_layout.specs.HeadAnswers.{AnswersBack, AnswersHead}
 use Rattle.mg_layout.specs.declared.head.Head.{Head}
 use Rattle.mg_layout.proofs.CallerLemmas.{no_empty_head, own_head}
 use Rattle.mg_lex.specs.Reading.{IsLexicon, LexStands}
-use Rattle.mg_wild.specs.Loading.{HasTermsOf, TellsOf}
-use Rattle.mg_wild.specs.Terms.{LexTerms}
+use Rattle.mg_wild.specs.Loading.{IsToLoad, LexToLoad}
 use Rattle.mg_session.specs.Opening.{HeadOpened, KeptByPatterns, KeptByQueries, OpenStops, SetOpened}
 use Rattle.mg_session.specs.Searching.{Opened, OpenedOver, opened_at}
 use Rattle.mg_session.specs.Serves.{StandsByNone}
@@ -32,6 +30,7 @@ use Rattle.mg_session.specs.WildServes.{CountedBy}
 use Rattle.mg_session.proofs.SetLaws.{opened_over, set_lexicon}
 use Rattle.mg_session.proofs.StopLaws.{head_read, open_part}
 use Rattle.mg_session.proofs.WildSetLaws.{wild_parts}
+use Rattle.mg_session.proofs.WildTermsLaws.{not_lex}
 
 -- ---- the head
 
@@ -140,28 +139,11 @@ module _ (base : List ℕ) (s0 s1 : StoreAt) (head : Head) where
 
 -- ---- a set for patterns
 
--- the lexicon is not among what is kept
-not_lexicon : (p : Part) → KeptByPatterns p → same_part p part.Lex ≡ false
-not_lexicon part.Head kept = refl
-not_lexicon part.Words kept = refl
-not_lexicon part.Nonwords kept = refl
-not_lexicon part.Text kept = refl
-not_lexicon part.Places kept = refl
-not_lexicon part.Lex kept = absurd kept
-not_lexicon part.LexAt kept = refl
-not_lexicon part.Post kept = refl
-not_lexicon part.Skip kept = refl
-not_lexicon part.Weights kept = refl
-not_lexicon part.Run kept = refl
-not_lexicon part.MergeA kept = refl
-not_lexicon part.MergeB kept = refl
-not_lexicon part.Plain kept = refl
-
 lexicon_read : (f g : Option Files) (r s : Reads) (m n : ℕ) → Looked part.Lex f g r s m n → (p : Part) → KeptByPatterns p → s p ≡ r p
-lexicon_read f g r s m n looked p kept = looked.others p (not_lexicon p kept)
+lexicon_read f g r s m n looked p kept = looked.others p (not_lex p (λ e. subst KeptByPatterns e kept))
 
 module _ (base : List ℕ) (s0 s1 : StoreAt) (head : Head) (looked : Looked part.Lex s0.files s1.files s0.reads s1.reads s0.faults s1.faults) where
-  -- its terms are not held, or there is no room for a bit for each document
+  -- its terms cannot be held, or there is no room for a bit for each document
   pub patterns_refused : (f : Fault) → OpenStops (Rose s0.faults s1.faults) ⊥ (StandsByNone head s0.files base) (CountedBy head s0.files base) f →
       SetOpened (PartsAreBy s1.files) KeptByPatterns (CountedBy head s0.files base) head base s0 s1 (Err f)
   patterns_refused f cause = record {
@@ -172,14 +154,13 @@ module _ (base : List ℕ) (s0 s1 : StoreAt) (head : Head) (looked : Looked part
     cause = cause;
   }
 
-  pub patterns_opened : (terms : LexTerms) (room : ℕ) (parts : WildParts) → parts ≡ record { base = base; terms = terms; all = head.documents; room = room } →
-      ((collection : List ℕ) → IsLexicon base s0.files head.terms collection → HasTermsOf terms collection) →
-      ((collection : List ℕ) → IsWithinLimits head.version collection → IsLexicon base s0.files head.terms collection → TellsOf terms collection) →
+  pub patterns_opened : {lex : LexToLoad} {room : ℕ} {parts : WildParts} →
+      parts ≡ record { base = base; terms = record { lex = lex; loaded = None }; all = head.documents; room = room } → IsToLoad base head.terms lex →
       SetOpened (PartsAreBy s1.files) KeptByPatterns (CountedBy head s0.files base) head base s0 s1 (Ok parts)
-  patterns_opened terms room parts made has tells = record {
+  patterns_opened made to_load = record {
     files = looked.files;
     faults = looked.faults;
     unread = lexicon_read s0.files s1.files s0.reads s1.reads s0.faults s1.faults looked;
-    over = λ code collection is. wild_parts base s0.files s1.files head code collection terms room parts made looked.files is (has collection) (tells collection);
+    over = λ code collection is. wild_parts base s0.files s1.files head code collection made to_load looked.files is;
     cause = tt;
   }

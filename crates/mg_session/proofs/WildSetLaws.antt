@@ -1,5 +1,5 @@
 -- What patterns are answered from in a set that stands, and the rotations of its lexicon.
-use Rattle.std.proofs.Common.{arith, ◌≡◌, ◌<◌, ◌+◌, ℕ, List, [], ◌∷◌, length, map, refl, sym, ◌∙◌, ap, subst}
+use Rattle.std.proofs.Common.{arith, ◌≡◌, ◌<◌, ◌+◌, ℕ, List, [], ◌∷◌, None, IsSome, length, map, refl, sym, ◌∙◌, ap, subst}
 use Rattle.std.specs.List.{enumerate_from}
 use Rattle.std.specs.declared.option.Option.{Option}
 use Rattle.mg_dev.specs.Files.{Files, bytes_at}
@@ -9,7 +9,6 @@ use Rattle.mg_defs.specs.CodedText.{TextCode}
 use Rattle.mg_defs.specs.Front.{Entry}
 use Rattle.mg_defs.specs.Heads as defs
 use Rattle.mg_defs.specs.Lexicon.{info_bytes, info_of, lexicon}
-use Rattle.mg_defs.specs.WithinLimits.{IsWithinLimits}
 use Rattle.mg_defs.specs.Rotations.{most_rotations, rotation_count}
 use Rattle.mg_defs.specs.Terms.{dictionary}
 use Rattle.mg_defs.proofs.FrontParts.{one_front}
@@ -17,30 +16,46 @@ use Rattle.mg_defs.proofs.LexiconLaws.{lexicon_entries}
 use Rattle.mg_layout.specs.Stands.{Stands, StandsBy}
 use Rattle.mg_layout.specs.declared.head.Head.{Head}
 use Rattle.mg_lex.specs.Reading.{IsLexicon}
-use Rattle.mg_wild.specs.Loading.{HasTermsOf, HasTooMany, IsWholeLexicon, TellsOf, strings_of}
-use Rattle.mg_wild.specs.Terms.{LexTerms}
+use Rattle.mg_wild.specs.Loading.{AreWithin, HasTooMany, IsOfLexicon, IsToLoad, LexToLoad, strings_of}
 use Rattle.mg_session.specs.SearchLaws.{lists_stay}
-use Rattle.mg_session.specs.WildSearching.{PartsAreOf, WildParts}
+use Rattle.mg_session.specs.WildSearching.{IsReady, PartsAreOf, WildParts}
 use Rattle.mg_session.proofs.SetLaws.{set_lexicon, set_weights}
 
 -- ---- the parts of a set
 
--- what a searcher was made of, by what loading its terms answers
-pub wild_parts : (base : List ℕ) (files now : Option Files) (head : Head) (code : TextCode) (collection : List ℕ) (terms : LexTerms) (room : ℕ)
-    (parts : WildParts) → parts ≡ record { base = base; terms = terms; all = head.documents; room = room } → now ≡ files →
-    StandsBy head code files base collection →
-    (IsLexicon base files head.terms collection → HasTermsOf terms collection) → (IsWithinLimits head.version collection → IsLexicon base files head.terms collection → TellsOf terms collection) →
-    PartsAreOf now parts collection
-wild_parts base files now head code collection terms room parts made same is has tells =
-    let lexicon = set_lexicon base files head code collection is in
-    let own : WildParts = record { base = base; terms = terms; all = head.documents; room = room } in
-    let over : PartsAreOf now own collection = record {
-      lists = lists_stay base base files now collection refl same (set_weights base files head code collection is).lists;
-      terms_are = has lexicon;
-      infos_are = tells is.are.limits lexicon;
-      all_is = ap (λ (h : defs.Head). h.documents) is.head_is;
-    } in
-    subst (λ (p : WildParts). PartsAreOf now p collection) (sym made) over
+-- what is expected of a set's lexicon is told of it
+lexicon_at : {base : List ℕ} {files : Option Files} {count : ℕ} {lex : LexToLoad} {collection : List ℕ} → IsToLoad base count lex → IsLexicon base files count collection →
+    IsOfLexicon lex files collection
+lexicon_at {base} {files} {count} {lex} {collection} to_load is = subst (λ b. IsLexicon b files lex.count collection) (sym to_load.base_is)
+    (subst (λ n. IsLexicon base files n collection) (sym to_load.count_is) is)
+
+module _ (base : List ℕ) (files now : Option Files) (head : Head) {lex : LexToLoad} {room : ℕ} {parts : WildParts} where
+  -- what a searcher was made of, by what is expected of its lexicon
+  pub wild_parts : (code : TextCode) (collection : List ℕ) →
+      parts ≡ record { base = base; terms = record { lex = lex; loaded = None }; all = head.documents; room = room } → IsToLoad base head.terms lex → now ≡ files → StandsBy head code files base collection →
+      PartsAreOf now parts collection
+  wild_parts code collection made to_load same is =
+      let own : WildParts = record { base = base; terms = record { lex = lex; loaded = None }; all = head.documents; room = room } in
+      let over : PartsAreOf now own collection = record {
+        version = head.version;
+        limits = is.are.limits;
+        lists = lists_stay base base files now collection refl same (set_weights base files head code collection is).lists;
+        lexicon = subst (λ (f : Option Files). IsOfLexicon lex f collection) (sym same) (lexicon_at to_load (set_lexicon base files head code collection is));
+        all_is = ap (λ (h : defs.Head). h.documents) is.head_is;
+      } in
+      subst (λ (p : WildParts). PartsAreOf now p collection) (sym made) over
+
+  -- each document can be marked, and no more bytes are there than were told
+  pub wild_ready : parts ≡ record { base = base; terms = record { lex = lex; loaded = None }; all = head.documents; room = room } → IsToLoad base head.terms lex → now ≡ files → room ≡ head.documents →
+      (IsSome files → AreWithin (bytes_at files (full_name base part.Lex)) head.terms lex.most) → IsReady now parts
+  wild_ready made to_load same marks within =
+      let own : WildParts = record { base = base; terms = record { lex = lex; loaded = None }; all = head.documents; room = room } in
+      let here : (f : Option Files) → f ≡ files → IsSome f → AreWithin (bytes_at f (full_name lex.base part.Lex)) lex.count lex.most =
+      λ f e told. subst (λ (g : Option Files). AreWithin (bytes_at g (full_name lex.base part.Lex)) lex.count lex.most) (sym e)
+      (subst (λ b. AreWithin (bytes_at files (full_name b part.Lex)) lex.count lex.most) (sym to_load.base_is)
+      (subst (λ n. AreWithin (bytes_at files (full_name base part.Lex)) n lex.most) (sym to_load.count_is) (within (subst (λ (g : Option Files). IsSome g) e told)))) in
+      let ready : IsReady now own = record { room = marks; terms = record { within = here now same; loaded = tt } } in
+      subst (λ (p : WildParts). IsReady now p) (sym made) ready
 
 -- ---- its rotations
 
@@ -64,13 +79,6 @@ lexicon_size collection = sym (strings_size (lexicon collection)) ∙ ap length 
 pub one_count : (bytes : List ℕ) (count found other : ℕ) → HasTooMany bytes count found → HasTooMany bytes count other → found ≡ other
 one_count bytes count found other one two =
     one.counted ∙ ap (λ es. rotation_count (strings_of es)) (one_front 16 bytes one.es two.es one.entries.front two.entries.front) ∙ sym two.counted
-
--- where terms are held, it tells of none
-pub not_held : (terms : LexTerms) (bytes : List ℕ) (count found : ℕ) → IsWholeLexicon terms bytes count → HasTooMany bytes count found → ⊥
-not_held terms bytes count found whole many =
-    let same = one_front 16 bytes whole.es many.es whole.entries.front many.entries.front in
-    let held = ap rotation_count whole.terms.terms ∙ ap (λ es. rotation_count (strings_of es)) same ∙ sym many.counted in
-    omega (arith, whole.few, many.many, held)
 
 -- the lexicon of a set that stands has the terms of the collection
 pub set_has : (base : List ℕ) (files : Option Files) (head : Head) (code : TextCode) (collection : List ℕ) → StandsBy head code files base collection →

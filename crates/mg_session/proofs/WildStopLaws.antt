@@ -1,4 +1,4 @@
--- Why patterns are not answered: what a lexicon whose terms are not held is refused for.
+-- Why patterns are not answered: what a lexicon whose terms cannot be held is refused for.
 use Rattle.std.proofs.Common.{◌≡◌, ◌≢◌, inl, inr, refl, ℕ, List, Err, IsSome, ap}
 use Rattle.std.specs.declared.option.Option.{Option}
 use Rattle.std.specs.declared.result.Result.{Result}
@@ -12,23 +12,22 @@ use Rattle.mg_dev.specs.declared.part.Part.TheVariants as part
 use Rattle.mg_dev.specs.declared.part_err.PartErr.TheVariants.{Device, Memory, Bad}
 use Rattle.mg_layout.specs.declared.head.Head.{Head}
 use Rattle.mg_lex.specs.Reading.{IsLexicon}
-use Rattle.mg_wild.specs.Loading.{AnswersRotated, IsBeyond}
-use Rattle.mg_wild.specs.Terms.{LexTerms}
-use Rattle.mg_wild.specs.declared.rotated.RotErr.{RotErr}
-use Rattle.mg_wild.specs.declared.rotated.RotErr.TheVariants as rot
+use Rattle.mg_wild.specs.Loading.{AnswersMost, IsBeyond, LexToLoad}
+use Rattle.mg_wild.specs.declared.terms_to_load.RotErr.{RotErr}
+use Rattle.mg_wild.specs.declared.terms_to_load.RotErr.TheVariants as rot
 use Rattle.mg_session.specs.Opening.{OpenStops}
 use Rattle.mg_session.specs.Serves.{StandsByNone}
 use Rattle.mg_session.specs.WildServes.{CountedBy, TooManyBy, fault_of_rotated}
 use Rattle.mg_session.proofs.SetLaws.{set_lexicon}
 use Rattle.mg_session.proofs.WildSetLaws.{one_count}
 
--- what loading it answers
-abbrev not_loaded : RotErr → Result LexTerms RotErr
+-- what is answered of it
+abbrev not_loaded : RotErr → Result LexToLoad RotErr
 not_loaded refusal = Err refusal
 
 -- what that is told by
 abbrev Answers : Option Files → List ℕ → Head → RotErr → Type 0
-Answers files base head refusal = IsSome files → AnswersRotated {T = LexTerms} (λ r. r) (bytes_at files (full_name base part.Lex)) head.terms (Err refusal)
+Answers files base head refusal = IsSome files → AnswersMost {T = LexToLoad} (λ t. t.most) (bytes_at files (full_name base part.Lex)) head.terms (Err refusal)
 
 pub rotated_stops : (refusal : RotErr) (s t : ℕ) (head : Head) (files : Option Files) (base : List ℕ) → Answers files base head refusal →
     ((collection : List ℕ) (bad : declared.Bad) → IsLexicon base files head.terms collection → not_loaded refusal ≢ not_loaded (rot.Part (Bad bad))) →

@@ -18,6 +18,7 @@ pub mod PhraseAnswers
 pub mod PhraseSearching
 pub mod PhraseSearchLaws
 pub mod WildAnswers
+pub mod WildTerms
 pub mod WildSearching
 pub mod WildSearchLaws
 pub mod WildServes

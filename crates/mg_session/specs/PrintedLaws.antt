@@ -1,5 +1,5 @@
 -- What a line prints by one state of a search it prints by an earlier one.
-use Rattle.std.proofs.Common.{◌≡◌, ◌<◌, ◌/◌, ◌%◌, ℕ, List, [], ◌∷◌, Bool, true, false, get_or, slice_index_or, Some, None, Ok, IsSome, sym, subst}
+use Rattle.std.proofs.Common.{◌≡◌, ◌<◌, ◌/◌, ◌%◌, ℕ, List, [], Bool, true, false, get_or, slice_index_or, Some, None, Ok, IsSome, sym, subst}
 use Rattle.std.specs.declared.option.Option.{Option}
 use Rattle.mg_dev.specs.Files.{Files}
 use Rattle.mg_defs.specs.Phrases.{all_of}

@@ -3,7 +3,7 @@ use Rattle.std.specs.Prelude.{◌≡◌, ◌≢◌, ℕ, ◌+◌, ◌≤◌, Lis
 use Rattle.std.specs.declared.option.Option.{Option}
 use Rattle.std.specs.declared.result.Result.{Result}
 use Rattle.mg_dev.specs.Files.{Files, Reads}
-use Rattle.mg_dev.specs.Moments.{SinkAt, StoreAt}
+use Rattle.mg_dev.specs.Moments.{SinkAt, StoreAt, StoreStep}
 use Rattle.mg_dev.specs.Streams.{AfterPut}
 use Rattle.mg_dev.specs.declared.part.Part.{Part}
 use Rattle.mg_dev.specs.declared.part.Part.TheVariants as part
@@ -66,18 +66,19 @@ pub record ReadsNoOther (files_before files_now : Option Files) (reads_before re
   pub faults : faults_before ≤ faults_now
   pub unread : (p : Part) → p ≢ part.Post → reads_now p ≡ reads_before p
 
--- A pattern was answered.
-pub record PatternStep (before now : StoreAt) (out out_now : SinkAt) (result : Result (Unit {0}) ShowErr) : Type 0 where
-  -- no file changes, and no part is read but the lists
-  pub step : ReadsNoOther before.files now.files before.reads now.reads before.faults now.faults
+-- A pattern was answered, and the store is so after it.
+pub record PatternStep (IsStep : StoreStep) (before now : StoreAt) (out out_now : SinkAt)
+    (result : Result (Unit {0}) ShowErr) : Type 0 where
+  -- what was done to the store
+  pub step : IsStep before.files now.files before.reads now.reads before.faults now.faults
   -- a failure has its cause, and so has the output's want of memory
   pub cause : HasShowCause result before.faults now.faults out.faults out_now.faults
   pub lack : HasShowLack out.lacks out_now.lacks result
 
 -- by what the types of the store and the output tell
 abbrev pub StepsPattern : {X Y : Type 0} → stores.Ghosts X → sinks.Ghosts Y → X → X → Y → Y →
-    Result (Unit {0}) ShowErr → Type 0
-StepsPattern of_store of_out store store_now out out_now result = PatternStep (at_store of_store store)
+    Result (Unit {0}) ShowErr → StoreStep → Type 0
+StepsPattern of_store of_out store store_now out out_now result IsStep = PatternStep IsStep (at_store of_store store)
     (at_store of_store store_now) (at_sink of_out out) (at_sink of_out out_now) result
 
 -- the lists are those of this collection, which has so many documents, and the terms are its terms with what stands of each

@@ -13,8 +13,8 @@ use Rattle.mg_defs.specs.Heads.{IsHead}
 use Rattle.mg_defs.specs.Rotations.{most_rotations}
 use Rattle.mg_layout.specs.declared.head.Head.{Head}
 use Rattle.mg_wild.specs.Loading.{HasTooMany}
-use Rattle.mg_wild.specs.declared.rotated.RotErr.{RotErr}
-use Rattle.mg_wild.specs.declared.rotated.RotErr.TheVariants as rot
+use Rattle.mg_wild.specs.declared.terms_to_load.RotErr.{RotErr}
+use Rattle.mg_wild.specs.declared.terms_to_load.RotErr.TheVariants as rot
 use Rattle.mg_session.specs.Serves.{ServeStops}
 
 -- the lexicon has as many terms as this head tells, and these have so many rotations, which are too many
@@ -40,7 +40,7 @@ abbrev pub WildStops : List ℕ → Type 0 → Type 0 → Type 0 → Option File
 WildStops base store_rose input_rose output_rose files input fault =
     ServeStops CountsTooMany base store_rose input_rose output_rose files input fault
 
--- the fault of a lexicon whose terms are not held
+-- the fault of a lexicon whose terms cannot be held
 abbrev pub fault_of_rotated : RotErr → Fault
 fault_of_rotated (rot.Part refusal) = fault_of_part refusal
 fault_of_rotated (rot.TooMany count) = TooManyRotations count

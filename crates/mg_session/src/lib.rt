@@ -15,6 +15,7 @@ mod document_set;
 mod documents;
 mod hit;
 mod laws;
+mod lexicon_terms;
 mod lists;
 mod lookup;
 mod marked;

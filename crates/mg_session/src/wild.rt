@@ -11,11 +11,12 @@ use std::alloc::Global;
 
 /// Prints the session that the input asks of the files under a base, each line a pattern.
 ///
-/// The head and the terms are loaded before the first line, and room is taken for a bit for each
-/// document; nothing is printed and no input is taken where the head is missing or the rotations are too
-/// many. The rotations are sorted once patterns are many. No text is read. Where the files stand for a
-/// collection, the output is the session over its terms and documents, and where the session stops
-/// early, a prefix of it.
+/// The head is loaded before the first line, and room is taken for a bit for each document; nothing is
+/// printed and no input is taken where the head is missing or the rotations are too many. These are
+/// counted where there are more than 2^19 terms, for fewer cannot have too many. The terms are loaded at
+/// the first line that is a pattern, once, and the rotations are sorted once patterns are many. No text
+/// is read. Where the files stand for a collection, the output is the session over its terms and
+/// documents, and where the session stops early, a prefix of it.
 ///
 /// # Errors
 ///

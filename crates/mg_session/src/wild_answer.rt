@@ -12,7 +12,7 @@ ghost use Rattle.mg_wild.specs.Patterns.{sides_of};
 ghost use Rattle.mg_session.specs.Calls.{StepsPut, WritesAlone};
 ghost use Rattle.mg_session.specs.DocumentSets.{marked_to};
 ghost use Rattle.mg_session.specs.Replying.{AnswersPattern};
-ghost use Rattle.mg_session.specs.WildAnswers.{ForLexTerms, StepsPattern, WildSources, pattern_pages};
+ghost use Rattle.mg_session.specs.WildAnswers.{ForLexTerms, ReadsNoOther, StepsPattern, WildSources, pattern_pages};
 ghost use Rattle.mg_session.specs.WildMarks.{AreNumbersOf, MarksLists, MarksNumbers, ReadsBase, StepsMarks, rows_at};
 
 use crate::document_set::DocumentSet;
@@ -244,7 +244,8 @@ pub(crate) fn answer_pattern<S: Store, O: Sink>(
         (WildSources lists.now.base.now (S.files store.old) terms.old lists.now.all)
         (λ collection. PostWithin S.reads store.old store.new
         (pattern_pages collection (sides_of pattern.now))) }
-    ensures stepped { StepsPattern S.Store O.Sink store.old store.new out.old out.new result }
+    ensures stepped { StepsPattern S.Store O.Sink store.old store.new out.old out.new result
+        ReadsNoOther }
 {
     // For the proof: something is told of each term.
     let _ = terms.len();

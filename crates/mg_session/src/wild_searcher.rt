@@ -1,8 +1,9 @@
 //! An answerer of patterns over the open parts of a set.
-ghost use Rattle.std.specs.Prelude.{◌≡◌, ◌≤◌, ℕ, List, IfOk, IfSome, IsSome, length};
+ghost use Rattle.std.specs.Prelude.{◌≡◌, ◌≤◌, ◌^◌, ℕ, List, None, IfOk, IfSome, IsSome, length};
 ghost use Rattle.mg_defs.specs.Patterns.{pattern_of};
 ghost use Rattle.mg_defs.specs.WildSession.{bad_pattern};
 ghost use Rattle.mg_dev.specs.Each.{ForEach};
+ghost use Rattle.mg_dev.specs.Files.{SameReads};
 ghost use Rattle.mg_dev.specs.Moments.{store_at};
 ghost use Rattle.mg_dev.specs.Runs.{RefusedFor};
 ghost use Rattle.mg_dev.specs.declared.fault.Fault.TheVariants.{TooManyRotations};
@@ -13,29 +14,31 @@ ghost use Rattle.mg_session.specs.Calls.{WritesAlone};
 ghost use Rattle.mg_session.specs.Opening.{KeptByPatterns, SetOpened};
 ghost use Rattle.mg_session.specs.WildAnswers.{StepsPattern, wild_pages};
 ghost use Rattle.mg_session.specs.Replying.{RepliesToPattern};
-ghost use Rattle.mg_session.specs.WildSearching.{HasRoom, PartsAreBy, PartsAreOf, WildAsked, WildBy, WildFits, WildMayStop, WildPrints, WildState, wild_state};
+ghost use Rattle.mg_session.specs.WildSearching.{IsNoPattern, IsReady, LoadsNone, PartsAreBy, PartsAreOf, SameWild, WildAsked, WildBy, WildFits, WildMayStop, WildPrints, WildState, wild_state};
 ghost use Rattle.mg_session.specs.WildServes.{CountedBy, TooManyBy, fault_of_rotated as fault_of_rotated_spec};
 ghost use Rattle.mg_session.specs.WildSearchLaws.{wild_later, wild_more, wild_none, wild_printed, wild_stop};
+ghost use Rattle.mg_session.specs.WildTerms.{ReadsLists};
 
 use crate::document_set::DocumentSet;
+use crate::lexicon_terms::LexiconTerms;
 use crate::lists::Lists;
-use crate::wild_answer::answer_pattern;
 use mg_defs::Settings;
 use mg_dev::{Fault, PartErr, PutErr, ShowErr, Sink, Store};
 use mg_layout::Head;
 use mg_reply::{Answerer, Pending};
-use mg_wild::{PatternErr, RotErr, Rotated, read_pattern};
+use mg_wild::{PatternErr, RotErr, TermsToLoad, read_pattern};
 use std::alloc::Global;
 use std::marker::{Model, PhantomData};
 
 /// Answers the lines of a session of patterns from the parts of a base.
 ///
-/// The terms are held, with all their rotations once patterns are many, and a bit for each document.
-/// Contracts see the base, the terms, how many documents there are and how many can be marked.
+/// The terms are held once a pattern asked for them, with all their rotations once patterns are many, and
+/// a bit for each document. Contracts see the base, the terms, how many documents there are and how many
+/// can be marked.
 #[derive(Drop)]
 pub(crate) struct WildSearcher<'a, S: Store> {
     lists: Lists<'a>,
-    terms: Rotated,
+    terms: LexiconTerms<'a>,
     marked: DocumentSet,
     store: PhantomData<S>,
 }
@@ -48,7 +51,7 @@ impl<'a, S: Store> Model for WildSearcher<'a, S> {
     ghost view = { λ s. record { base = s.lists.base.now; terms = s.terms; all = s.lists.all; room = s.marked.all } };
 }
 
-/// The fault of a lexicon whose terms are not held.
+/// The fault of a lexicon whose terms cannot be held.
 fn fault_of_rotated(error: RotErr) -> Fault
     ensures { result ≡ fault_of_rotated_spec error }
 {
@@ -91,38 +94,39 @@ fn refuse_pattern<O: Sink>(out: &mut O, why: PatternErr) -> Result<(), ShowErr>
 }
 
 impl<'a, S: Store> WildSearcher<'a, S> {
-    /// Over a base with these terms and so many documents, which are marked in this set.
+    /// Over a base with the terms of this lexicon, of which none is loaded, and so many documents, which
+    /// are marked in this set.
     pub(crate) fn new(
         alloc: Global,
         base: &'a str,
-        terms: Rotated,
+        lex: TermsToLoad<'a>,
         all: u32,
         marked: DocumentSet,
     ) -> Self
         ensures { result ≡ record {
           base = base.entry.now;
-          terms = terms;
+          terms = record { lex = lex.entry; loaded = None };
           all = all;
           room = marked.all;
         } }
     {
         WildSearcher {
             lists: Lists { alloc, base, all },
-            terms,
+            terms: LexiconTerms::new(lex),
             marked,
             store: PhantomData,
         }
     }
 
-    /// Opens the parts of a set with this head: its terms are loaded, their rotations are counted, and
-    /// room is taken for a bit for each document.
+    /// Opens the parts of a set with this head: whether it has too many rotations is known then, and room
+    /// is taken for a bit for each document. No term is loaded; up to 2^19 terms nothing is read.
     pub(crate) fn open(
         alloc: Global,
         store: &mut S,
         base: &'a str,
         head: &Head,
     ) -> Result<Self, Fault>
-        ensures fits { IfOk result HasRoom }
+        ensures ready { IfOk result (IsReady (S.files store.new)) }
         ensures opened { SetOpened (PartsAreBy (S.files store.new)) KeptByPatterns
             (CountedBy head.now (S.files store.old) base.entry.now) head.now base.entry.now
             (store_at S.files S.reads S.faults store.old)
@@ -130,20 +134,22 @@ impl<'a, S: Store> WildSearcher<'a, S> {
         ensures many { IsSome (S.files store.old) → (count : ℕ) →
             TooManyBy head.now (S.files store.old) base.entry.now count →
             RefusedFor result (TooManyRotations count) }
+        ensures unread { head.now.terms ≤ 2 ^ 19 →
+            SameReads (S.reads store.old) (S.reads store.new) }
     {
-        let terms = match Rotated::load(alloc, store, base, head) {
-            Ok(terms) => terms,
+        let lex = match TermsToLoad::of(alloc, store, base, head) {
+            Ok(lex) => lex,
             Err(refusal) => return Err(fault_of_rotated(refusal)),
         };
         let marked = match DocumentSet::new(alloc, head.documents) {
             Ok(marked) => marked,
             Err(_) => return Err(Fault::Memory),
         };
-        let searcher = WildSearcher::new(alloc, base, terms, head.documents, marked);
+        let searcher = WildSearcher::new(alloc, base, lex, head.documents, marked);
         Ok(searcher)
     }
 
-    /// Writes the reply to a pattern.
+    /// Writes the reply to a line. The terms are loaded for the first that is a pattern.
     fn answer_question<O: Sink>(
         &mut self,
         store: &mut S,
@@ -151,27 +157,23 @@ impl<'a, S: Store> WildSearcher<'a, S> {
         out: &mut O,
     ) -> Result<(), ShowErr>
         requires short { length line.now ≤ 1024 }
-        requires fits { HasRoom self.old }
-        ensures same { self.new ≡ self.old }
+        requires ready { IsReady (S.files store.old) self.old }
+        ensures ready { IsReady (S.files store.new) self.new }
+        ensures same { SameWild self.old self.new }
         ensures replied { ForEach (PartsAreOf (S.files store.old) self.old)
             (RepliesToPattern O.written out.old out.new result line.now) }
         ensures pages { ForEach (PartsAreOf (S.files store.old) self.old)
             (λ collection. PostWithin S.reads store.old store.new
             (wild_pages collection line.now)) }
-        ensures stepped { StepsPattern S.Store O.Sink store.old store.new out.old out.new result }
+        ensures stepped { StepsPattern S.Store O.Sink store.old store.new out.old out.new result
+            (ReadsLists (LoadsNone self.old (IsNoPattern line.now))) }
     {
         let pattern = match read_pattern(self.lists.alloc, line) {
             Ok(pattern) => pattern,
             Err(why) => return refuse_pattern(out, why),
         };
-        answer_pattern(
-            &self.lists,
-            store,
-            &mut self.terms,
-            &mut self.marked,
-            &pattern,
-            out,
-        )
+        self.terms
+            .answer(&self.lists, store, &mut self.marked, &pattern, out)
     }
 }
 

@@ -51,6 +51,7 @@ pub(crate) struct Seen {
     pub(crate) head: u64,
     pub(crate) models: [u64; 2],
     pub(crate) texts: [u64; 2],
+    pub(crate) lex: u64,
     pub(crate) weights: u64,
     pub(crate) run: u64,
 }
@@ -107,6 +108,7 @@ pub(crate) fn serve_three(
         head: store.reads_of(Part::Head),
         models: [store.reads_of(Part::Words), store.reads_of(Part::Nonwords)],
         texts: [store.reads_of(Part::Text), store.reads_of(Part::Places)],
+        lex: store.reads_of(Part::Lex),
         weights: store.reads_of(Part::Weights),
         run: store.reads_of(Part::Run),
     })

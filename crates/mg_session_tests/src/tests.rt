@@ -76,3 +76,24 @@ fn patterns_are_answered_from_the_lists(rt: HostRuntime) -> Result<(), Fail> {
     assert!(rt; seen.printed && seen.models[0] == 0);
     Ok(())
 }
+
+/// Sessions of patterns, what they print, and how often the lexicon is read: it has one page.
+static PATTERNS: [(&[u8], &[u8], u64); 4] = [
+    (b"", b"", 0),
+    (
+        b"cat\n \n**\n",
+        b"? bad pattern at 3\n? bad pattern at 1\n",
+        0,
+    ),
+    (b"cat\nzz*\n", b"? bad pattern at 3\n= 0\n", 1),
+    (b"zz*\nd*g\nzz*\n", b"= 0\n+ dog 2\n2\n3\n= 2\n= 0\n", 1),
+];
+
+#[test]
+fn the_terms_are_loaded_for_the_first_pattern_and_once(rt: HostRuntime) -> Result<(), Fail> {
+    for (given, wanted, pages) in &PATTERNS {
+        let seen = serve_three(rt.alloc(), Kind::Pattern, given, wanted)?;
+        assert!(rt; seen.printed && seen.lex == *pages && seen.head == 1);
+    }
+    Ok(())
+}

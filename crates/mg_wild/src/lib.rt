@@ -1,6 +1,8 @@
 //! Patterns, and the terms of a lexicon that match them.
 //!
-//! A pattern is a word with one star. A [`Rotated`] keeps every term of a lexicon in memory.
+//! A pattern is a word with one star. A [`Rotated`] keeps every term of a lexicon in memory. Whether the
+//! terms have too many rotations is known before they are loaded, by [`TermsToLoad`]; where they are few
+//! enough, nothing is read for that.
 //!
 //! What is unusual: a pattern is at first held against each term, and rotations are sorted only once the
 //! looks at terms took as long as that would. So a session of few patterns sorts nothing, one of many
@@ -25,7 +27,9 @@ mod reading;
 mod rotated;
 mod rotation;
 mod term_block;
+mod terms_to_load;
 
 pub use numbers::Numbers;
 pub use pattern::{Pattern, PatternErr, read_pattern};
-pub use rotated::{RotErr, Rotated};
+pub use rotated::Rotated;
+pub use terms_to_load::{RotErr, TermsToLoad};

@@ -4,7 +4,7 @@ use mg_dev::{FileRef, Part, PartErr, PutErr, Store};
 use mg_layout::Head;
 use mg_mem::SureStore;
 use mg_query::LINE_LIMIT;
-use mg_wild::{RotErr, Rotated, read_pattern};
+use mg_wild::{RotErr, Rotated, TermsToLoad, read_pattern};
 use std::alloc::Global;
 use std::test::Fail;
 
@@ -69,6 +69,15 @@ fn finds_all(alloc: Global, lexicon: &mut Rotated, rows: &[(&[u8], &[u32])]) -> 
     true
 }
 
+// The terms of the lexicon of a store, so many.
+fn load<S: Store>(alloc: Global, store: &mut S, terms: u32) -> Result<Rotated, RotErr> {
+    let expected = TermsToLoad::of(alloc, store, "set", &head_of(terms))?;
+    match expected.load(alloc, store) {
+        Ok(lexicon) => Ok(lexicon),
+        Err(refusal) => Err(RotErr::Part(refusal)),
+    }
+}
+
 // The same by the lexicon of a store, of so many terms, each line asked so often in turn.
 fn loads<S: Store>(
     alloc: Global,
@@ -77,7 +86,7 @@ fn loads<S: Store>(
     rows: &[(&[u8], &[u32])],
     turns: u32,
 ) -> Result<bool, RotErr> {
-    let mut lexicon = Rotated::load(alloc, store, "set", &head_of(terms))?;
+    let mut lexicon = load(alloc, store, terms)?;
     let mut found = true;
     for _ in 0..turns {
         found = finds_all(alloc, &mut lexicon, rows) && found;

@@ -4,6 +4,7 @@ use Rattle.mg_dev.specs.Streams.{AfterPut}
 use Rattle.mg_session.specs.WildSearching.{wild_state}
 use Rattle.mg_session.proofs.ReplyLaws.{line_written}
 use Rattle.mg_session.proofs.WildReplyLaws.{line_part, line_told}
+use Rattle.mg_session.proofs.WildTermsLaws.{one_line}
 use Rattle.mg_session.proofs.wild_searcher.WildSearcherAnswerer.answer_line.Goals as goal
 
 pub returns-clause-content : goal.returns-clause-content
@@ -14,7 +15,7 @@ returns-clause-content g c = λ by answers. subst (λ (r : Settings → List ℕ
 
 pub returns-clause-after : goal.returns-clause-after
 returns-clause-after g c = record {
-  step = c.answer_question.ensures.stepped.step;
+  step = one_line c.args.self.now c.answer_question.ensures.stepped.step;
   same = c.answer_question.ensures.same;
   post = λ collection over. omega (arith, c.answer_question.ensures.pages collection over);
 }
@@ -33,3 +34,6 @@ returns-clause-write g c = line_written _ _ _ _ _ c.answer_question.ensures.step
 
 pub returns-clause-printed : goal.returns-clause-printed
 returns-clause-printed g c = line_told _ (λ collection over. c.answer_question.ensures.replied collection over)
+
+pub returns-clause-fits : goal.returns-clause-fits
+returns-clause-fits g c = c.answer_question.ensures.ready

@@ -2,7 +2,7 @@ use Rattle.std.proofs.Common.{arith, ◌+◌}
 use Rattle.mg_dev.specs.Files.{bytes_at}
 use Rattle.mg_dev.specs.Names.{full_name}
 use Rattle.mg_wild.proofs.LoadLaws.{counted-bytes, few-bytes, too-many}
-use Rattle.mg_wild.proofs.rotated.most_bytes.Goals as goal
+use Rattle.mg_wild.proofs.terms_to_load.most_bytes.Goals as goal
 
 pub returns-then-count-le-FEW_TERMS-clause-answer : goal.returns-then-count-le-FEW_TERMS-clause-answer
 returns-then-count-le-FEW_TERMS-clause-answer g c = λ told. few-bytes _ c.args.count _ (omega arith)
