@@ -138,6 +138,7 @@ class Bench:
             "query opened": asked("query", "set-text"),
             "phrase opened": asked("phrase", "set-text"),
             "text wild opened": asked("wild", "set-text"),
+            "text wild one": asked("wild", "set-text", b"zzzzzz*\n"),
             "many opened": asked("query", "set-many"),
             "common": asked("query", "set-many", b".set mode count\nthe\n"),
             "common ranked": asked("query", "set-many", b".set query ranked\n.set maxdocs 10\nthe\n"),
@@ -198,9 +199,11 @@ def goals(bench, path):
         (f"a phrase whose words one to {TOGETHER} documents have, beside the opening", "1 ms", f"{rare:.2f} ms", f"`{FEW}`: {few:.2f} ms", rare <= 1),
         (f"`*` over {TERMS:,} terms, beside the opening", "20 ms", f"{star:.1f} ms", "", star <= 20),
     ]
-    for tool, name in [("query", "query opened"), ("phrase", "phrase opened"), ("wild", "text wild opened")]:
+    # What a tool loads at its first line is no part of its opening, and is shown beside it.
+    for tool, name, one in [("query", "query opened", None), ("phrase", "phrase opened", "one"), ("wild", "text wild opened", "text wild one")]:
         opened = 1000 * took(name)
-        rows.append((f"opening a set: {tool}", "3 ms", f"{opened:.1f} ms", "", opened <= 3))
+        other = f"with a line: {1000 * took(one):.1f} ms" if one else ""
+        rows.append((f"opening a set: {tool}", "3 ms", f"{opened:.1f} ms", other, opened <= 3))
     rows += [
         ("check", "1.2 builds", f"{took('check'):.2f} s", f"{ratio('check', 'build'):.2f} builds", ratio("check", "build") <= 1.2),
         (f"check of {SHORT:,} documents of twenty bytes", "1.2 builds", f"{took('short check'):.2f} s", f"{ratio('short check', 'short build'):.2f} builds", ratio("short check", "short build") <= 1.2),
